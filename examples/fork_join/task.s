@@ -3,7 +3,10 @@
 # image: root ordered
 # image: window squares 5
 # image: task fork ts 0
+    .cfi_sections .debug_frame
     .text
+    .cfi_startproc
+    .cfi_undefined ra       # nobody calls a task: a backtrace ends there
 fork:
     li   t0, 0              # the worker's number
     la   a0, work           # a child's entry
@@ -48,6 +51,7 @@ join:                       # sum = the four squares together
     sw   t1, 16(t0)
     li   a7, 0
     ecall
+    .cfi_endproc
 
     .data
 squares:

@@ -2,7 +2,10 @@
 #
 # image: root ordered
 # image: task main ts 0
+    .cfi_sections .debug_frame
     .text
+    .cfi_startproc
+    .cfi_undefined ra       # nobody calls a task: a backtrace ends there
 main:
     la   t0, message        # the next byte of the message
     li   a7, 5              # call 5 emits the low byte of a0
@@ -15,6 +18,7 @@ next:
 done:
     li   a7, 0              # call 0 ends the task
     ecall
+    .cfi_endproc
 
     .data
 message:

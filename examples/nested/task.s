@@ -6,7 +6,10 @@
 # image: window first 3
 # image: task transfer args 5
 # image: task transfer args 7
+    .cfi_sections .debug_frame
     .text
+    .cfi_startproc
+    .cfi_undefined ra       # nobody calls a task: a backtrace ends there
 transfer:
     mv   t0, a0             # the amount
     li   a0, 1              # an ordered subdomain
@@ -52,6 +55,7 @@ note:                       # counts the transfers that were logged
     sw   t1, 0(t0)
     li   a7, 0
     ecall
+    .cfi_endproc
 
     .data
 first:

@@ -5,7 +5,10 @@
 # image: task double ts 0 args 10
 # image: task double ts 3 args 20
 # image: task double ts 6 args 30
+    .cfi_sections .debug_frame
     .text
+    .cfi_startproc
+    .cfi_undefined ra       # nobody calls a task: a backtrace ends there
 double:                     # first stage: twice the item
     add  a2, a0, a0
     la   a0, bump
@@ -29,3 +32,4 @@ show:                       # third stage: emit it
     ecall
     li   a7, 0
     ecall
+    .cfi_endproc

@@ -5,7 +5,10 @@
 # image: root ordered
 # image: task towers ts 0 args 3
 # image: task towers ts 1 args 4
+    .cfi_sections .debug_frame
     .text
+    .cfi_startproc
+    .cfi_undefined ra       # nobody calls a task: a backtrace ends there
 towers:                     # a0: how many disks
     li   a1, 'A'
     li   a2, 'B'
@@ -16,11 +19,15 @@ towers:                     # a0: how many disks
     ecall
     li   a7, 0              # call 0 ends the task
     ecall
+    .cfi_endproc
 
 move:                       # moves a0 disks from the peg a1 to the peg a2 by the peg a3
+    .cfi_startproc
     beqz a0, moved
     addi sp, sp, -20        # x2 is the stack's end at the start
+    .cfi_def_cfa_offset 20
     sw   ra, 0(sp)
+    .cfi_offset ra, -20
     sw   a0, 4(sp)
     sw   a1, 8(sp)
     sw   a2, 12(sp)
@@ -44,5 +51,8 @@ move:                       # moves a0 disks from the peg a1 to the peg a2 by th
     jal  ra, move
     lw   ra, 0(sp)
     addi sp, sp, 20
+    .cfi_restore ra
+    .cfi_def_cfa_offset 0
 moved:
     ret
+    .cfi_endproc

@@ -11,7 +11,10 @@
 # image: task add args 6
 # image: task add args 7
 # image: task add args 8
+    .cfi_sections .debug_frame
     .text
+    .cfi_startproc
+    .cfi_undefined ra       # nobody calls a task: a backtrace ends there
 add:
     la   t0, sum
     lw   t1, 0(t0)
@@ -19,6 +22,7 @@ add:
     sw   t1, 0(t0)
     li   a7, 0
     ecall
+    .cfi_endproc
 
     .data
 sum:

@@ -4,7 +4,10 @@
 # image: root ordered
 # image: task visit ts 0 args 0
 # image: window distance 8
+    .cfi_sections .debug_frame
     .text
+    .cfi_startproc
+    .cfi_undefined ra       # nobody calls a task: a backtrace ends there
 visit:                      # a0: the node, a3: the timestamp
     slli t0, a0, 2
     la   t1, distance
@@ -39,6 +42,7 @@ next:
 done:
     li   a7, 0              # call 0 ends the task
     ecall
+    .cfi_endproc
 
     .section .rodata
 first:

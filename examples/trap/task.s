@@ -3,7 +3,10 @@
 # image: root ordered
 # image: task good ts 4
 # image: task bad ts 7
+    .cfi_sections .debug_frame
     .text
+    .cfi_startproc
+    .cfi_undefined ra       # nobody calls a task: a backtrace ends there
 good:
     li   a0, 'g'
     li   a7, 5
@@ -18,3 +21,4 @@ bad:
     ecall                   # trap 10 stands here
     li   a7, 0
     ecall
+    .cfi_endproc

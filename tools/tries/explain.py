@@ -29,7 +29,7 @@ def traps_are_explained(place: Place) -> None:
     folder = place.clone / "examples" / "trap"
     for source in ((), (folder,), (folder / "task.s",), (folder / "listing",)):
         answer = place.call("fractal explain", image, report, *source)
-        for part in ("cause 10: a timestamp in the past", "0.1 (bad; timestamp 7", "task.s:18: ecall", "bad+16"):
+        for part in ("cause 10: a timestamp in the past", "0.1 (bad; timestamp 7", "task.s:21: ecall", "bad+16"):
             expect(part in answer.output.decode(), f"`{part}`", answer)
 
 

@@ -57,7 +57,8 @@ undo 100
 quit now
 """
 SAID = ("1: dispatch 0\nTile 0 dispatches task 0.0 to its core 0", "4: dispatch 1", "5: step 1 0",
-        "1 task is taken back, since the filter of a later task says that it touched this line: 0.0 after 5 instr",
+        "1 task is taken back. 0.0 after 5 instructions: it loaded 0 from first at task.s:",
+        "and 0.1 stores there at task.s:",
         "0.0  reader  timestamp 2  idle, taken back", "6: advance", "mine has 6 acts",
         "  5  advance         ok, 1 task taken back", ">  10000000           7  00000007  line 0  first", "undo [N]")
 REFUSED_LINES = ("`halt` is no act", "there is no tile 9", "mine: this is there already", "from 1 to 6", "`quit`")
@@ -65,15 +66,17 @@ REFUSED_LINES = ("`halt` is no act", "there is no tile 9", "mine: this is there 
 # What stands in a sentence when the script of a schedule is typed.
 SENTENCES = {
     "conflict": ("enqueues child 0 to its own domain: 0.0+0, `child 0 2` with the timestamp 2 and the hint 0, which",
-                 "0.0 after 10 instructions, 0.0+0 with nothing done (discarded).", "its child is 2.0 from now on."),
+                 "2 tasks are taken back. 0.0 after 10 instructions: it loaded 0 from first at task.s:",
+                 " 0.0+0 with nothing done (discarded): 0.0, which made it, was taken back.",
+                 "its child is 2.0 from now on."),
     "stale_leg": ("is run and held, and nothing changes.", "stale: the task doesn't run from where that leg begins."),
     "kept_trap": ("cause 5: a load from outside text and data; it keeps its core.", "stale: 0.0 is trapped there.",
                   "empty: the least task isn't finished."),
-    "commit_queue": ("1 task is taken back, since the commit queue is full and holds a later task: 0.1 after",),
+    "commit_queue": ("1 task is taken back. 0.1 after", ": 0.0 ends, and the commit queue is full."),
     "commit_wait": ("asks to end, and the reply is stall: the commit queue is full, and holds no later task.",),
     "stall": ("stall: the task queue for it is full", "firm: that one is the least task, which is never taken back.",
               "busy: each of its cores holds a task", "3 tasks are spilled to the block of tile 0: 2.0, 2.1, 2.2."),
-    "four_cores": ("since the least task needs room in a full task queue: 0.3 with nothing done.",
+    "four_cores": ("0.3 with nothing done: 0.0 needs room in a full task queue.",
                    "stall: its task queue is full, and the first task of its block isn't the least task."),
 }
 

@@ -19,8 +19,10 @@ typedef const struct task_code task_entry[3];
     TASK_ASSERT(TASK_ARE_WORDS(__VA_ARGS__),                                                                          \
                 "a parameter of a task has 32 bits: it is a number or a pointer to data");                            \
     extern task_entry name;                                                                                           \
-    __asm__(".pushsection .text.task." #name ",\"ax\",@progbits\n.balign 4\n.globl " #name "\n.type " #name           \
-            ",@function\n" #name ":\n jal ra, " #name "_body\n li a7, 0\n ecall\n.size " #name ", . - " #name         \
+    /* No byte comes of the lines that begin with .cfi: they say that nobody calls a task. */                         \
+    __asm__(".cfi_sections .debug_frame\n.pushsection .text.task." #name ",\"ax\",@progbits\n.balign 4\n"             \
+            ".globl " #name "\n.type " #name ",@function\n" #name ":\n.cfi_startproc\n.cfi_undefined ra\n"            \
+            " jal ra, " #name "_body\n li a7, 0\n ecall\n.cfi_endproc\n.size " #name ", . - " #name                   \
             "\n.popsection");                                                                                         \
     __attribute__((used)) static void name##_body(__VA_ARGS__) __asm__(#name "_body");                                \
     static void name##_body(__VA_ARGS__)

@@ -5,7 +5,10 @@
 # image: window first 2
 # image: task reader ts 2
 # image: task writer ts 1
+    .cfi_sections .debug_frame
     .text
+    .cfi_startproc
+    .cfi_undefined ra       # nobody calls a task: a backtrace ends there
 reader:
     la   t0, first
     lw   t1, 0(t0)
@@ -25,6 +28,7 @@ writer:
     sw   t1, 0(t0)
     li   a7, 0
     ecall
+    .cfi_endproc
 
     .bss
     .balign 4

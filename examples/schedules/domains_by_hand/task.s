@@ -4,7 +4,10 @@
 # image: root ordered
 # image: window cell 1
 # image: task main ts 1
+    .cfi_sections .debug_frame
     .text
+    .cfi_startproc
+    .cfi_undefined ra       # nobody calls a task: a backtrace ends there
 main:
     li   a0, 0              # an unordered subdomain
     li   a7, 4
@@ -45,6 +48,7 @@ later:
 
 after:
     lbu  t1, 0(zero)        # neither text nor data
+    .cfi_endproc
 
     .data
     .balign 4

@@ -4,7 +4,10 @@
 # image: root ordered
 # image: task follower ts 2
 # image: task setter ts 1
+    .cfi_sections .debug_frame
     .text
+    .cfi_startproc
+    .cfi_undefined ra       # nobody calls a task: a backtrace ends there
 follower:
     la   t0, pointer
     lw   t1, 0(t0)
@@ -20,6 +23,7 @@ setter:
     sw   t1, 0(t0)
     li   a7, 0
     ecall
+    .cfi_endproc
 
     .data
 pointer:

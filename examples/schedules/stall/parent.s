@@ -1,6 +1,9 @@
 # A task that makes 64 children, at the timestamps 64 down to 1, each of which ends at once.
     .globl parent, child
+    .cfi_sections .debug_frame
     .text
+    .cfi_startproc
+    .cfi_undefined ra       # nobody calls a task: a backtrace ends there
 parent:
     li   s1, 64
     la   a0, child
@@ -13,3 +16,4 @@ each:
 child:                      # the parent ends here too
     li   a7, 0
     ecall
+    .cfi_endproc

@@ -3,7 +3,10 @@
 # image: root ordered
 # image: task reader ts 2
 # image: task writer ts 1
+    .cfi_sections .debug_frame
     .text
+    .cfi_startproc
+    .cfi_undefined ra       # nobody calls a task: a backtrace ends there
 reader:
     la   t0, far
     lw   t1, 0(t0)
@@ -15,6 +18,7 @@ writer:
     sw   t1, 0(t0)
     li   a7, 0
     ecall
+    .cfi_endproc
 
     .bss
     .balign 4

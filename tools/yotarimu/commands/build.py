@@ -1,12 +1,13 @@
 """Assembles and compiles the sources of a folder, and writes its image and a listing with addresses beside it.
 
-usage: ./fractal build [--clang] FOLDER...
-       ./fractal build [--clang] --all     all of the project's examples and schedules
+usage: ./fractal build [--clang | --debug] FOLDER...
+       ./fractal build [--clang | --debug] --all     all of the project's examples and schedules
 
 A FOLDER is a path, or the name of one of the project's examples or schedules. Its sources are linked in the order of
 their names: *.s, RV32I in the syntax of GNU as; *.c and *.cpp, tasks that include task.h (docs/guest/C.md), compiled by
-gcc, or by clang after --clang; *.ll, by clang; and *.o. The folder gets image.bin and listing. Comments of the sources
-describe the image; in C they begin with //:
+gcc, or by clang after --clang; *.ll, by clang; and *.o. The folder gets image.bin and listing. After --debug its folder
+`debug` does, and gcc compiles so that `./fractal debug` finds each variable: that image runs longer, and its variables
+may stand elsewhere. Comments of the sources describe the image; in C they begin with //:
 
     # image: root ordered           or unordered; ordered unless told
     # image: data BYTES             the data size; else that of the sections of data
@@ -27,8 +28,8 @@ import pathlib
 from yotarimu.common.outcome import Refused
 from yotarimu.common.places import EXAMPLES_FOLDER
 from yotarimu.common.words import Words
-from yotarimu.images.compiler import CLANG, GCC
-from yotarimu.images.folder import build
+from yotarimu.images.compiler import CLANG, FAST, FOR_DEBUGGING, GCC
+from yotarimu.images.folder import build, image_folder
 from yotarimu.programs.examples import EXAMPLES, SCHEDULES, with_sources
 
 
@@ -43,7 +44,7 @@ def folder_at(word: str) -> pathlib.Path:
 
 
 def main(words: list[str]) -> None:
-    given = Words("build", flags=["clang", "all"]).read(words)
+    given = Words("build", flags=["clang", "debug", "all"]).read(words)
     names = given.others
     for word in names:
         if word.startswith("-"):
@@ -52,6 +53,9 @@ def main(words: list[str]) -> None:
         raise Refused("it wants a FOLDER of sources, or --all; the programs are proved and built by ./fractal prove.")
     if names and "all" in given.flags:
         raise Refused("--all stands for all of the project's examples and schedules, so no FOLDER stands beside it.")
+    level = FOR_DEBUGGING if "debug" in given.flags else FAST
+    if level == FOR_DEBUGGING and "clang" in given.flags:
+        raise Refused("--debug compiles by gcc: what clang makes for debugging tells wrong arguments.")
     for folder in [folder_at(word) for word in names or with_sources(EXAMPLES + SCHEDULES)]:
-        build(folder, CLANG if "clang" in given.flags else GCC)
-        print(folder / "image.bin")
+        build(folder, CLANG if "clang" in given.flags else GCC, level)
+        print(image_folder(folder, level) / "image.bin")

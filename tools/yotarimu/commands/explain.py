@@ -1,12 +1,16 @@
 """Turns a report into text for people: tasks with labels, the output as text, the window in decimal, the end in words.
 
 usage: ./fractal explain IMAGE REPORT [SOURCE] [--picture | --json | --csv]
+       ./fractal explain IMAGE LINES [SOURCE] [--json | --csv]
 
 REPORT may be - for standard input; it may be what `steps` wrote, replies and all. SOURCE is a listing of
 ./fractal build, a source, or the folder of the sources; where none is named the listing beside the image serves, if
 there is one. With --picture the tree of tasks is written as SVG. --json writes what it tells for other programs, and
 --csv the tasks alone. What the report doesn't tell is found by running its tasks again, with the registers of one that
 traps. A report of another image is refused; ./fractal check judges whether one is a run's.
+
+LINES is what `./fractal watch` told; of these it tells each task that was taken back, and why: the access or the need
+of room behind it, and what both share.
 """
 from __future__ import annotations
 
@@ -18,9 +22,10 @@ from yotarimu.common.files import read_bytes
 from yotarimu.common.outcome import Refused
 from yotarimu.common.words import Words
 from yotarimu.courses.schedules import read_replies
-from yotarimu.images.image import read_image
+from yotarimu.images.image import Image, read_image
 from yotarimu.images.labels import listing_for
 from yotarimu.images.serial_machine import Machine
+from yotarimu.lines import taken_back
 from yotarimu.pictures import tree
 from yotarimu.pictures.tree import nodes_of
 from yotarimu.reports import plain_data
@@ -30,6 +35,8 @@ from yotarimu.reports.plain_data import other_run
 from yotarimu.reports.report import read_report
 
 FORMS = ("picture", "json", "csv")
+# So lines of the second program begin.
+LINES = b"{"
 
 
 class Request(NamedTuple):
@@ -57,9 +64,34 @@ def explain_no_report(text: str, sentence: str, form: Optional[str]) -> None:
     print(json.dumps({"said": text.strip(), "meaning": sentence}, indent=2) if form else sentence)
 
 
+def explain_lines(image_path: str, image: Image, lines_path: str, source: Optional[str], form: Optional[str]) -> None:
+    """Why tasks were taken back."""
+    if form == "picture":
+        raise Refused("lines have no tree of tasks; the report of the run has.")
+    listing, remark = listing_for(image_path, image, source)
+    run = taken_back.Run(lines_path, image, listing)
+    if form == "json":
+        print(json.dumps(taken_back.plain_rows(run), indent=2))
+    elif form == "csv":
+        taken_back.write_rows(run, sys.stdout)
+    else:
+        print(*taken_back.text_of(run), *([f"\n{remark}"] if remark else []), sep="\n")
+
+
+def begins_as_lines(path: str) -> bool:
+    """Whether a file is what the second program told; standard input is a report."""
+    if path == "-":
+        return False
+    with open(path, "rb") as file:
+        return file.read(1) == LINES
+
+
 def main(words: list[str]) -> None:
     image_path, report_path, source, form = read_words(words)
     image = read_image(read_bytes(image_path), image_path)
+    if begins_as_lines(report_path):
+        explain_lines(image_path, image, report_path, source, form)
+        return
     text = read_bytes(report_path).decode("ascii", "replace")
     if sentence := told_without_report(text):
         explain_no_report(text, sentence, form)

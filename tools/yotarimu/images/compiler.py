@@ -19,8 +19,10 @@ GCC, CLANG = PACKAGES
 MACHINE = ("-march=rv32i", "-mabi=ilp32")
 # Nothing is started before a task, and no register points to small data, as each task would have to set it. What is
 # surely a mistake is refused: it would be a mere warning else.
-OPTIONS = ("-O2", "-gdwarf-4", "-ffreestanding", "-fno-pic", "-fno-common", "-msmall-data-limit=0",
+OPTIONS = ("-gdwarf-4", "-ffreestanding", "-fno-pic", "-fno-common", "-msmall-data-limit=0",
            "-fno-asynchronous-unwind-tables", "-Wall")
+# How code is made: fast, or so that a debugger finds each variable and each line.
+FAST, FOR_DEBUGGING = "-O2", "-Og"
 # By the end of a source's name. C++ has nothing here that would want a library.
 OF_LANGUAGE = {
     ".c": ("-std=gnu17", "-Werror=implicit-function-declaration", "-Werror=implicit-int", "-Werror=int-conversion",
@@ -29,7 +31,7 @@ OF_LANGUAGE = {
 }
 # What LLVM has made of a source before is compiled by clang alone.
 LLVM = ".ll"
-OF_LLVM = ("--target=riscv32", "-O2", "-fno-pic", "-Wno-override-module")
+OF_LLVM = ("--target=riscv32", "-fno-pic", "-Wno-override-module")
 # A macro's fault is told where it is used. A task's parameter may have no name.
 OWN_OPTIONS = {GCC: ("-mstrict-align", "-ftrack-macro-expansion=0"),
                CLANG: ("--target=riscv32", "-Wno-unknown-warning-option", "-Wno-c2x-extensions")}
@@ -57,14 +59,15 @@ def compiler_of(compiler: str, path: pathlib.Path) -> str:
     return CLANG if path.suffix == LLVM else compiler
 
 
-def compiler_words(compiler: str, path: pathlib.Path, target: str, is_library: bool = False) -> list[str]:
+def compiler_words(compiler: str, path: pathlib.Path, target: str, is_library: bool = False,
+                   level: str = FAST) -> list[str]:
     """The words that compile a file."""
     compiler = compiler_of(compiler, path)
     need_compiler(compiler)
     if path.suffix == LLVM:
-        return [compiler, *MACHINE, *OF_LLVM, "-c", "-o", target, str(path)]
+        return [compiler, *MACHINE, level, *OF_LLVM, "-c", "-o", target, str(path)]
     own = OF_LANGUAGE[path.suffix] + OWN_OPTIONS[compiler] + (AS_WRITTEN[compiler] if is_library else ())
-    return [compiler, *MACHINE, *OPTIONS, *own, "-I", str(LIBRARY), "-I", str(path.parent), "-c", "-o", target,
+    return [compiler, *MACHINE, level, *OPTIONS, *own, "-I", str(LIBRARY), "-I", str(path.parent), "-c", "-o", target,
             str(path)]
 
 

@@ -4,6 +4,7 @@ from __future__ import annotations
 import pathlib
 
 from yotarimu.common.files import write_whole
+from yotarimu.images.compiler import FAST, FOR_DEBUGGING
 from yotarimu.images.description import described
 from yotarimu.images.image import Image, image_bytes
 from yotarimu.images.listing import listing_text
@@ -11,12 +12,23 @@ from yotarimu.images.source import Assembled, assemble, sources_in
 from yotarimu.images.stack import check_stack
 
 
-def build(folder: pathlib.Path, compiler: str) -> tuple[Image, Assembled]:
+# Below the folder of the sources stands what is made for debugging.
+DEBUG_FOLDER = "debug"
+
+
+def build(folder: pathlib.Path, compiler: str, level: str = FAST) -> tuple[Image, Assembled]:
     """Writes the image and the listing of a folder's sources, and hands out the image with what it was made of."""
     sources = sources_in(folder)
-    assembled = assemble(sources, compiler)
+    assembled = assemble(sources, compiler, level)
     image = described(sources, assembled)
     check_stack(assembled, image)
     listing = listing_text(sources, assembled, image).encode("utf-8", "surrogateescape")
-    write_whole({folder / "listing": listing, folder / "image.bin": image_bytes(image)})
+    target = image_folder(folder, level)
+    target.mkdir(exist_ok=True)
+    write_whole({target / "listing": listing, target / "image.bin": image_bytes(image)})
     return image, assembled
+
+
+def image_folder(folder: pathlib.Path, level: str) -> pathlib.Path:
+    """Where the image of a folder's sources is written."""
+    return folder / DEBUG_FOLDER if level == FOR_DEBUGGING else folder

@@ -2,6 +2,7 @@
 from __future__ import annotations
 
 import dataclasses
+import functools
 import struct
 from typing import Optional
 
@@ -49,10 +50,15 @@ class Image:
     def limits(self) -> Limits:
         return VERSIONS[self.version]
 
+    @functools.cached_property
+    def words(self) -> tuple[int, ...]:
+        """The words of the text."""
+        return struct.unpack(f"<{len(self.text) // 4}I", self.text)
+
     def word(self, address: int) -> Optional[int]:
-        """The word of the text at an address, or None outside the text."""
+        """The word of the text that holds an address, or None outside the text."""
         place = address - TEXT
-        return int.from_bytes(self.text[place:place + 4], "little") if 0 <= place < len(self.text) else None
+        return self.words[place >> 2] if 0 <= place < len(self.text) else None
 
 
 def image_bytes(image: Image) -> bytes:

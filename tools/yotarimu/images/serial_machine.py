@@ -6,6 +6,7 @@ This is no second judge: `./fractal check` says whether a report is that of a ru
 from __future__ import annotations
 
 import dataclasses
+import functools
 import heapq
 from collections.abc import Iterable, Sequence
 from typing import Optional, Union
@@ -66,6 +67,9 @@ class Task:
 class Machine:
     """The data memory, and all tasks that the image and the turns so far have made."""
 
+    # How many turns were taken.
+    turns = 0
+
     def __init__(self, image: Image) -> None:
         self.image = image
         self.memory = bytearray(image.initial) + bytes(image.size - len(image.initial))
@@ -84,6 +88,10 @@ class Machine:
         self.tasks[name] = Task(name, entry, timestamp, tuple(arguments), domain)
         heapq.heappush(domain.pending, timestamp)
 
+    def run_of(self, task: Task) -> Run:
+        """A run of a task, from its start."""
+        return Run(self, task)
+
     def is_next(self, task: Task) -> bool:
         """Whether a task is of the innermost domain that has one pending, and has the least timestamp there."""
         while len(self.domains) > 1 and not self.domains[-1].pending:
@@ -99,8 +107,9 @@ class Machine:
                 self.is_other = True
                 return f"turn {entry.turn} isn't one that the image allows; ./fractal check says more"
             task.turn = entry.turn
+            self.turns += 1
             heapq.heappop(task.domain.pending)
-            run = Run(self, task)
+            run = self.run_of(task)
             try:
                 run.go()
             except Lost as lost:
@@ -117,7 +126,7 @@ class Machine:
         task = self.tasks.get(trap.name)
         if not task or task.turn:
             return None
-        run = Run(self, task)
+        run = self.run_of(task)
         try:
             run.go()
         except Trapped as found:
@@ -138,6 +147,8 @@ class Run:
         self.registers[10:13] = task.arguments
         self.registers[13] = task.timestamp
         self.pc, self.children, self.emitted, self.is_over = task.entry, 0, 0, False
+        # A task that traps gets no turn; its children have names as if it did, so that they take no other task's.
+        self.turn = task.turn or machine.turns + 1
         # The subdomain that the task made.
         self.inner: Optional[Domain] = None
 
@@ -155,36 +166,35 @@ class Run:
             machine.steps += 1
 
     def step(self, word: int) -> None:
-        opcode, registers = word & 0x7F, self.registers
-        one, two = registers[word >> 15 & 31], registers[word >> 20 & 31]
-        immediate, result, following = signed(word >> 20, 12), None, self.pc + 4
+        opcode, target, first, second, kind, immediate, is_other = decoded(word)
+        registers, result, following = self.registers, None, self.pc + 4
+        one = registers[first]
         if opcode == 0x13:
-            result = computed(word, one, immediate & MASK, word >> 30 & 1 if word >> 12 & 7 == 5 else 0)
+            result = computed(kind, one, immediate & MASK, is_other and kind == 5)
         elif opcode == 0x33:
-            result = computed(word, one, two, word >> 30 & 1)
+            result = computed(kind, one, registers[second], is_other)
+        elif opcode == 0x63:
+            following = self.pc + immediate if is_met(kind, one, registers[second]) else following
+        elif opcode == 0x03:
+            result = self.load(kind, one + immediate & MASK)
+        elif opcode == 0x23:
+            self.store(1 << (kind & 3), one + immediate & MASK, registers[second])
         elif opcode == 0x37:
-            result = word & 0xFFFFF000
+            result = immediate
         elif opcode == 0x17:
-            result = self.pc + (word & 0xFFFFF000)
+            result = self.pc + immediate
         elif opcode == 0x6F:
-            result, following = following, self.pc + jump_offset(word)
+            result, following = following, self.pc + immediate
         elif opcode == 0x67:
             result, following = following, one + immediate & ~1
-        elif opcode == 0x63:
-            following = self.pc + branch_offset(word) if is_met(word >> 12 & 7, one, two) else following
-        elif opcode == 0x03:
-            result = self.load(word >> 12 & 7, one + immediate & MASK)
-        elif opcode == 0x23:
-            offset = signed(word >> 25 << 5 | word >> 7 & 31, 12)
-            self.store(1 << (word >> 12 & 3), one + offset & MASK, two)
         elif word == 0x73:
             self.call()
         elif opcode != 0x0F:
             raise Trapped(BREAK if word == 0x100073 else ILLEGAL)
         if following % 4:
             raise Trapped(TARGET)
-        if result is not None and word >> 7 & 31:
-            registers[word >> 7 & 31] = result & MASK
+        if result is not None and target:
+            registers[target] = result & MASK
         self.pc = following & MASK
 
     def load(self, kind: int, address: int) -> int:
@@ -250,7 +260,7 @@ class Run:
             raise Trapped(EARLY)
         if self.children == self.limits.children:
             raise Trapped(CHILD)
-        self.machine.add(Name(self.task.turn, self.children), entry, timestamp, arguments, domain)
+        self.machine.add(Name(self.turn, self.children), entry, timestamp, arguments, domain)
         self.children += 1
 
 
@@ -260,9 +270,28 @@ def signed(value: int, bits: int) -> int:
     return value - (1 << bits) if value >> bits - 1 else value
 
 
-def computed(word: int, one: int, two: int, is_other: int) -> int:
+# An image has no more words.
+@functools.lru_cache(maxsize=65_536)
+def decoded(word: int) -> tuple[int, int, int, int, int, int, bool]:
+    """The fields of an instruction: opcode, rd, rs1, rs2, funct3, the immediate of its format, and bit 30."""
+    opcode = word & 0x7F
+    return (opcode, word >> 7 & 31, word >> 15 & 31, word >> 20 & 31, word >> 12 & 7, immediate_of(opcode, word),
+            bool(word >> 30 & 1))
+
+
+def immediate_of(opcode: int, word: int) -> int:
+    """The immediate of an instruction, by the format that its opcode has."""
+    if opcode == 0x63:
+        return branch_offset(word)
+    if opcode == 0x6F:
+        return jump_offset(word)
+    if opcode == 0x23:
+        return signed(word >> 25 << 5 | word >> 7 & 31, 12)
+    return word & 0xFFFFF000 if opcode in (0x37, 0x17) else signed(word >> 20, 12)
+
+
+def computed(kind: int, one: int, two: int, is_other: bool) -> int:
     """The result of a register instruction, or of one with an immediate; `is_other` tells SUB and SRA."""
-    kind = word >> 12 & 7
     if kind == 0:
         return one - two if is_other else one + two
     if kind == 1:

@@ -126,6 +126,8 @@ class Assembled:
     instructions: dict[int, Instruction]
     code_size: int
     compiler: Optional[str] = None
+    # The linked file, with what debuggers want.
+    linked: bytes = b""
     paths: dict[str, pathlib.Path] = dataclasses.field(default_factory=dict)
 
     def named(self, name: str) -> list[Label]:
@@ -221,13 +223,13 @@ def asked_for(text: str) -> int:
     return max((*products, *(int(word, 0) for word in re.findall(number, text))), default=0)
 
 
-def assemble(sources: Sequence[Source], by: str = compiler.GCC) -> Assembled:
+def assemble(sources: Sequence[Source], by: str = compiler.GCC, level: str = compiler.FAST) -> Assembled:
     """Assembles or compiles the sources, C by the compiler that is named, and links them at the image's addresses."""
     prefix, is_compiled = tool_prefix(), any(source.is_compiled for source in sources)
     with tempfile.TemporaryDirectory() as folder:
         contents = []
         for place, source in enumerate(sources):
-            made = object_of(source, pathlib.Path(folder, f"{place}.o"), prefix, by, sources)
+            made = object_of(source, pathlib.Path(folder, f"{place}.o"), prefix, (by, level), sources)
             refuse_other_machine(source, made)
             contents.append(section_names(source, made))
         libraries = [*memory_library(folder, prefix, by, sources), *compiler.arithmetic()] if is_compiled else []
@@ -236,7 +238,8 @@ def assemble(sources: Sequence[Source], by: str = compiler.GCC) -> Assembled:
         relaxing = [] if is_compiled else ["--no-relax"]
         run_tool([prefix + "ld", "-m", "elf32lriscv", *relaxing, "-e", "0", "-T", "places", "-o", "task.elf",
                   *(f"{place}.o" for place in range(len(sources))), *libraries], folder, sources)
-        sections, labels = elf.read_elf(pathlib.Path(folder, "task.elf").read_bytes())
+        linked = pathlib.Path(folder, "task.elf").read_bytes()
+        sections, labels = elf.read_elf(linked)
         # Sources may have data alone.
         if any(section.name == ".text" for section in sections):
             listed = run_tool([prefix + "objdump", "-d", "-l", *(["--inlines"] if is_compiled else []), "-z", "-M",
@@ -244,7 +247,7 @@ def assemble(sources: Sequence[Source], by: str = compiler.GCC) -> Assembled:
         else:
             listed = ""
     assembled = joined({section.name: section for section in sections}, labels, instructions_in(listed))
-    assembled.compiler = compilers_told(sources, by)
+    assembled.compiler, assembled.linked = compilers_told(sources, by, level), linked
     assembled.paths = {source.name: source.path for source in sources}
     refuse_other_instructions(assembled)
     tell_entries(assembled, sources)
@@ -263,23 +266,24 @@ def tell_entries(assembled: Assembled, sources: Sequence[Source]) -> None:
                 assembled.instructions[address] = dataclasses.replace(found, source=name, line=number)
 
 
-def object_of(source: Source, target: pathlib.Path, prefix: str, by: str, sources: Sequence[Source]) -> bytes:
-    """The bytes of a source's object, which is made as the file `target`."""
+def object_of(source: Source, target: pathlib.Path, prefix: str, how: tuple[str, str],
+              sources: Sequence[Source]) -> bytes:
+    """The bytes of a source's object, which is made as the file `target`, by a compiler at a level."""
     if source.path.suffix == OBJECT:
         made = read_bytes(source.path)
         if not elf.is_object(made):
             raise Refused(f"{source.path}: this is no object file of a RISC-V machine of 32 bits.")
         target.write_bytes(made)
         return made
-    run_tool(source_words(source, target, prefix, by), str(target.parent), sources)
+    run_tool(source_words(source, target, prefix, *how), str(target.parent), sources)
     return target.read_bytes()
 
 
-def source_words(source: Source, target: pathlib.Path, prefix: str, by: str) -> list[str]:
+def source_words(source: Source, target: pathlib.Path, prefix: str, by: str, level: str) -> list[str]:
     """The words that make an object of a source."""
     path = source.path.absolute()
     if path.suffix != ASSEMBLY:
-        return compiler.compiler_words(by, path, target.name)
+        return compiler.compiler_words(by, path, target.name, level=level)
     paths = [str(path)]
     if any(re.match(r"\s*\.addrsig", text) for text in source.lines):
         # What clang's assembler is told of addresses, and GNU's doesn't know.
@@ -290,11 +294,13 @@ def source_words(source: Source, target: pathlib.Path, prefix: str, by: str) -> 
             *paths]
 
 
-def compilers_told(sources: Sequence[Source], by: str) -> Optional[str]:
-    """The compilers of the sources, with their versions; None where none compiles."""
+def compilers_told(sources: Sequence[Source], by: str, level: str) -> Optional[str]:
+    """The compilers of the sources, with their versions, and how else than usual they made code; None where none
+    compiles."""
     used = {compiler.compiler_of(by, source.path): None for source in sources
             if source.path.suffix not in (ASSEMBLY, OBJECT)}
-    return " and ".join(map(compiler.compiler_told, used)) or None
+    told = " and ".join(map(compiler.compiler_told, used)) or None
+    return f"{told} {level}" if told and level != compiler.FAST else told
 
 
 def memory_library(folder: str, prefix: str, by: str, sources: Sequence[Source]) -> list[str]:

@@ -62,27 +62,29 @@ class Core(Run):
         start = serial_machine.Task(Name(0, 0), task.entry, task.timestamp, tuple(task.arguments), around(task.domain))
         super().__init__(scratch, start)
         self.used, self.is_granted, self.found = 0, False, 0
+        # Where the last leg came by.
+        self.passed: set[int] = set()
 
     def leg(self, quantum: int, budget: int) -> dict[str, Any]:
         """Runs a leg, and gives the fields of the line that tell it."""
-        count = 0
+        count, passed = 0, {self.pc}
         asked: dict[str, Any] = {"asks": "go"}
-        while count < quantum:
-            try:
-                if self.used + count == budget:
+        word_at, step, left = self.machine.image.word, self.step, budget - self.used
+        try:
+            while count < quantum:
+                if count == left:
                     raise Trapped(BUDGET)
-                word = self.machine.image.word(self.pc)
-                if word is None or self.pc % 4:
+                word = word_at(self.pc)
+                if word is None or self.pc & 3:
                     raise Trapped(FETCH)
-                self.step(word)
-            except Stops as stops:
-                asked = stops.fields
-                break
-            except Trapped as trapped:
-                asked = {"asks": "trap", "cause": trapped.cause}
-                break
-            count += 1
-        self.used += count
+                step(word)
+                passed.add(self.pc)
+                count += 1
+        except Stops as stops:
+            asked = stops.fields
+        except Trapped as trapped:
+            asked = {"asks": "trap", "cause": trapped.cause}
+        self.used, self.passed = self.used + count, passed
         return {"leg": count, "pc": self.pc, **asked}
 
     def grant(self, found: int) -> None:
@@ -167,15 +169,15 @@ class Legs:
         core = self.cores.get(task)
         if core is None:
             core = self.cores[task] = Core(self.scratch, task)
-        before = core.pc, list(core.registers), bytes(core.stack), core.used
+        is_taken = line["reply"] == "ok"
+        before = None if is_taken else (core.pc, list(core.registers), bytes(core.stack), core.used)
         wanted = core.leg(self.head["quantum"], self.head["budget"])
         told = {name: line[name] for name in FIELDS if name in line}
         if told != wanted:
             name = next(it for it in FIELDS if told.get(it) != wanted.get(it))
             raise Wrong(f"`{name}` is {told.get(name, 'missing')}, and by the image's text it is "
                         f"{wanted.get(name, 'missing')}")
-        if line["reply"] != "ok":
-            core.pc, core.registers, core.used = before[0], before[1], before[3]
-            core.stack[:] = before[2]
+        if before is not None:
+            core.pc, core.registers, core.stack[:], core.used = before
         elif line["asks"] not in ("go", "trap"):
             core.grant(line.get("old", 0))

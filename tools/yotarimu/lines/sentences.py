@@ -9,6 +9,7 @@ from __future__ import annotations
 from yotarimu.common.text import counted, printable
 from yotarimu.images.image import DATA
 from yotarimu.images.listing import NO_LISTING
+from yotarimu.lines.causes import Telling, causes_of
 from yotarimu.reports.meanings import ENDS, cause_told
 
 # So many tasks are named in one sentence; of more than that it says how many more they are.
@@ -16,15 +17,6 @@ MOST_NAMED = 12
 # So many places among children stand in one label; of more the first and the last do.
 MOST_PLACES = 6
 DOMAINS = {"same": "its own domain", "sub": "its subdomain", "super": "its superdomain"}
-# Why an event that was made took tasks back, by what the task asked for or by the event. A filter may say too much.
-REASONS = {
-    "load": "the filter of a later task says that it wrote this line",
-    "store": "the filter of a later task says that it touched this line",
-    "enqueue": "the least task needs room in a full task queue",
-    "split": "the least task needs room in a full task queue",
-    "end": "the commit queue is full and holds a later task",
-    "dispatch": "the least task needs a core, and each holds a task",
-}
 # Why an event was refused, by its word and the reply; of a stalled step by what its task asked for.
 REFUSALS = {
     ("dispatch", "empty"): "it has no idle task",
@@ -58,7 +50,7 @@ def sentence_of(told, machine, listing=NO_LISTING, limits=None):
     if told.line["reply"] != "ok":
         return refused_told(told, machine)
     done = DONE[told.line["do"]](told, machine, listing, limits)
-    return f"{done}.{back_told(told)}{spilled_told(told)}"
+    return f"{done}.{back_told(told, machine, listing)}{spilled_told(told)}"
 
 
 def opening_told(head):
@@ -207,21 +199,25 @@ def trap_told(line, limits):
 # ---- what was taken back, and what moved
 
 
-def back_told(told):
-    """Which tasks were taken back, why, and which of them are gone."""
+def back_told(told, machine, listing):
+    """Which tasks were taken back, the least first, why, and which of them are gone."""
     count = len(told.taken)
     if not count:
         return ""
-    reason = REASONS.get(told.line.get("asks", told.line["do"]))
-    since = f", since {reason}" if reason else ""
-    parts = listed([taken_told(taken) for taken in told.taken])
-    return f" {counted(count, 'task')} {is_or_are(count)} taken back{since}: {parts}."
+    line_size = machine.head["line"]
+    telling = Telling(label_of, line_size, listing)
+    causes = causes_of(told, line_size)
+    more = f" {count - MOST_NAMED:,} more." if count > MOST_NAMED else ""
+    parts = "".join(f" {taken_told(cause, telling)}." for cause in causes[:MOST_NAMED])
+    return f" {counted(count, 'task')} {is_or_are(count)} taken back.{parts}{more}"
 
 
-def taken_told(taken):
-    """A task that was taken back, with the work that this undid."""
+def taken_told(cause, telling):
+    """A task that was taken back, with the work that this undid, and why."""
+    taken = cause.taken
     work = f"after {counted(taken.work, 'instruction')}" if taken.work else "with nothing done"
-    return f"{label_of(taken.task)} {work}{' (discarded)' if taken.is_gone else ''}"
+    gone = " (discarded)" if taken.is_gone else ""
+    return f"{label_of(taken.task)} {work}{gone}: {telling.sentence(cause)}"
 
 
 def spilled_told(told):

@@ -1,0 +1,137 @@
+"""The first way through the second program's lines, on which it is noted what each leg did.
+
+The reader holds each leg against the image: where it stops, what it asks for, what it finds and what it stores. So what
+is gone along later is the run that the lines tell, act for act.
+"""
+from __future__ import annotations
+
+from typing import Any, Iterable, NamedTuple
+
+from yotarimu.common.outcome import Refused
+from yotarimu.debugger.attempts import Attempt
+from yotarimu.debugger.track import MOST_STEPS, Memory, Position, Stretch
+from yotarimu.images.image import DATA, Image
+from yotarimu.lines.causes import causes_of
+from yotarimu.lines.legs import Core
+from yotarimu.lines.reader import open_watched
+from yotarimu.lines.replay import NOT_EXECUTED, Access, Task, Told
+
+Line = dict[str, Any]
+
+
+class Making(NamedTuple):
+    """Where a child was made: by which attempt, the position before the call, and the call's address."""
+    by: Attempt
+    position: Position
+    pc: int
+
+
+class Reading:
+    """What the lines tell, in the order of the legs: `stretches`, and of each the attempt that it is of (`owners`), how
+    many instructions of that were executed before it (`starts`), and its event (`events`)."""
+
+    def __init__(self, image: Image, path: str) -> None:
+        self.memory = Memory(image)
+        self.stretches: list[Stretch] = []
+        self.owners: list[Attempt] = []
+        self.starts: list[int] = []
+        self.events: list[int] = []
+        self.attempts: list[Attempt] = []
+        self.made: dict[Task, Making] = {}
+        # Of positions the attempts that are taken back there, or the one that traps there.
+        self.taken: dict[Position, list[Attempt]] = {}
+        self.trapped: dict[Position, Attempt] = {}
+        self.running: dict[Task, Attempt] = {}
+        # How many attempts there were at a task that is uncommitted.
+        self.counts: dict[Task, int] = {}
+        # The accesses that make stores, by their places among all stores; those that undo others have none.
+        self.accesses: dict[int, Access] = {}
+        self.steps, self.turns = 0, 0
+        self.known: dict[frozenset[int], frozenset[int]] = {}
+        with open_watched(path, image=image) as watched:
+            self.head: Line = watched.head
+            legs = watched.machine.legs
+            self.cores: dict[Task, Core] = {} if legs is None else legs.cores
+            for told in watched:
+                self.take(told)
+        self.firsts = [stretch.first for stretch in self.stretches]
+
+    def take(self, told: Told) -> None:
+        """Takes a line, once the reader has held it."""
+        line, task = told.line, told.task
+        if told.is_made and "asks" in line and task is not None:
+            self.leg(told, task, line)
+            return
+        if told.taken:
+            last = len(self.stretches) - 1
+            here = Position(last, self.stretches[last].length) if self.stretches else Position(0, 0)
+            self.take_back(told, here, Position(last + 1, 0))
+        if told.is_made and line["do"] == "dispatch" and task is not None:
+            self.begin(task)
+        elif told.committed is not None:
+            self.commit(told.committed)
+
+    def begin(self, task: Task) -> None:
+        """A task is dispatched, and begins anew."""
+        self.counts[task] = self.counts.get(task, 0) + 1
+        attempt = Attempt(len(self.attempts) + 1, task, self.counts[task], Position(len(self.stretches), 0))
+        self.attempts.append(attempt)
+        self.running[task] = attempt
+
+    def commit(self, task: Task) -> None:
+        attempt = self.running.pop(task)
+        del self.counts[task]
+        self.turns += 1
+        attempt.gone, attempt.turn = Position(len(self.stretches), 0), self.turns
+
+    def leg(self, told: Told, task: Task, line: Line) -> None:
+        """Notes a leg, what its event takes back, and then the access or the call at its end."""
+        attempt, first, number = self.running[task], len(self.memory.stores), len(self.stretches)
+        length, pcs = line["leg"] + (line["asks"] not in NOT_EXECUTED), frozenset(self.cores[task].passed)
+        self.need_room(length)
+        if told.taken:
+            self.take_back(told, Position(number, length - 1), Position(number, length))
+        if told.access is not None:
+            self.access(attempt, told.access)
+        elif told.arrived is not None:
+            self.made[told.arrived] = Making(attempt, Position(number, line["leg"]), line["pc"])
+        elif line["asks"] == "trap":
+            attempt.trap = line["cause"], line["pc"]
+            self.trapped[Position(number, length)] = attempt
+        self.starts.append(attempt.executed)
+        attempt.note(number, length)
+        self.owners.append(attempt)
+        self.events.append(line["n"])
+        self.stretches.append(Stretch(length, self.known.setdefault(pcs, pcs), first, len(self.memory.stores)))
+
+    def access(self, attempt: Attempt, access: Access) -> None:
+        if access.is_store:
+            self.accesses[len(self.memory.stores)] = access
+            self.memory.write(access.address - DATA, access.value.to_bytes(access.bytes, "little"))
+        else:
+            attempt.loaded.append(access.old)
+
+    def need_room(self, count: int) -> None:
+        self.steps += count
+        if self.steps > MOST_STEPS:
+            raise Refused(f"these are more than {MOST_STEPS:,} instructions, and no more are gone along; a run up to "
+                          "fewer --commits is shorter.")
+
+    def take_back(self, told: Told, here: Position, gone: Position) -> None:
+        """Undoes the stores of tasks, whose attempts are gone from a position on."""
+        self.undo(access for taken in told.taken for access in taken.accesses)
+        for cause in causes_of(told, self.head["line"]):
+            attempt = self.running.pop(cause.task, None)
+            if attempt is not None:
+                attempt.gone, attempt.cause, attempt.event = gone, cause, told.line["n"]
+                self.taken.setdefault(here, []).append(attempt)
+
+    def undo(self, accesses: Iterable[Access]) -> None:
+        """Undoes stores, the latest first."""
+        stores = [access for access in accesses if access.is_store]
+        for access in sorted(stores, key=event_of, reverse=True):
+            self.memory.write(access.address - DATA, access.old.to_bytes(access.bytes, "little"))
+
+
+def event_of(access: Access) -> int:
+    return access.event

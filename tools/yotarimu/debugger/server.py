@@ -1,0 +1,285 @@
+"""gdb's remote protocol over a track: a packet, and what is answered."""
+from __future__ import annotations
+
+from typing import Callable, Sequence
+from xml.sax.saxutils import quoteattr
+
+from yotarimu.common.outcome import Refused
+from yotarimu.debugger.going import Going, Order, Stop, Watch, register_of, stop_told
+from yotarimu.debugger.packets import MOST_PACKET, Connection, hexed
+from yotarimu.debugger.target import PC, WORD_BYTES, Signal, description
+from yotarimu.debugger.track import MOST_THREADS, Core, Track
+
+OK, FAILED = "OK", "E01"
+FEATURES = (f"PacketSize={MOST_PACKET:x};QStartNoAckMode+;qXfer:features:read+;qXfer:threads:read+;ReverseStep+;"
+            "ReverseContinue+;ConditionalBreakpoints+;vContSupported+")
+BREAKS = ("0", "1")
+# The words of `monitor` that stand alone, and those that want something behind them.
+ALONE, NEEDING = ("stale",), ("writes",)
+
+
+class Server:
+    """Answers one gdb, up to its end."""
+
+    def __init__(self, track: Track, connection: Connection) -> None:
+        self.track, self.connection = track, connection
+        self.going = Going(track, connection)
+        # The thread that registers and memory are asked of; 0 is the one that runs.
+        self.chosen = self.resumed = 0
+        # What is to be said as soon as gdb's console takes it.
+        self.late = ""
+        self.is_over = False
+
+    def serve(self) -> None:
+        """Answers packets until gdb leaves or is gone."""
+        try:
+            while not self.is_over and (packet := self.connection.packet()) is not None:
+                answer = self.answer(packet)
+                if packet != "k":
+                    self.connection.send(answer)
+                self.connection.needs_ack &= packet != "QStartNoAckMode"
+        except (BrokenPipeError, ConnectionError):
+            return
+
+    def answer(self, packet: str) -> str:
+        for start, answer in ANSWERS.items():
+            if packet.startswith(start):
+                try:
+                    return answer(self, packet[len(start):])
+                except Refused as refused:
+                    self.late = str(refused)
+                    return FAILED
+                except (ValueError, IndexError):
+                    return FAILED
+        return ""
+
+    # ---- what it is
+
+    def features(self, _rest: str) -> str:
+        return FEATURES
+
+    def nothing(self, _rest: str) -> str:
+        """So gdb is told that it is unknown here."""
+        return ""
+
+    def no_acks(self, _rest: str) -> str:
+        return OK
+
+    def leave(self, _rest: str) -> str:
+        self.is_over = True
+        return OK
+
+    def target(self, rest: str) -> str:
+        return part(description(), rest)
+
+    # ---- threads
+
+    def threads(self, rest: str) -> str:
+        rows = "".join(f'<thread id="{thread:x}" name={quoteattr(ascii_of(self.track.name_of(thread)))}>'
+                       f"{self.track.state_of(thread)}</thread>" for thread in self.shown())
+        return part(f'<?xml version="1.0"?><threads>{rows}</threads>', rest)
+
+    def shown(self) -> list[int]:
+        return self.track.threads()[:MOST_THREADS]
+
+    def first_threads(self, _rest: str) -> str:
+        return "m" + ",".join(f"{thread:x}" for thread in self.shown())
+
+    def more_threads(self, _rest: str) -> str:
+        return "l"
+
+    def current_thread(self, _rest: str) -> str:
+        return f"QC{self.track.thread:x}"
+
+    def is_attached(self, _rest: str) -> str:
+        return "1"
+
+    def thread_told(self, rest: str) -> str:
+        thread = int(rest, 16)
+        return hexed(f"{self.track.name_of(thread)}, {self.track.state_of(thread)}")
+
+    def is_thread_there(self, rest: str) -> str:
+        return OK if int(rest, 16) in self.shown() else FAILED
+
+    def choose(self, rest: str) -> str:
+        """`Hg` and `Hc`: which thread is asked, and which one goes back, from now on; -1 is all of them, and 0 any."""
+        thread = 0 if rest[1:] in ("", "-1", "0") else int(rest[1:], 16)
+        if rest[0] == "g":
+            self.chosen = thread
+        else:
+            self.resumed = thread
+        return OK
+
+    # ---- registers and memory
+
+    def core(self) -> Core:
+        return self.track.core_of(self.chosen)
+
+    def registers(self, _rest: str) -> str:
+        core = self.core()
+        return b"".join(word_bytes(register_of(core, number)) for number in range(PC + 1)).hex()
+
+    def register(self, rest: str) -> str:
+        number = int(rest, 16)
+        return word_bytes(register_of(self.core(), number)).hex() if number <= PC else FAILED
+
+    def set_registers(self, rest: str) -> str:
+        data = bytes.fromhex(rest)
+        for number in range(PC + 1):
+            self.set_one(number, data[WORD_BYTES * number:WORD_BYTES * (number + 1)])
+        return OK
+
+    def set_register(self, rest: str) -> str:
+        number, value = rest.split("=")
+        self.set_one(int(number, 16), bytes.fromhex(value))
+        return OK
+
+    def set_one(self, number: int, data: bytes) -> None:
+        core, value = self.track.core, int.from_bytes(data, "little")
+        if number == 0 or number > PC or value == register_of(self.core(), number):
+            return
+        self.tell_change()
+        self.track.mark_changed()
+        if number == PC:
+            core.pc = value
+        else:
+            core.registers[number] = value
+
+    def memory(self, rest: str) -> str:
+        address, count = (int(word, 16) for word in rest.split(","))
+        return self.track.bytes_at(address, count, bytes(self.core().stack)).hex() or FAILED
+
+    def set_memory(self, rest: str) -> str:
+        where, data = rest.split(":")
+        if data:
+            self.tell_change()
+            self.track.change(int(where.split(",")[0], 16), bytes.fromhex(data))
+        return OK
+
+    def tell_change(self) -> None:
+        """Tells, once, what becomes of changes by hand; of a task that doesn't run they are refused."""
+        if self.chosen not in (0, self.track.thread):
+            raise Refused("this task doesn't run at this position, so it can't be changed.")
+        if not self.track.is_changed:
+            self.late = ("From here on this task runs on what was written by hand. At its end, or with a step back, "
+                         "all of it is undone.")
+
+    # ---- stops
+
+    def set_point(self, rest: str) -> str:
+        kind, address, count = point_in(rest)
+        self.going.held = 0
+        if kind in BREAKS:
+            self.going.breaks[address] = [bytes.fromhex(code.partition(",")[2]) for code in rest.split(";X")[1:]]
+        else:
+            self.going.watches[kind, address] = Watch(kind, address, count)
+        return OK
+
+    def clear_point(self, rest: str) -> str:
+        kind, address, _ = point_in(rest)
+        self.going.held = 0
+        if kind in BREAKS:
+            self.going.breaks.pop(address, None)
+        else:
+            self.going.watches.pop((kind, address), None)
+        return OK
+
+    def why_stopped(self, _rest: str) -> str:
+        return self.told(Stop(Signal.TRAP))
+
+    def actions(self, _rest: str) -> str:
+        return "vCont;c;C;s;S;r"
+
+    def go(self, rest: str) -> str:
+        """vCont: the first action says what is done."""
+        self.say_late()
+        actions = rest.split(";")[1:]
+        action, _, named = actions[0].partition(":")
+        if action[0] in "cC":
+            return self.told(self.going.on(Order()))
+        thread = int(named, 16) if named not in ("", "-1", "0") else self.track.thread
+        is_alone = bool(named) and len(actions) == 1
+        # gdb steps one thread alone over a breakpoint, and fails where another one is told then.
+        if not self.track.choose(thread) and is_alone or is_alone and self.track.is_stretch_over():
+            return self.told(Stop(Signal.TRAP, thread=thread))
+        start, end = (int(word, 16) for word in action[1:].split(",")) if action[0] == "r" else (1, 0)
+        return self.told(self.going.on(Order(thread, start, end, is_alone)))
+
+    def say_late(self) -> None:
+        """gdb's console takes text only while it waits for a stop."""
+        if self.late:
+            self.connection.say(self.late)
+            self.late = ""
+
+    def back_step(self, _rest: str) -> str:
+        self.say_late()
+        return self.told(self.going.back_step(self.resumed or self.chosen or self.track.thread))
+
+    def back(self, _rest: str) -> str:
+        self.say_late()
+        return self.told(self.going.back())
+
+    def told(self, stop: Stop) -> str:
+        self.chosen = stop.thread or self.track.thread
+        return stop_told(stop, self.core(), self.chosen)
+
+    # ---- what may be asked beside
+
+    def monitor(self, rest: str) -> str:
+        """A word behind `monitor`, and what is asked of it."""
+        lines = self.answers(bytes.fromhex(rest.lstrip(",")).decode("utf-8", "replace").split())
+        self.chosen = 0
+        return hexed("".join(f"{line}\n" for line in lines)) or OK
+
+    def answers(self, typed: list[str]) -> Sequence[str]:
+        """What is told to words that are typed. The first may be shortened, as long as it means one."""
+        words = self.track.words
+        found = [it for it in words if typed and it.startswith(typed[0])]
+        word = typed[0] if typed and typed[0] in words else found[0] if len(found) == 1 else None
+        if word is None:
+            elsewhere = self.track.elsewhere.get(typed[0]) if typed else None
+            return [elsewhere] if elsewhere else [f"monitor {it:<9} {what.__doc__}" for it, what in words.items()]
+        if len(typed) > 1 + (word not in ALONE):
+            return [f"`{word}` takes fewer words: {words[word].__doc__}"]
+        if len(typed) == 1 and word in NEEDING:
+            return [f"`{word}` takes a word: {words[word].__doc__}"]
+        try:
+            return words[word](*typed[1:])
+        except Refused as refused:
+            return [str(refused)]
+
+
+def part(text: str, rest: str) -> str:
+    """A piece of a text that is read in pieces."""
+    offset, length = (int(word, 16) for word in rest.rpartition(":")[2].split(","))
+    return ("m" if offset + length < len(text) else "l") + text[offset:offset + length]
+
+
+def point_in(rest: str) -> tuple[str, int, int]:
+    """The kind, the address and the count of a breakpoint or watchpoint."""
+    kind, address, count = rest.split(";")[0].split(",")
+    return kind, int(address, 16), int(count, 16)
+
+
+def word_bytes(value: int) -> bytes:
+    return value.to_bytes(WORD_BYTES, "little")
+
+
+def ascii_of(text: str) -> str:
+    """A text for XML, which goes over the connection byte by byte."""
+    return text.encode("ascii", "backslashreplace").decode("ascii")
+
+
+Answer = Callable[[Server, str], str]
+# The first that a packet begins with answers it.
+ANSWERS: dict[str, Answer] = {
+    "qSupported": Server.features, "QStartNoAckMode": Server.no_acks, "qXfer:features:read:": Server.target,
+    "qXfer:threads:read:": Server.threads, "qCRC:": Server.nothing, "qC": Server.current_thread,
+    "qAttached": Server.is_attached,
+    "qfThreadInfo": Server.first_threads, "qsThreadInfo": Server.more_threads,
+    "qThreadExtraInfo,": Server.thread_told, "qRcmd": Server.monitor, "vCont?": Server.actions, "vCont": Server.go,
+    "?": Server.why_stopped, "H": Server.choose, "T": Server.is_thread_there, "g": Server.registers,
+    "p": Server.register, "P": Server.set_register, "G": Server.set_registers, "m": Server.memory,
+    "M": Server.set_memory, "Z": Server.set_point, "z": Server.clear_point, "bs": Server.back_step, "bc": Server.back,
+    "D": Server.leave, "k": Server.leave, "vKill": Server.leave,
+}
