@@ -95,8 +95,9 @@ def folders_are_anywhere(place: Place) -> None:
     (place.root / "launcher").symlink_to(place.clone / "fractal")
     linked = str(place.root / "launcher")
     for launcher, word, here in (("fractal", "my tasks/one", place.root), ("fractal", ".", folder),
-                                 ("fractal", folder, "/"), ("fractal", "link", place.root), (linked, "../one", folder)):
-        answer = place.call(launcher, "build", str(word), cwd=here)
+                                 ("fractal", str(folder), pathlib.Path("/")), ("fractal", "link", place.root),
+                                 (linked, "../one", folder)):
+        answer = place.call(launcher, "build", word, cwd=here)
         expect(answer.status == 0, f"an image in {word} from {here}", answer)
         (folder / "image.bin").unlink()
         (folder / "listing").unlink()

@@ -1,6 +1,7 @@
 """Tries of data and tasks from files, and of sources that other compilers wrote."""
 from __future__ import annotations
 
+import pathlib
 import shutil
 import struct
 import subprocess
@@ -75,7 +76,7 @@ REFUSED_IN_CPP = {
 }
 
 
-def initial_data(folder):
+def initial_data(folder: pathlib.Path) -> tuple[bytes, bytes]:
     """The initial data of an image, and all behind it."""
     image = (folder / "image.bin").read_bytes()
     text, initial = struct.unpack_from("<2I", image, 8)

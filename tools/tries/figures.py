@@ -3,16 +3,17 @@ from __future__ import annotations
 
 import csv
 import os
+from typing import Any, Optional
 
 from yotarimu.programs.examples import SCHEDULES
 
 from tries.files import picture_in
-from tries.place import expect, one_sentence_each
+from tries.place import Answer, Place, expect, one_sentence_each
 from tries.schedules import written
 from tries.told_lines import Told
 
 
-def shared_words():
+def shared_words() -> Told:
     """A task that comes first and stores twice, and three later ones that have run ahead: the first store takes all
     three and a child back, each for another reason, and the second one two, one of them in a cascade."""
     told = Told([1, 5, 6, 7, 8], [0, 0, 1, 1, 0])
@@ -39,7 +40,7 @@ def shared_words():
     return told
 
 
-def rows_of(place, text, *words):
+def rows_of(place: Place, text: bytes, *words: str) -> tuple[dict[tuple[str, str], str], str]:
     """The rows of CSV, by figure and what it is of."""
     path = written(place, "lines", text)
     answer = place.call("fractal figures", path, "--csv", "rows.csv", *words)
@@ -48,7 +49,7 @@ def rows_of(place, text, *words):
     return {(row["figure"], row["of"]): row["value"] for row in rows}, answer.output.decode()
 
 
-def figures_are_counted(place):
+def figures_are_counted(place: Place) -> None:
     """a schedule counted by hand: work, tasks taken back by cause, line, address and sharing, and occupancy"""
     rows, text = rows_of(place, shared_words().end(), "--plot", "a plot.svg")
     wanted = {("instructions", "executed"): 27, ("instructions", "useful"): 10, ("instructions", "wasted"): 15,
@@ -81,7 +82,7 @@ def figures_are_counted(place):
         expect(part in picture_in((place.root / "a plot.svg").read_bytes()), f"`{part}` in the plot")
 
 
-def work_is_summed_up(place):
+def work_is_summed_up(place: Place) -> None:
     """work that is executed is useful, wasted or left, at each place where a text may be cut and closed"""
     told = shared_words()
     whole = list(told.lines)
@@ -95,7 +96,7 @@ def work_is_summed_up(place):
         expect(executed == sum(parts), "a sum", (count, executed, parts))
 
 
-def runs_stand_side_by_side(place):
+def runs_stand_side_by_side(place: Place) -> None:
     """several texts are columns of one table; standard input is one of them"""
     one = written(place, "one", shared_words().end())
     answer = place.call("fractal figures", one, "-", stdin=Told([1], [0]).end())
@@ -104,16 +105,16 @@ def runs_stand_side_by_side(place):
         expect((answer.status, line in text) == (0, True), f"`{line}`", answer)
 
 
-def other_lines_are_refused(place):
+def other_lines_are_refused(place: Place) -> None:
     """a text that is cut, has no end, or tells what can't follow is refused with the number of the line"""
     whole = shared_words().end()
     lines = whole.splitlines(keepends=True)
 
-    def refused(text, *parts):
+    def refused(text: bytes, *parts: str) -> tuple[Answer, list[str]]:
         return place.call("fractal figures", "-", stdin=text), ["figures: ", *parts]
 
-    def changed(old, new):
-        expect(whole.count(old) > 0, f"{old} in the text", whole)
+    def changed(old: bytes, new: bytes) -> bytes:
+        expect(whole.count(old) > 0, f"{old!r} in the text", whole)
         return whole.replace(old, new, 1)
 
     one_sentence_each([
@@ -148,17 +149,17 @@ def other_lines_are_refused(place):
     place.is_clean()
 
 
-def odd_acts_are_refused(place):
+def odd_acts_are_refused(place: Place) -> None:
     """acts that no machine tells, and numbers that are too long, are refused by figures and by the page"""
-    def odd(word, change=None, reply="ok", **fields):
+    def odd(word: str, change: Optional[dict[str, Any]] = None, reply: str = "ok", **fields: Any) -> bytes:
         told = Told([1], [0])
         if word == "step":
             told.dispatch(0, 0, 0, 0)
         told.act(word, change, reply, **fields)
         return told.end()
 
-    step = {"tile": 0, "core": 0, "leg": 0, "pc": 65_540}
-    child = {"to": "same", "entry": 65_536, "ts": 9, "args": [0, 0, 0], "hint": 0}
+    step: dict[str, Any] = {"tile": 0, "core": 0, "leg": 0, "pc": 65_540}
+    child: dict[str, Any] = {"to": "same", "entry": 65_536, "ts": 9, "args": [0, 0, 0], "hint": 0}
     texts = {odd("abort", tile=0): "takes no task back", odd("take", tile=0, core=1): "holds no task",
              odd("step", reply="stall", **step, asks="end"): "takes this leg",
              odd("step", reply="stall", **step, asks="enqueue", **child): "takes this leg",
@@ -167,7 +168,7 @@ def odd_acts_are_refused(place):
     for old, new, part in ((b'"ts":1', b'"ts":' + b"9" * 4_000, "2: `ts`"), (b'"tasks":5', b'"tasks":0', "no machine"),
                            (b"[1,5]", b"[2,1]", "how many tasks"), (b'"empty"', b'"busy"', "`reply` is `busy`"),
                            (b'"commit","task":0,"reply":"empty"', b'"advance","reply":"ok"', "`reply` is `ok`")):
-        expect(old in whole, f"{old} in the text", whole)
+        expect(old in whole, f"{old!r} in the text", whole)
         texts[whole.replace(old, new, 1)] = part
     for text, part in texts.items():
         for script in ("figures", "show"):
@@ -175,7 +176,7 @@ def odd_acts_are_refused(place):
     place.is_clean()
 
 
-def no_text_is_lost(place):
+def no_text_is_lost(place: Place) -> None:
     """a text that is read isn't replaced, nor are two written to one file; a name that is no text is told in both"""
     data = shared_words().end()
     text = written(place, "lines", data)
@@ -199,7 +200,7 @@ def no_text_is_lost(place):
     place.is_clean()
 
 
-def told_schedules_are_figured(place):
+def told_schedules_are_figured(place: Place) -> None:
     """each schedule is read whole, with each leg on the image, and the conflict has the figures counted"""
     place.needs_second_program()
     for name in SCHEDULES:

@@ -6,16 +6,21 @@ import json
 import os
 import pathlib
 import shutil
+from collections.abc import Sequence
+from typing import Any, Callable, Optional, Union
 
 from yotarimu.lines.reader import open_watched
 from yotarimu.lines.sentences import label_of
 from yotarimu.pictures.page import Passed
 from yotarimu.programs.examples import SCHEDULES
 
-from tries.place import LeftOut, expect, one_sentence_each
+from tries.place import Failed, LeftOut, Place, expect, one_sentence_each
 from tries.schedules import written
 from tries.told_lines import Told
+from yotarimu.lines.replay import Machine, Task
 
+# What a page has to show behind an act, and the bytes of memory that it may show, by address.
+Standing = tuple[list[Any], dict[int, Optional[int]]]
 BROWSERS = ("chromium", "chromium-browser", "google-chrome")
 # The browser ends once the page has been at work for so long, by the page's own clock.
 MOST_MILLISECONDS = "60000"
@@ -52,24 +57,24 @@ PRESSED = [6, 8, 9, 8, 14, 17, 17, 0, 17, 0, 0, 0]
 class Body(html.parser.HTMLParser):
     """The attributes of a page's body."""
 
-    def __init__(self, text):
+    def __init__(self, text: str) -> None:
         super().__init__()
-        self.attributes = None
+        self.attributes: Optional[dict[str, Optional[str]]] = None
         self.feed(text)
 
-    def handle_starttag(self, tag, attrs):
+    def handle_starttag(self, tag: str, attrs: list[tuple[str, Optional[str]]]) -> None:
         if tag == "body":
             self.attributes = dict(attrs)
 
 
-def browser():
-    found = next(filter(None, map(shutil.which, BROWSERS)), None)
-    if found is None:
-        raise LeftOut(f"it wants a browser: {', '.join(BROWSERS)}")
-    return found
+def browser() -> str:
+    for name in BROWSERS:
+        if (found := shutil.which(name)) is not None:
+            return found
+    raise LeftOut(f"it wants a browser: {', '.join(BROWSERS)}")
 
 
-def opened(place, page, act=None):
+def opened(place: Place, page: Union[str, pathlib.Path], act: object = None) -> dict[str, Optional[str]]:
     """The attributes of a page's body, once a browser has opened it, at an act if one is told."""
     url = pathlib.Path(page).as_uri() + ("" if act is None else f"#{act}")
     # The browser's sandbox isn't for root.
@@ -78,11 +83,12 @@ def opened(place, page, act=None):
               f"--virtual-time-budget={MOST_MILLISECONDS}", "--dump-dom", url]
     answer = place.call(browser(), *words)
     attributes = Body(answer.output.decode()).attributes
-    expect(answer.status == 0 and attributes and "data-at" in attributes, "a page that plays", answer)
+    if answer.status != 0 or not attributes or "data-at" not in attributes:
+        raise Failed(f"expected a page that plays; seen {answer}")
     return attributes
 
 
-def page_at(place, name, page, script=""):
+def page_at(place: Place, name: str, page: bytes, script: str = "") -> pathlib.Path:
     path = place.root / name
     text = page.decode()
     expect(text.count("</body>") == 1, "one body", text[-200:])
@@ -90,27 +96,28 @@ def page_at(place, name, page, script=""):
     return path
 
 
-def seen_on(place, page, script):
+def seen_on(place: Place, page: bytes, script: str) -> Any:
     """What a script notes on a page."""
     attributes = opened(place, page_at(place, "scripted.html", page, script), 0)
-    expect("data-seen" in attributes, "a page that plays each act", attributes)
-    return json.loads(attributes["data-seen"])
+    seen = attributes.get("data-seen")
+    expect(seen is not None, "a page that plays each act", attributes)
+    return json.loads(seen or "")
 
 
-def walked(place, page, lines, first):
+def walked(place: Place, page: bytes, lines: str, first: int) -> None:
     """Holds each act of a page against the reader, on the way forwards and on the way back."""
     forwards, back = seen_on(place, page, WALK)
     compare(lines, first, forwards)
     expect(forwards == back, f"the same of {lines} on the way back")
 
 
-def shown(place, lines, *words):
+def shown(place: Place, lines: str, *words: str) -> bytes:
     answer = place.call("fractal show", lines, *words)
     expect((answer.status, answer.errors) == (0, ""), f"a page of {lines}", answer)
     return answer.output
 
 
-def stored(place, name="conflict"):
+def stored(place: Place, name: str = "conflict") -> tuple[str, str]:
     folder = place.clone / "examples" / "schedules" / name
     return str(folder / "lines"), str(folder / "listing")
 
@@ -118,16 +125,16 @@ def stored(place, name="conflict"):
 # ---- what the reader of lines knows
 
 
-def standing(machine, passed):
+def standing(machine: Machine, passed: Passed) -> Standing:
     """What a page has to show of the machine behind an act: the act, events, the lanes, what is counted, the commits;
     and the bytes that it may show."""
-    def named(number, beside):
+    def named(number: Optional[int], beside: Callable[[Task], str]) -> Optional[list[object]]:
         if number is None:
             return None
         task = machine.tasks[number]
         return [number, label_of(task), task.state, beside(task)]
 
-    def lane(ids, beside):
+    def lane(ids: Sequence[Optional[int]], beside: Callable[[Task], str]) -> list[Optional[list[object]]]:
         return [named(number, beside) for number in ids]
 
     tiles = [{"queue": lane(machine.queues[tile], lambda task: f"@{task.timestamp}"),
@@ -139,9 +146,10 @@ def standing(machine, passed):
     return [machine.acts, machine.events, tiles, counts, machine.commits], machine.memory.bytes()
 
 
-def standings(lines):
+def standings(lines: str) -> list[Standing]:
     """The same behind the opening and behind each act of a text."""
-    found, passed = [], Passed()
+    found: list[Standing] = []
+    passed = Passed()
     with open_watched(lines) as watched:
         for told in watched:
             passed.follow(told)
@@ -151,7 +159,7 @@ def standings(lines):
     return found
 
 
-def compare(lines, first, seen):
+def compare(lines: str, first: int, seen: Sequence[Any]) -> None:
     """Holds what a browser showed behind each act from the first on against the reader."""
     wanted = standings(lines)[first:]
     expect(len(seen) == len(wanted), f"{len(wanted)} acts of {lines}", len(seen))
@@ -166,7 +174,7 @@ def compare(lines, first, seen):
             expect(digits == digits_of, f"{digits_of} at {address:08x} behind {act}", digits)
 
 
-def watched_lines(place, words, given, name):
+def watched_lines(place: Place, words: Sequence[str], given: bytes, name: str) -> str:
     path = place.root / name
     answer = place.call("fractal", "watch", *words, stdin=given)
     path.write_bytes(answer.output)
@@ -176,7 +184,7 @@ def watched_lines(place, words, given, name):
 # ---- tries
 
 
-def stored_lines_are_shown(place):
+def stored_lines_are_shown(place: Place) -> None:
     """a browser shows the stored lines as the reader of lines has them, alone, at the act that is asked for, by keys"""
     lines, listing = stored(place)
     page = shown(place, lines, listing)
@@ -191,7 +199,7 @@ def stored_lines_are_shown(place):
         walked(place, shown(place, lines, *words), lines, first)
 
 
-def runs_are_shown(place):
+def runs_are_shown(place: Place) -> None:
     """so it does each act of the schedules, and of a long one with small queues, from the start and from within"""
     place.needs_second_program()
     browser()
@@ -213,13 +221,16 @@ def runs_are_shown(place):
         walked(place, shown(place, lines, "--from", str(ats[first])), lines, first)
 
 
-def children_spilled_before_the_page_count(place):
+def children_spilled_before_the_page_count(place: Place) -> None:
     """a page that begins behind spilled children of a task that makes more names all of them as the reader does"""
-    told, queued = Told([0], [0], tiles=1, cores=1, task_queue=4), {}
+    told = Told([0], [0], tiles=1, cores=1, task_queue=4)
+    queued: dict[int, int] = {}
     told.dispatch(0, 0, 0, 0)
     for child in range(10):
-        change = {"spilled": [[task, 1, index] for task, index in sorted(queued.items())]} if len(queued) == 3 else {}
-        queued = {} if change else queued
+        change: dict[str, Any] = {}
+        if len(queued) == 3:
+            change = {"spilled": [[task, 1, index] for task, index in sorted(queued.items())]}
+            queued = {}
         queued[len(queued) + 1] = child
         told.enqueue(0, 0, 0, 1, len(queued), **change)
     told.finish(0, 0, 0, 1)
@@ -231,7 +242,7 @@ def children_spilled_before_the_page_count(place):
         walked(place, shown(place, lines, "--from", str(first)), lines, first)
 
 
-def all_tasks(lines):
+def all_tasks(lines: str) -> list[Task]:
     """The uncommitted tasks that a text leaves."""
     with open_watched(lines) as watched:
         for _ in watched:
@@ -239,7 +250,7 @@ def all_tasks(lines):
         return list(watched.machine.all_tasks())
 
 
-def long_runs_want_a_range(place):
+def long_runs_want_a_range(place: Place) -> None:
     """above 50,000 acts a page wants a range, and a text that was cut is shown where that is asked for"""
     lines, _ = stored(place)
     opening = pathlib.Path(lines).read_bytes().splitlines(keepends=True)[:3]
@@ -252,7 +263,7 @@ def long_runs_want_a_range(place):
     expect(page.count(b'"reply":"empty"') == 50_000, "50,000 acts")
 
 
-def other_texts_are_refused(place):
+def other_texts_are_refused(place: Place) -> None:
     """a text that isn't whole lines of the second program, other listings and bad words are told in a sentence"""
     show = "fractal show"
     lines, listing = stored(place)

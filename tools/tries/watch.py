@@ -7,6 +7,7 @@ import os
 import random
 import shutil
 import subprocess
+from collections.abc import Sequence
 
 from yotarimu.courses.agreement import replies_said, replies_told
 from yotarimu.programs.examples import SCHEDULES
@@ -14,7 +15,7 @@ from yotarimu.programs.program import SECOND_PROGRAM
 from yotarimu.programs.table import Table
 
 from tries.launcher import image_of
-from tries.place import Answer, expect, need_built, one_sentence_each
+from tries.place import Answer, Place, expect, need_built, one_sentence_each
 from tries.words import change, number
 
 USAGE = b'{"fault":"usage"}\n'
@@ -84,7 +85,7 @@ SENTENCES = {
 # ---- the launcher
 
 
-def watch_words_are_told(place):
+def watch_words_are_told(place: Place) -> None:
     """wrong words behind `watch` are refused at once, built or not, with the second program's line of a fault"""
     place.without("rt")
     for is_built in (False, True):
@@ -98,20 +99,20 @@ def watch_words_are_told(place):
     place.call("fractal", "watch", "least").sentence("isn't built", status=69)
 
 
-def watch_hands_on(place):
+def watch_hands_on(place: Place) -> None:
     """words behind `watch` go to the second program as they are, and output and status are its own"""
     place.stub(place.second_program, 'for word in "$@"; do echo "[$word]"; done\nexit 4\n')
     answer = place.call("fractal", "watch", "views", "2", "lockstep", "5", "7", "--tiles=3")
     expect(answer == Answer(4, b"[views]\n[2]\n[lockstep]\n[5]\n[7]\n[--tiles=3]\n", ""), "the words", answer)
 
 
-def random_watch_words_agree(place):
+def random_watch_words_agree(place: Place) -> None:
     """of 4,000 random calls of `watch` the launcher refuses those that the second program refuses, and no other"""
     need_built(SECOND_PROGRAM)
     place.without("rt")
     table = Table()
     calls = [random_call(random.Random(seed), table) for seed in range(RANDOM_CALLS)]
-    with concurrent.futures.ThreadPoolExecutor(2 * os.cpu_count()) as pool:
+    with concurrent.futures.ThreadPoolExecutor(2 * (os.cpu_count() or 1)) as pool:
         judged = list(pool.map(lambda words: judgements(place, words), calls))
     for words, (by_launcher, by_program) in zip(calls, judged):
         expect(by_launcher == by_program, f"the second program's judgement {by_program} of", words)
@@ -119,7 +120,7 @@ def random_watch_words_agree(place):
     expect(RANDOM_CALLS / 5 < refused < RANDOM_CALLS * 4 / 5, "calls of both kinds", refused)
 
 
-def judgements(place, words):
+def judgements(place: Place, words: Sequence[str]) -> tuple[bool, bool]:
     """Whether the launcher and the second program refuse the words; without an image it does no more than that."""
     launched = place.call("fractal", "watch", *words)
     expect((launched.status, launched.output) in ((1, USAGE), (69, b"")), "a refusal, or that rt is missing", launched)
@@ -127,7 +128,7 @@ def judgements(place, words):
     return launched.status == 1, done.returncode == 1
 
 
-def random_call(chance, table):
+def random_call(chance: random.Random, table: Table) -> list[str]:
     """The words of a call, of which about half are wrong."""
     words = ["views", number(chance, 1, 2 ** 32 - 1)] if chance.random() < 0.3 else []
     course = chance.choice(list(table.course_rows))
@@ -142,7 +143,7 @@ def random_call(chance, table):
     return [word for word in words if word != "--help"]
 
 
-def schedules_are_watched(place):
+def schedules_are_watched(place: Place) -> None:
     """each schedule is told with the replies of `steps`, and a refused script's line is told with what is wrong"""
     place.needs_second_program()
     for name in SCHEDULES:
@@ -163,7 +164,7 @@ def schedules_are_watched(place):
 # ---- the console
 
 
-def acts_are_typed(place):
+def acts_are_typed(place: Place) -> None:
     """at the console each act is said and shown, undone and saved; a line that can't be done changes nothing"""
     place.needs_second_program()
     folder = str(place.clone / "examples" / "schedules" / "conflict")
@@ -184,7 +185,7 @@ def acts_are_typed(place):
     place.is_clean()
 
 
-def schedules_are_typed(place):
+def schedules_are_typed(place: Place) -> None:
     """where the script of a schedule is typed, each act has a sentence, which says who was taken back and why"""
     place.needs_second_program()
     for name in SCHEDULES:
@@ -197,7 +198,7 @@ def schedules_are_typed(place):
         expect((answer.status, answer.errors, missing) == (0, "", []), f"each act of {name}", missing or answer)
 
 
-def pages_are_opened(place):
+def pages_are_opened(place: Place) -> None:
     """`open` writes the page of the acts so far, and tells where a browser shows this act"""
     place.needs_second_program()
     image = str(place.clone / "examples" / "hello" / "image.bin")
@@ -207,7 +208,7 @@ def pages_are_opened(place):
     place.is_clean()
 
 
-def no_file_is_lost(place):
+def no_file_is_lost(place: Place) -> None:
     """the console replaces no image that it plays, and no file by a page but a page; odd names and words are told"""
     place.needs_second_program()
     folder = place.root / "a folder"
@@ -230,7 +231,7 @@ def no_file_is_lost(place):
     place.is_clean()
 
 
-def console_refuses_bad_words(place):
+def console_refuses_bad_words(place: Place) -> None:
     """bad words, other files, a program that is missing and long lines are told in a sentence"""
     console, image = "fractal console", str(place.clone / "examples" / "hello" / "image.bin")
     place.stub(place.second_program, "cat >/dev/null; echo nothing\n")
@@ -259,7 +260,7 @@ def console_refuses_bad_words(place):
     place.is_clean()
 
 
-def consoles_are_interrupted(place):
+def consoles_are_interrupted(place: Place) -> None:
     """at a terminal an interrupt and the end of the input lose no act, and the first is told in a sentence"""
     place.needs_second_program()
     image = str(place.clone / "examples" / "hello" / "image.bin")

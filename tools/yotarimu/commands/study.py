@@ -112,7 +112,7 @@ def play(words: Sequence[str]) -> int:
     grid = Table()
     played, varying, seen = study_of(words, grid)
     picture, path = picture_of(seen["plot"], seen["log"], COLUMNS, grid.options), seen["csv"]
-    need_outputs([path, picture and picture.path], list(played.study.images))
+    need_outputs([path, picture.path if picture else None], list(played.study.images))
     jobs = number_of(seen, "jobs", 1, MOST_JOBS, 1)
     played.study.need_images()
     try:
@@ -135,7 +135,7 @@ def join(words: Sequence[str]) -> int:
     seen, rest = taken([word for word in words if word != "--join"], ("csv", "plot", "log"))
     paths = need_paths(rest, "a CSV")
     picture = picture_of(seen["plot"], seen["log"], COLUMNS, Table().options)
-    need_outputs([seen["csv"], picture and picture.path], paths)
+    need_outputs([seen["csv"], picture.path if picture else None], paths)
     cells = joined(paths)
     files = {}
     if picture is not None:

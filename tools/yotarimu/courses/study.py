@@ -61,6 +61,8 @@ class Study:
             return Row(f"none: status {status}")
         if isinstance(figures, Refused):
             raise figures
+        if figures is None:
+            return Row(f"none: status {status}")
         return Row(f"none in {self.rounds:,} rounds" if figures.end == "open" else figures.end, figures)
 
     def figures(self, file: BinaryIO, tell: Tell) -> Figures:
