@@ -72,7 +72,7 @@ class Instructions(unittest.TestCase):
         self.assertEqual([signed(0xFFF, 12), signed(0x7FF, 12), signed(0x80000000, 32)], [-1, 2047, -2 ** 31])
 
     def test_shifts_and_comparisons(self) -> None:
-        arithmetic, less, less_unsigned = 5 << 12, 2 << 12, 3 << 12
+        arithmetic, less, less_unsigned = 5, 2, 3
         self.assertEqual(computed(arithmetic, 0x80000000, 31, 1), -1)
         self.assertEqual(computed(arithmetic, 0x80000000, 31, 0), 1)
         self.assertEqual((computed(less, 0xFFFFFFFF, 0, 0), computed(less_unsigned, 0xFFFFFFFF, 0, 0)), (True, False))

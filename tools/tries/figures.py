@@ -252,4 +252,5 @@ def addresses_have_labels(place):
 
 
 TRIES = (figures_are_counted, addresses_have_labels, work_is_summed_up, runs_stand_side_by_side,
-         other_lines_are_refused, odd_acts_are_refused, no_text_is_lost, told_schedules_are_figured, long_runs_are_replayed)
+         other_lines_are_refused, odd_acts_are_refused, no_text_is_lost, told_schedules_are_figured,
+         long_runs_are_replayed)
