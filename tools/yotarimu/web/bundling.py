@@ -5,6 +5,7 @@ import base64
 import gzip
 import json
 import pathlib
+import re
 from typing import Any, Dict, List, Sequence
 
 PAGE = pathlib.Path(__file__).resolve().with_name("page")
@@ -31,10 +32,42 @@ def rows_of(table: str) -> List[List[str]]:
 
 def command_line(modules: Dict[str, bytes], table: str, commit: str) -> str:
     """`fractal.mjs`: both programs as a command for Node and Deno."""
-    constants = (constant("table", rows_of(table)), constant("build", {"commit": commit}),
+    constants = (constant("table", rows_of(table)), constant("made", {"commit": commit}),
                  constant("modules", {name: packed(module) for name, module in modules.items()}))
     return "".join(("#!/usr/bin/env node\n", *constants, *sources(("host.js", "command_line.js"))))
 
 
 def sources(names: Sequence[str]) -> List[str]:
     return [source(name) for name in names]
+
+
+# ---- the page
+
+# The sources of the page, in the order in which they name each other.
+SHARED = ("texts.js", "machine.js", "view.js")
+LIVE = ("telling.js", "images.js", "assembler.js", "assembling.js", "sources.js", "sentences.js", "machines.js", "live.js",
+        "keeping.js", "story.js", "exercises.js", "start.js")
+TABLES = ("sentences", "exercises", "story")
+
+
+def script(text: str, name: str = "", kind: str = "") -> str:
+    """An element that has a script; nothing in the text ends it."""
+    words = (f' id="{name}"' if name else "") + (f' type="{kind}"' if kind else "")
+    return f"<script{words}>\n{text}</script>\n"
+
+
+def live_page(modules: Dict[str, bytes], table: str, commit: str, examples: List[Dict[str, Any]]) -> str:
+    """The page that has both programs inside."""
+    values = {"table": rows_of(table), "made": {"commit": commit}, "examples": examples,
+              "modules": {name: packed(module) for name, module in modules.items()},
+              **{name: json.loads((PAGE.parent / f"{name}.json").read_text(encoding="utf-8")) for name in TABLES}}
+    scripts = [script("".join(constant(name, value) for name, value in values.items())),
+               script(source("host.js"), "host-source"), script(source("worker.js"), "worker-source", "text/plain"),
+               *(script(f'"use strict";\n\n{source(name)}') for name in (*SHARED, *LIVE))]
+    parts = {"style": source("run.css") + source("live.css"), "run": source("run.html"), "scripts": "".join(scripts)}
+    return filled(source("live.html"), parts)
+
+
+def filled(template: str, parts: Dict[str, str]) -> str:
+    """A template with what stands there between percent signs filled in."""
+    return re.sub(f"%({'|'.join(parts)})%", lambda found: parts[found[1]], template)

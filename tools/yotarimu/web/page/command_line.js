@@ -56,7 +56,7 @@ function helpPage() {
 }
 
 function versionLine() {
-  return `fractal ${table.find(([kind]) => kind === "version")[1]}, commit ${build.commit}, as WebAssembly\n`;
+  return `fractal ${table.find(([kind]) => kind === "version")[1]}, commit ${made.commit}, as WebAssembly\n`;
 }
 
 /** What a person at a terminal is told of a status. */
