@@ -19,8 +19,17 @@ const SHORT = {
 };
 const NOP = 0x13;
 
+/** A line of a source, which may have a name. */
+class Place {
+  constructor(source, line) { Object.assign(this, {source, line}); }
+
+  get told() { return this.source.name ? `${this.source.name}:${this.line}` : `Line ${this.line}`; }
+
+  get text() { return this.source.text.split("\n")[this.line - 1].trim(); }
+}
+
 /** A sentence on a line of a source. */
-function refuseLine(line, why) { throw new Refused(`Line ${line}: ${why}.`); }
+function refuseLine(place, why) { throw new Refused(`${place.told}: ${why}.`); }
 
 // ---- words of instructions
 
@@ -47,16 +56,16 @@ function withoutComments(text) {
 }
 
 /** The statements of a source, each with its line: labels, the word and its operands. */
-function statementsOf(text) {
-  return withoutComments(text).split("\n").flatMap((line, place) => splitOutside(line, ";").flatMap((part) => {
-    const labels = [];
+function statementsOf(source) {
+  return withoutComments(source.text).split("\n").flatMap((text, number) => splitOutside(text, ";").flatMap((part) => {
+    const labels = [], line = new Place(source, number + 1);
     let rest = part.trim();
     for (let found; (found = /^([.\w$]+)\s*:\s*/.exec(rest)); rest = rest.slice(found[0].length)) labels.push(found[1]);
     const assigned = /^([.\w$]+)\s*=\s*(.+)$/.exec(rest);
-    if (assigned) return [{line: place + 1, labels, word: ".set", operands: assigned.slice(1)}];
+    if (assigned) return [{line, labels, word: ".set", operands: assigned.slice(1)}];
     const found = /^(\S+)\s*(.*)$/.exec(rest);
-    if (!found) return labels.length ? [{line: place + 1, labels, word: "", operands: []}] : [];
-    return [{line: place + 1, labels, word: found[1].toLowerCase(), operands: splitOutside(found[2], ",").map((it) => it.trim())
+    if (!found) return labels.length ? [{line, labels, word: "", operands: []}] : [];
+    return [{line, labels, word: found[1].toLowerCase(), operands: splitOutside(found[2], ",").map((it) => it.trim())
       .filter((it, number, all) => it || all.length > 1)}];
   }));
 }

@@ -4,10 +4,11 @@ import {createInterface} from "node:readline";
 
 class Refused extends Error {}
 
-function made({text, image}) {
+function made({sources, image}) {
   if (image !== undefined) return {listing: disassembled(new Uint8Array(Buffer.from(image, "base64")))};
   try {
-    return {image: Buffer.from(assembledImage(text)).toString("base64")};
+    const assembly = assembled(...sources);
+    return {image: Buffer.from(imageOf(assembly)).toString("base64"), listing: listingOf(assembly)};
   } catch (error) {
     if (error instanceof Refused) return {refused: error.message};
     throw error;

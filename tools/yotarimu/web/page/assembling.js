@@ -6,42 +6,52 @@ const DATA_SIZES = {".byte": 1, ".half": 2, ".short": 2, ".2byte": 2, ".hword": 
 const WITHOUT_EFFECT = [".globl", ".global", ".local", ".type", ".option", ".file", ".ident", ".attribute", ".loc"];
 const MOST_SECTION = 16777216;
 
+const isPart = (section, name) => section.name === name || section.name.startsWith(`${name}.`);
+
 class Section {
-  constructor(name) { Object.assign(this, {name, bytes: [], alignment: 1, address: 0, size: 0}); }
+  constructor(name, source) { Object.assign(this, {name, source, bytes: [], alignment: 1, address: 0, size: 0}); }
 }
 
-/** A source assembled: `sections` by name, `labels`, and `lines`, by the address of each instruction. */
+/** Sources assembled: their `sections`, `labels` by name, and `lines`, by the address of each instruction. */
 class Assembly {
-  constructor(text) {
-    this.statements = statementsOf(text);
+  constructor(sources) {
+    this.sources = sources;
+    this.statements = sources.map(statementsOf);
     this.labels = new Map();
     this.locals = new Map();
     this.sizes = new Map();
     this.lines = new Map();
-    this.sections = new Map();
+    this.sections = [];
     for (this.pass of [1, 2]) {
       this.values = new Map();
       this.seen = new Map();
-      for (const section of this.sections.values()) section.bytes = [];
-      this.section = this.sectionOf(".text");
-      for (const statement of this.statements) this.follow(statement);
+      for (const section of this.sections) section.bytes = [];
+      this.statements.forEach((statements, source) => this.followAll(statements, source));
       if (this.pass === 1) this.place();
     }
   }
 
+  /** Each source has sections of its own. */
+  followAll(statements, source) {
+    this.source = source;
+    this.section = this.sectionOf(".text");
+    for (const statement of statements) this.follow(statement);
+  }
+
   sectionOf(name) {
-    if (!this.sections.has(name)) this.sections.set(name, new Section(name));
-    return this.sections.get(name);
+    const found = this.sections.find((it) => it.name === name && it.source === this.source);
+    if (found) return found;
+    this.sections.push(new Section(name, this.source));
+    return this.sections.at(-1);
   }
 
   /** Where each section stands: the text and what is fixed from the one address on, the data from the other. */
   place() {
-    for (const section of this.sections.values()) section.size = section.bytes.length;
-    const known = (name) => [...this.sections.values()].filter((it) => it.name === name || it.name.startsWith(`${name}.`));
+    for (const section of this.sections) section.size = section.bytes.length;
     let next = TEXT_START;
     for (const name of SECTIONS) {
       if (name === ".data") next = DATA_START;
-      for (const section of known(name)) {
+      for (const section of this.sections.filter((it) => isPart(it, name))) {
         if (!section.size) continue;
         const step = Math.max(4, section.alignment);
         section.address = next = Math.ceil(next / step) * step;

@@ -41,8 +41,8 @@ async function judgeJournal({image}, answer) {
   const texts = exercises.journal;
   const given = answer.split(/\r\n?|\n/).map((line, place) => [place + 1, line.split("#")[0].trim().split(/\s+/).filter(Boolean)])
     .filter(([, fields]) => fields.length);
-  const misshapen = given.find(([, fields]) => fields.length !== texts.fields.length);
-  if (misshapen) throw new Refused(filled(texts.misshapen, {line: misshapen[0], text: misshapen[1].join(" ").slice(0, MOST_SHOWN)}));
+  const odd = given.find(([, fields]) => fields.length !== texts.fields.length);
+  if (odd) throw new Refused(`Line ${odd[0]}: ${filled(texts.misshapen, {text: odd[1].join(" ").slice(0, MOST_SHOWN)})}.`);
   const {entries, output} = await runOf(image);
   given.slice(0, entries.length).forEach(([line, fields], place) => {
     const wrong = texts.fields.filter((_, field) => fields[field] !== entries[place][field]);
@@ -82,7 +82,7 @@ function numbered(answer) {
 }
 
 async function judgeFalseConflict({image, words, script: text}, answer) {
-  const made = assembledImage(answer), acts = numbered(text), texts = exercises.false_conflict;
+  const made = imageOf(assembled({name: "", text: answer})), acts = numbered(text), texts = exercises.false_conflict;
   const before = await playedOf(image, acts.map(([, act]) => act), words);
   const {said, report} = await playedOf(made, acts.map(([, act]) => act), words);
   const seen = ({entries, output, end}) => JSON.stringify([entries, output, end]);
@@ -93,7 +93,7 @@ async function judgeFalseConflict({image, words, script: text}, answer) {
 }
 
 async function judgeOrder({image}, answer) {
-  const made = assembledImage(answer), texts = exercises.order, [header, own] = [headerOf(made), headerOf(image)];
+  const made = imageOf(assembled({name: "", text: answer})), texts = exercises.order, [header, own] = [headerOf(made), headerOf(image)];
   const textOf = (bytes, {dataAt}) => bytes.subarray(HEADER_BYTES, dataAt).join();
   hold(textOf(made, header) === textOf(image, own), texts.text);
   const letters = (it) => tasksOf(it).map((task) => task.args.join()).sort().join(" ");
@@ -124,7 +124,7 @@ function openExercise() {
   return perform(async () => {
     await openExample(example);
     if (answer !== "script") setAnswer(answer === "source" ? example.source : "");
-    at("exercise-text").textContent = text + (answer === "script" ? " Your answer are the acts that you make." : "");
+    at("exercise-text").textContent = text + (answer === "script" ? " Your answer is the acts that you make." : "");
     at("answer-box").hidden = answer === "script";
     at("source-text").value = example.source;
     at("exercise-box").hidden = false;
@@ -159,12 +159,12 @@ function listenToExercises() {
   at("exercise-open").addEventListener("click", openExercise);
   at("exercise").addEventListener("change", () => { at("exercise-box").hidden = true; });
   at("judge").addEventListener("click", judge);
-  at("assemble").addEventListener("click", () => perform(assembleSource));
+  at("assemble").addEventListener("click", () => perform(() => openSources([{name: "task.s", text: at("source-text").value}])));
 }
 
-/** Assembles the page's source, and opens what it makes. */
-async function assembleSource() {
-  const image = assembledImage(at("source-text").value);
-  await open({name: "source", image, listing: [], course: {kind: "least"}}, 0);
+/** Assembles sources, and opens what they make. */
+async function openSources(sources, more = {course: {kind: "least"}}, place = 0) {
+  const assembly = assembled(...sources), image = imageOf(assembly);
+  await open({name: sources[0].name, image, listing: listingOf(assembly), sources, ...more}, place);
   at("assembled").textContent = `The image has ${plural(image.length, "byte")}.`;
 }

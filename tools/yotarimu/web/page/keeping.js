@@ -82,6 +82,7 @@ async function addressNow() {
   const parts = new URLSearchParams();
   const example = examples.find((it) => it.name === subject.name);
   if (example) parts.set("example", example.name);
+  else if (subject.sources) parts.set("sources", await packedText(new TextEncoder().encode(JSON.stringify(subject.sources))));
   else {
     parts.set("name", subject.name);
     parts.set("image", await packedText(subject.image));
@@ -114,20 +115,30 @@ function writeAddress() {
 async function openAddress() {
   const address = location.hash.slice(1);
   if (!address || address === written) return false;
-  const parts = new URLSearchParams(address);
-  const example = examples.find((it) => it.name === parts.get("example"));
-  if (!example && !parts.get("image")) throw new Refused("The address names no example and has no image, so it isn't followed.");
-  const [kind, rounds, seed] = (parts.get("acts") ?? "steps").split(" ");
+  const parts = new URLSearchParams(address), [kind, rounds, seed] = (parts.get("acts") ?? "steps").split(" ");
   if (!["steps", "least", "lockstep"].includes(kind)) throw new Refused("The address has acts of no kind that is known here.");
   const options = Object.fromEntries(optionRows.filter(([, name]) => parts.has(name)).map(([, name]) => [name, parts.get(name)]));
-  const place = Number(parts.get("at"));
+  const acts = parts.has("script") ? actsIn(new TextDecoder().decode(await read(parts.get("script")))) : [];
+  const number = Number(parts.get("at") ?? NaN), place = Number.isInteger(number) && number >= 0 ? number : Infinity;
+  const more = {options, acts, course: {kind, rounds, seed}};
+  if (parts.get("sources")) await openSources(sourcesRead(await read(parts.get("sources"))), more, place);
+  else await open({...(await imageAt(parts)), ...more}, place);
   written = address;
-  await open({name: example?.name ?? parts.get("name") ?? "image", options,
-    image: example ? bytesOf(example.image) : await read(parts.get("image")),
-    listing: example ? listingRows(example.listing) : [],
-    acts: parts.has("script") ? actsIn(new TextDecoder().decode(await read(parts.get("script")))) : [],
-    course: {kind, rounds: rounds ?? undefined, seed}}, Number.isInteger(place) && place >= 0 ? place : Infinity);
   return true;
+}
+
+/** The image that an address names or has. */
+async function imageAt(parts) {
+  const example = examples.find((it) => it.name === parts.get("example"));
+  if (example) return {name: example.name, image: bytesOf(example.image), listing: listingRows(example.listing)};
+  if (!parts.get("image")) throw new Refused("The address names no example and has no image, so it isn't followed.");
+  return {name: parts.get("name") || "image", image: await read(parts.get("image"))};
+}
+
+function sourcesRead(bytes) {
+  const sources = JSON.parse(new TextDecoder().decode(bytes));
+  at("source-text").value = sources[0].text;
+  return sources;
 }
 
 async function read(text) {

@@ -126,6 +126,7 @@ function showAnswer({isNew, kept, place}) {
     buildCurves();
   }
   showScript();
+  at("example").value = String(examples.findIndex((it) => it.name === subject.name));
   go(place);
 }
 
@@ -276,10 +277,12 @@ function addTyped(text) {
 // ---- what is opened
 
 /** Shows another image with its script and its options. */
-function open({name, image, listing = [], acts = [], options = {}, course: wanted = {kind: "steps"}}, place = Infinity) {
+function open({name, image, listing = [], acts = [], options = {}, course: wanted = {kind: "steps"}, sources = null},
+  place = Infinity) {
   return change(() => {
     const rows = listing.length ? listing : disassembled(image);
-    subject = {name, image, listing: rows, labels: new Labels(labelsIn(rows))};
+    subject = {name, image, listing: rows, labels: new Labels(labelsIn(rows)), sources};
+    at("story").hidden = true;
     script = acts;
     undoLengths = [];
     setOptions(options);
@@ -318,7 +321,7 @@ async function openFiles(files) {
   const text = (file) => (file ? new TextDecoder().decode(file.bytes) : "");
   if (!kinds.image && kinds.source) {
     at("source-text").value = text(kinds.source);
-    return assembleSource();
+    return openSources(read.filter((file) => kindOf(file) === "source").map((file) => ({name: file.name, text: text(file)})));
   }
   if (!kinds.image && kinds.script && !kinds.other) return change(() => {
     script = actsIn(text(kinds.script));
@@ -349,9 +352,10 @@ function buildPlaces({tiles, cores}) {
   if (chosen[1] < cores) at("core").value = chosen[1] || 0;
 }
 
+/** The script as text, where it is open: a long one takes long to be laid out. */
 function showScript() {
-  const acts = courseNow().kind === "steps" ? script : [];
-  at("script").value = scriptText(acts);
+  if (!at("script-box").open) return;
+  at("script").value = scriptText(courseNow().kind === "steps" ? script : []);
   at("script").scrollTop = at("script").scrollHeight;
 }
 
@@ -371,7 +375,7 @@ function fieldHtml([, name, values, usual, bounds]) {
 function buildControls() {
   at("options").innerHTML = optionRows.map(fieldHtml).join("");
   setOptions({});
-  at("example").innerHTML = [...new Set(examples.map((it) => it.group))].map((group) => `<optgroup label="${group}">${
+  at("example").innerHTML = '<option value="-1">of my own</option>' + [...new Set(examples.map((it) => it.group))].map((group) => `<optgroup label="${group}">${
     examples.map((it, place) => (it.group === group ? `<option value="${place}">${escaped(it.title)}</option>` : "")).join("")
   }</optgroup>`).join("");
   at("made").textContent = `Version ${table.find(([kind]) => kind === "version")[1]}, made of the commit ${made.commit}.`;
@@ -379,7 +383,10 @@ function buildControls() {
 
 function listenToControls() {
   const on = (id, event, action) => at(id).addEventListener(event, action);
-  on("example", "change", () => perform(() => openExample(examples[at("example").value])));
+  on("example", "change", () => {
+    if (at("example").value === "-1") at("file").click();
+    else perform(() => openExample(examples[at("example").value]));
+  });
   on("options", "change", () => perform(changedOption));
   for (const id of ["course", "rounds", "seed"]) on(id, "change", () => perform(changedOption));
   on("file", "change", () => perform(() => openFiles([...at("file").files]).finally(() => { at("file").value = ""; })));
@@ -389,6 +396,7 @@ function listenToControls() {
   on("undo", "click", undoLast);
   on("stop", "click", () => machines.stop());
   on("typed", "keydown", (event) => { if (event.key === "Enter") doTyped(); });
+  on("script-box", "toggle", showScript);
   on("script", "change", () => perform(() => change(() => {
     script = actsIn(at("script").value);
     setCourse({kind: "steps"});

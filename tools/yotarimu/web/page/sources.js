@@ -4,19 +4,20 @@ const MOST_TEXT_WORDS = 65536, MOST_WINDOW = 4096, MOST_TASKS = 65536, MOST_VALU
 const FORMS = {root: "root ordered` or `# image: root unordered", data: "data BYTES", window: "window LABEL [WORDS]",
   task: "task LABEL [ts N] [args A [B [C]]]", version: "version 1` or `# image: version 2"};
 
-/** The lines of a source that describe the image: their number and their words. */
-function descriptionOf(text) {
-  return text.split("\n").map((line, place) => [place + 1, /^\s*#+\s*image\s*:(.*)/i.exec(line)]).filter(([, found]) => found)
-    .map(([line, found]) => ({line, words: found[1].trim().split(/\s+/).filter(Boolean)}));
+/** The lines of a source that describe the image, each with its words. */
+function descriptionOf(source) {
+  return source.text.split("\n").flatMap((text, number) => {
+    const found = /^\s*#+\s*image\s*:(.*)/i.exec(text);
+    return found ? [{line: new Place(source, number + 1), words: found[1].trim().split(/\s+/).filter(Boolean)}] : [];
+  });
 }
 
 /** What the source's lines say of the image, over what was assembled. */
 class Described {
-  constructor(text, assembly) {
+  constructor(assembly) {
     Object.assign(this, {assembly, isOrdered: true, version: 1, tasks: [], window: [0, 0], seen: new Map()});
     this.dataBytes = Math.ceil(sizeOfData(assembly) / 4) * 4;
-    const lines = descriptionOf(text);
-    for (const it of lines) this.follow(it);
+    for (const it of assembly.sources.flatMap(descriptionOf)) this.follow(it);
     const window = this.seen.get("window");
     if (window) this.window = this.windowOf(window);
     if (!this.tasks.length) throw new Refused("No line tells an initial task: `# image: task LABEL [ts N] [args A [B [C]]]`.");
@@ -56,7 +57,7 @@ class Described {
   labelOf(name, sections, what, line) {
     const label = this.assembly.labels.get(name);
     if (!label) refuseLine(line, `there is no label \`${name}\``);
-    if (!sections.some((it) => label.section.name === it || label.section.name.startsWith(`${it}.`))) {
+    if (!sections.some((it) => isPart(label.section, it))) {
       refuseLine(line, `the label \`${name}\` doesn't stand in the ${what}`);
     }
     return label.section.address + label.offset;
@@ -97,8 +98,7 @@ class Described {
   }
 }
 
-const sectionsAs = (assembly, names) => [...assembly.sections.values()].filter((it) => it.size
-  && names.some((name) => it.name === name || it.name.startsWith(`${name}.`)));
+const sectionsAs = (assembly, names) => assembly.sections.filter((it) => it.size && names.some((name) => isPart(it, name)));
 
 /** The bytes from a place on that these sections have. */
 function bytesFrom(start, sections) {
@@ -112,13 +112,13 @@ function sizeOfData(assembly) {
   return Math.max(0, ...sectionsAs(assembly, SECTIONS.slice(3)).map((it) => it.address + it.size - DATA_START));
 }
 
-/** The image of a source in assembly. */
-function assembledImage(text) {
-  return imageOf(text, new Assembly(text));
+/** Sources in assembly, with the same ends of lines whatever system they come from. */
+function assembled(...sources) {
+  return new Assembly(sources.map(({name, text}) => ({name, text: text.replace(/\r\n?/g, "\n")})));
 }
 
-function imageOf(text, assembly) {
-  const told = new Described(text, assembly);
+function imageOf(assembly) {
+  const told = new Described(assembly);
   const own = bytesFrom(TEXT_START, sectionsAs(assembly, SECTIONS.slice(0, 3)));
   const textBytes = joined([own], Math.ceil(own.length / 4) * 4), data = bytesFrom(DATA_START, sectionsAs(assembly, [".data", ".sdata"]));
   if (textBytes.length / 4 > MOST_TEXT_WORDS) throw new Refused(`${textBytes.length / 4} words of text are more than an image may have.`);
@@ -134,19 +134,26 @@ function imageOf(text, assembly) {
   return joined(parts, parts.reduce((size, part) => size + part.length, 0));
 }
 
-/** The listing of a source: labels, instructions with their lines, and labels of data. */
-function listingOf(text, assembly, name) {
-  const lines = text.split("\n"), rows = [[null, `What stands where in image.bin, made of ${name}: address, word, instruction, source line.`]];
+/** The listing of sources: labels, instructions with their lines, and labels of data. */
+function listingOf(assembly) {
+  const names = assembly.sources.map(({name}) => name).join(", ");
   const labels = [...assembly.labels].filter(([label]) => !label.startsWith(".L"))
     .map(([label, it]) => [it.section.address + it.offset, label]).sort(([one], [two]) => one - two);
   const labelled = (address) => labels.filter(([it]) => it === address).map(([, label]) => [null, `${hex(address)} <${label}>:`]);
+  const rows = [[null, `What stands where in image.bin, made of ${names}: address, word, instruction, source line.`]];
   for (const section of sectionsAs(assembly, [".text"])) {
     for (let place = 0; place + 4 <= section.size; place += 4) {
-      const address = section.address + place, number = assembly.lines.get(address);
-      const word = section.bytes.slice(place, place + 4).reduceRight((sum, byte) => sum * 256 + byte, 0);
-      const source = number ? ` | ${name}:${number} | ${lines[number - 1].trim()}` : "";
-      rows.push(...labelled(address), [address, `${hex(address)}  ${hex(word)}  ${instructionTold(word, address).padEnd(28)}${source}`]);
+      const address = section.address + place;
+      rows.push(...labelled(address), [address, instructionRow(assembly, section, place)]);
     }
   }
-  return [...rows, ...labels.filter(([address]) => address >= DATA_START).flatMap(([address]) => labelled(address))];
+  const ofData = new Set(labels.map(([address]) => address).filter((address) => address >= DATA_START));
+  return [...rows, ...[...ofData].flatMap(labelled)];
+}
+
+function instructionRow({lines}, section, place) {
+  const address = section.address + place, line = lines.get(address);
+  const word = section.bytes.slice(place, place + 4).reduceRight((sum, byte) => sum * 256 + byte, 0);
+  const told = `${hex(address)}  ${hex(word)}  ${instructionTold(word, address)}`;
+  return line ? `${told.padEnd(48)} | ${line.told} | ${line.text}` : told;
 }

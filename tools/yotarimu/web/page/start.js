@@ -11,11 +11,11 @@ async function begin() {
   listenToExercises();
   machines = new Machines(modules);
   await machines.start();
-  await perform(async () => {
-    if (!(await openAddress())) await openExample(examples[0]);
-  });
-  if (!course) await perform(() => openExample(examples[0]));
-  else if (!location.hash) await openStory();
+  let isFollowed = false;
+  await perform(async () => { isFollowed = await openAddress(); });
+  const refused = at("message").textContent;
+  if (!isFollowed) await openStory();
+  if (refused) tell(refused);
   document.body.dataset.ready = "yes";
 }
 

@@ -235,8 +235,7 @@ function buildCurves() {
 
 function buildCurve(id, curves, what) {
   const most = curves.reduce((found, [name]) => course.curves[name].reduce((a, b) => Math.max(a, b), found), 1);
-  at(id).innerHTML = curves.map(([name, style]) => curvePath(course.curves[name], most, style)).join("")
-    + '<line y1="0" y2="100"/>';
+  at(id).innerHTML = curves.map(([name, style]) => curvePath(course.curves[name], most, style)).join("");
   const samples = curves.map(([name, style]) => (
     `<svg class="sample" aria-hidden="true" viewBox="0 0 44 10"><path class="${style}" d="M0,5L44,5"/></svg> `
     + (CURVE_NAMES[name] ?? name)));
@@ -244,11 +243,9 @@ function buildCurve(id, curves, what) {
 }
 
 function showCurves(place) {
-  const across = (place / Math.max(1, course.length)) * 1000;
-  for (const line of document.querySelectorAll("#tasks line, #work line")) {
-    line.setAttribute("x1", across);
-    line.setAttribute("x2", across);
-  }
+  // The mark stands over the curves, which needn't be painted anew then.
+  const across = place / Math.max(1, course.length);
+  for (const mark of document.querySelectorAll(".mark")) mark.style.transform = `translateX(${(across * 100).toFixed(3)}%)`;
   const [idle, running, finished, spilled, useful, wasted] = CURVES.map((name) => course.curves[name][place]);
   at("counts").textContent = `Behind this act: ${plural(idle, "task")} idle, ${running} running or trapped, `
     + `${finished} finished, ${spilled} spilled; ${plural(useful, "instruction")} executed by tasks that committed, `
