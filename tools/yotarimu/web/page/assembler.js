@@ -102,7 +102,8 @@ function bytesInQuotes(text, line) {
 
 // ---- expressions
 
-const LEVELS = [["|"], ["^"], ["&"], ["<<", ">>"], ["+", "-"], ["*", "/", "%"]];
+// As GNU as has them, and not C.
+const LEVELS = [["+", "-"], ["|", "&", "^"], ["*", "/", "%", "<<", ">>"]];
 const OPERATIONS = {"|": (a, b) => a | b, "^": (a, b) => a ^ b, "&": (a, b) => a & b, "<<": (a, b) => a * 2 ** b,
   ">>": (a, b) => Math.floor(a / 2 ** b), "+": (a, b) => a + b, "-": (a, b) => a - b, "*": (a, b) => a * b,
   "/": (a, b) => Math.trunc(a / b), "%": (a, b) => a % b};

@@ -36,6 +36,8 @@ class Assembly {
     this.source = source;
     this.section = this.sectionOf(".text");
     for (const statement of statements) this.follow(statement);
+    // GNU as fills sections of code up to their alignment.
+    for (this.section of this.sections.filter((it) => it.source === source && isPart(it, ".text"))) this.fillCode(4);
   }
 
   sectionOf(name) {
@@ -124,7 +126,7 @@ class Assembly {
   direct(word, operands, line) {
     const [first = ""] = operands;
     if (word in DATA_SIZES) for (const it of operands) this.datum(it, DATA_SIZES[word], line);
-    else if (SECTIONS.includes(word)) this.section = this.sectionOf(word);
+    else if ([".text", ".data", ".bss"].includes(word)) this.section = this.sectionOf(word);
     else if (word === ".section") this.openSection(first, operands, line);
     else if ([".ascii", ".asciz", ".string"].includes(word)) {
       for (const it of operands) this.put([...bytesInQuotes(it, line), ...(word === ".ascii" ? [] : [0])], line);
@@ -159,10 +161,15 @@ class Assembly {
     if (step & (step - 1)) refuseLine(line, "a power of two is wanted");
     const {section} = this;
     section.alignment = Math.max(section.alignment, step);
-    const missing = -section.bytes.length & (step - 1), isCode = section.name.startsWith(".text") && byte === undefined;
-    const zeros = isCode ? missing % 4 : missing;
-    this.put(new Uint8Array(zeros).fill(byte === undefined ? 0 : this.constant(byte, line) & 255), line);
-    for (let place = zeros; place < missing; place += 4) this.word(NOP, line);
+    if (isPart(section, ".text") && byte === undefined) this.fillCode(step, line);
+    else this.put(new Uint8Array(-section.bytes.length & (step - 1)).fill(this.constant(byte ?? "0", line) & 255), line);
+  }
+
+  /** Instructions that do nothing, up to a multiple of the section's alignment or of a step. */
+  fillCode(step, line = null) {
+    const missing = -this.section.bytes.length & ((line ? step : Math.max(step, this.section.alignment)) - 1);
+    this.put(new Uint8Array(missing % 4), line);
+    for (let place = missing % 4; place < missing; place += 4) this.word(NOP, line);
   }
 
   set([name = "", text = ""], line) { this.values.set(name, this.number(text, line)); }
@@ -177,7 +184,7 @@ class Assembly {
   // ---- instructions
 
   word(word, line) {
-    if (this.pass === 2) this.lines.set(this.here.value, line);
+    if (this.pass === 2 && line) this.lines.set(this.here.value, line);
     this.put([0, 8, 16, 24].map((shift) => word >>> shift & 255), line);
   }
 
@@ -384,7 +391,6 @@ class Instruction {
   }
 
   set(text) {
-    if (text === "0") return 0;
     if (!/^i?o?r?w?$/.test(text) || !text) this.refuse("it orders some of i, o, r and w, in this order");
     return FENCED.reduce((bits, sign, bit) => bits | (text.includes(sign) ? 1 << bit : 0), 0);
   }
@@ -405,5 +411,5 @@ const MADE = {
   li: (it) => it.constantInto(),
   la: (it) => it.address(), lla: (it) => it.address(),
   call: (it) => it.call(RA, RA), tail: (it) => it.call(ZERO, T1),
-  fence: (it) => it.fence(), "fence.tso": fixed(0x8330000f), pause: fixed(0x0100000f), ecall: fixed(0x73), ebreak: fixed(0x100073),
+  fence: (it) => it.fence(), "fence.tso": fixed(0x8330000f), ecall: fixed(0x73), ebreak: fixed(0x100073),
 };
