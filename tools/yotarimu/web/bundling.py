@@ -9,6 +9,7 @@ import re
 from typing import Any, Dict, List, Sequence
 
 PAGE = pathlib.Path(__file__).resolve().with_name("page")
+PACKAGE = PAGE.parent.parent
 
 
 def source(name: str) -> str:
@@ -20,9 +21,14 @@ def packed(module: bytes) -> str:
     return base64.b64encode(gzip.compress(module, 9, mtime=0)).decode("ascii")
 
 
+def within(value: Any) -> str:
+    """A value as JSON that may stand within a page: nothing in it ends the element around it."""
+    return json.dumps(value, separators=(",", ":")).replace("<", "\\u003c")
+
+
 def constant(name: str, value: Any) -> str:
-    """A constant of a script; nothing in it ends the element of a page around it."""
-    return f"const {name} = {json.dumps(value, separators=(',', ':'))};\n".replace("<", "\\u003c")
+    """A constant of a script."""
+    return f"const {name} = {within(value)};\n"
 
 
 def rows_of(table: str) -> List[List[str]]:
@@ -41,13 +47,18 @@ def sources(names: Sequence[str]) -> List[str]:
     return [source(name) for name in names]
 
 
-# ---- the page
+# ---- the pages
 
 # The sources of the page, in the order in which they name each other.
 SHARED = ("texts.js", "machine.js", "view.js")
 LIVE = ("telling.js", "images.js", "assembler.js", "assembling.js", "sources.js", "sentences.js", "machines.js", "live.js",
         "keeping.js", "story.js", "exercises.js", "start.js")
-TABLES = ("sentences", "exercises", "story")
+# What sentences are made of, for the tools too.
+TABLES = {"sentences": "common/sentences.json", "exercises": "courses/exercises.json", "story": "web/story.json"}
+
+
+def table_at(path: str) -> Any:
+    return json.loads((PACKAGE / path).read_text(encoding="utf-8"))
 
 
 def script(text: str, name: str = "", kind: str = "") -> str:
@@ -60,12 +71,20 @@ def live_page(modules: Dict[str, bytes], table: str, commit: str, examples: List
     """The page that has both programs inside."""
     values = {"table": rows_of(table), "made": {"commit": commit}, "examples": examples,
               "modules": {name: packed(module) for name, module in modules.items()},
-              **{name: json.loads((PAGE.parent / f"{name}.json").read_text(encoding="utf-8")) for name in TABLES}}
+              **{name: table_at(path) for name, path in TABLES.items()}}
     scripts = [script("".join(constant(name, value) for name, value in values.items())),
                script(source("host.js"), "host-source"), script(source("worker.js"), "worker-source", "text/plain"),
                *(script(f'"use strict";\n\n{source(name)}') for name in (*SHARED, *LIVE))]
     parts = {"style": source("run.css") + source("live.css"), "run": source("run.html"), "scripts": "".join(scripts)}
     return filled(source("live.html"), parts)
+
+
+def recorded_page(title: str, values: Dict[str, str]) -> str:
+    """The page of a run that was recorded, from the JSON of what it shows."""
+    data = "".join(f'<script type="application/json" id="{name}-data">{value}</script>\n' for name, value in values.items())
+    scripts = (script(f'"use strict";\n\n{source(name)}') for name in (*SHARED, "recorded.js"))
+    parts = {"title": title, "style": source("run.css"), "run": source("run.html"), "data": data, "scripts": "".join(scripts)}
+    return filled(source("recorded.html"), parts)
 
 
 def filled(template: str, parts: Dict[str, str]) -> str:

@@ -7,7 +7,7 @@ import subprocess
 import tempfile
 from typing import List, Sequence
 
-from yotarimu.common.command import Refused
+from yotarimu.common.outcome import Refused
 from yotarimu.web.narrowing import narrowed
 from yotarimu.web.retargeting import KNOWN_TRIPLE, TARGET, retargeted
 

@@ -7,7 +7,7 @@ from __future__ import annotations
 
 from typing import Tuple
 
-from yotarimu.common.command import Refused
+from yotarimu.common.outcome import Refused
 
 HEADER = 8
 TABLES, ELEMENTS, CODE = 4, 9, 10

@@ -8,7 +8,7 @@ from __future__ import annotations
 
 import re
 
-from yotarimu.common.command import Refused
+from yotarimu.common.outcome import Refused
 
 TARGET = "wasm64-unknown-unknown"
 KNOWN_TRIPLE = "x86_64-unknown-linux-gnu"
