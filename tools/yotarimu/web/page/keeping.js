@@ -172,5 +172,5 @@ function listenToTexts() {
   for (const button of document.querySelectorAll("[data-save]")) {
     button.addEventListener("click", () => perform(() => save(button.dataset.save)));
   }
-  addEventListener("hashchange", () => perform(openAddress));
+  addEventListener("hashchange", () => { if (location.hash.slice(1) !== written) perform(openAddress); });
 }

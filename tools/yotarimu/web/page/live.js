@@ -3,6 +3,8 @@
 const MOST_INPUT = 67108864, MOST_AT_ONCE = 10000;
 // After so many milliseconds a call that still runs is told, and can be stopped.
 const PATIENCE = 300;
+// The status of a call whose output wasn't taken whole.
+const UNWRITTEN = 7;
 const optionRows = table.filter(([kind, name]) => kind === "option" && name !== "workers");
 const actWords = {dispatch: 1, step: 2, take: 2, give: 2, abort: 1, commit: 0, coalesce: 1, split: 1, advance: 0};
 // Replies to what nothing asked for, in rounds.
@@ -104,12 +106,10 @@ async function play(place = Infinity) {
   const text = new TextDecoder().decode(output.subarray(0, 200));
   if (text.startsWith('{"fault"')) throw new Refused(faultTold(JSON.parse(text.split("\n")[0])));
   if (!output.length) throw new Refused(`${statusTold(status)}: status ${status}.`);
-  const had = telling.course;
-  const {kept} = telling.take(output);
+  const had = telling.course, kept = await telling.take(output);
   showAnswer({isNew: telling.course !== had, kept, place});
   const size = `${plural(output.length, "byte")}, ${milliseconds.toFixed(0)} ms`;
-  const broken = telling.end ? "" : ` ${statusTold(status)}: the text isn't whole.`;
-  at("call").textContent = `fractal watch ${words.join(" ")}: status ${status}, ${size}.${broken}`;
+  at("call").textContent = `fractal watch ${words.join(" ")}: status ${status}, ${size}.${telling.end ? "" : brokenOff(status)}`;
   lastOptions = {options: optionsNow(), course: courseNow()};
   clearTexts();
 }
@@ -149,6 +149,12 @@ async function change(make, place) {
   }
 }
 
+/** What is said of a text without its end. */
+function brokenOff(status) {
+  return status === UNWRITTEN ? ` So long a run isn't shown whole: these are its first ${plural(course.length, "act")}.`
+    : ` ${statusTold(status)}: the text isn't whole.`;
+}
+
 function statusTold(status) {
   const row = table.find(([kind, number]) => kind === "status" && number === String(status));
   return row ? `${row[2][0].toUpperCase()}${row[2].slice(1)}` : "The program told nothing";
@@ -182,6 +188,7 @@ function actFault(act, line) {
   const where = line ? `Line ${line}, \`${act.slice(0, 40)}\`` : `\`${act.slice(0, 40)}\``;
   if (!Object.hasOwn(actWords, word)) return `${where}, is no act; an act begins with ${Object.keys(actWords).join(", ")}.`;
   if (numbers.length !== actWords[word]) return `${where}: it wants ${["no number", "a tile", "a tile and a core"][actWords[word]]}.`;
+  if (numbers.some((it) => /^0\d/.test(it))) return `${where}: a number has no leading zero.`;
   if (numbers[0] !== undefined && !isAllowed(`0..${tiles - 1}`, numbers[0])) return `${where}: the tiles are 0 to ${tiles - 1}.`;
   if (numbers[1] !== undefined && !isAllowed(`0..${cores - 1}`, numbers[1])) return `${where}: the cores are 0 to ${cores - 1}.`;
   return `${where}: it isn't written as an act is.`;

@@ -1,7 +1,7 @@
 // ---- calls of the machine from the page
 
-// More output than this isn't shown: the program is told that it can't be written, which is its status 7.
-const MOST_OUTPUT = 192 << 20;
+// More output than this isn't shown: the program is told that it can't be written.
+const MOST_OUTPUT = 32 << 20;
 
 /** A call that was stopped by a person. */
 class Stopped extends Error {}

@@ -1,6 +1,9 @@
 // ---- the lines that the second program writes: an answer that begins as the one before isn't read again
 
 const NEWLINE = 10;
+// So many milliseconds at a time are spent on reading, so that the page stays alive.
+const MOST_MILLISECONDS = 40;
+const pause = () => new Promise((resolve) => setTimeout(resolve));
 
 /** A run as it was told last. */
 class Telling {
@@ -12,8 +15,8 @@ class Telling {
     this.opened = 0;
   }
 
-  /** Takes an answer. Gives back the fault that it tells, or null, with how many acts stand as they stood. */
-  take(bytes) {
+  /** Takes an answer. Gives back how many acts stand as they stood. */
+  async take(bytes) {
     const same = Math.min(sameBytes(this.bytes, bytes), bytes.length);
     if (!this.opened || same < this.opened) this.forget();
     const kept = countUpTo(this.actEnds, same);
@@ -22,23 +25,25 @@ class Telling {
     this.bytes = bytes;
     this.end = null;
     const start = this.actEnds.at(-1) ?? this.opened;
-    const fault = this.read(start);
-    if (this.course === null && this.head !== null && fault === null) this.open(bytes.length);
-    return {fault, kept};
+    await this.read(start);
+    if (this.course === null && this.head !== null) this.open(bytes.length);
+    return kept;
   }
 
-  read(start) {
+  async read(start) {
     const text = new TextDecoder();
+    let begin = performance.now();
     for (let place = start; place < this.bytes.length;) {
+      if (performance.now() - begin > MOST_MILLISECONDS) {
+        await pause();
+        begin = performance.now();
+      }
       const newline = this.bytes.indexOf(NEWLINE, place);
       // A line that was cut off tells nothing.
       if (newline < 0) break;
-      const line = JSON.parse(text.decode(this.bytes.subarray(place, newline)));
-      if ("fault" in line) return line;
-      this.follow(line, place, newline + 1);
+      this.follow(JSON.parse(text.decode(this.bytes.subarray(place, newline))), place, newline + 1);
       place = newline + 1;
     }
-    return null;
   }
 
   follow(line, start, behind) {

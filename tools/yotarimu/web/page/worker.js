@@ -2,14 +2,16 @@
 
 let programs;
 
-/** Makes both programs once, and then answers each call. */
+async function made(modules) {
+  const pairs = Object.entries(modules).map(async ([name, text]) => [name, await Program.unpacked(text)]);
+  return Object.fromEntries(await Promise.all(pairs));
+}
+
+/** Makes both programs at first, and then answers each call. */
 async function answer({number, modules, program, words, input, most}) {
-  if (modules) {
-    const made = Object.entries(modules).map(async ([name, text]) => [name, await Program.unpacked(text)]);
-    programs = Object.fromEntries(await Promise.all(made));
-    return {number};
-  }
-  return {number, ...programs[program].call(words, input, most)};
+  if (modules) programs = made(modules);
+  const ready = await programs;
+  return modules ? {number} : {number, ...ready[program].call(words, input, most)};
 }
 
 onmessage = async ({data}) => {

@@ -2,9 +2,9 @@
 
 import {createInterface} from "node:readline";
 
-function toldOf({text, labels}) {
+async function toldOf({text, labels}) {
   const telling = new Telling();
-  telling.take(new TextEncoder().encode(text));
+  await telling.take(new TextEncoder().encode(text));
   const {course, head, end} = telling, sayer = new Sayer(head, new Labels(labels));
   const told = [sayer.opening()];
   for (let place = 1; place <= course.length; place++) {
@@ -22,5 +22,5 @@ function stateOf(machine) {
 }
 
 for await (const line of createInterface({input: process.stdin})) {
-  console.log(JSON.stringify(toldOf(JSON.parse(line))));
+  console.log(JSON.stringify(await toldOf(JSON.parse(line))));
 }
