@@ -3,7 +3,9 @@
 import {readFileSync} from "node:fs";
 import {join} from "node:path";
 import {pathToFileURL} from "node:url";
-import {Page} from "./chromium.mjs";
+
+const BROWSER = process.env.BROWSER ?? "chromium";
+const {Page} = await import(`./${BROWSER}.mjs`);
 
 const [, , file, examples, shots] = process.argv;
 const url = pathToFileURL(file).href;
@@ -211,7 +213,8 @@ const TRIES = {
     await Driver.at("#example=schedules/conflict&acts=steps", WIDE, async (driver) => {
       await driver.page.run("document.body.focus()");
       const names = [];
-      for (let tab = 0; tab < 60; tab++) {
+      // Behind the last one the browser's own fields come.
+      for (let tab = 0; tab < 60 && names.at(-1) !== "assemble"; tab++) {
         await driver.page.press("Tab");
         names.push(await driver.page.run("document.activeElement.id || document.activeElement.dataset.act || document.activeElement.tagName"));
       }
@@ -230,7 +233,8 @@ const TRIES = {
 
   async "a narrow page needs no scrolling sideways, and dark has its own colours"() {
     await Driver.at("#example=schedules/conflict&acts=least&at=4", NARROW, async (driver) => {
-      expect((await driver.page.run("document.documentElement.scrollWidth")) <= 390, "no wider than the screen", await driver.see());
+      const [width, shown] = await driver.page.run("[document.documentElement.scrollWidth, innerWidth]");
+      expect(width <= shown, "no wider than the screen", [width, shown]);
       await driver.shoot("narrow", true);
     });
     await Driver.at("#example=schedules/conflict&acts=least&at=4", {dark: true}, async (driver) => {
