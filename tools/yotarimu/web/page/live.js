@@ -117,8 +117,8 @@ async function play(place = Infinity) {
 function showAnswer({isNew, kept, place}) {
   ({course} = telling);
   const sayer = new Sayer(telling.head, subject.labels);
-  saying = (act) => sentenceAt(sayer, act);
-  machineShown = null;
+  saying = (act, before, behind) => sentenceAt(sayer, act, before, behind);
+  lastShown = null;
   if (isNew) {
     build(subject.listing);
     buildPlaces(telling.head);
@@ -130,9 +130,8 @@ function showAnswer({isNew, kept, place}) {
   go(place);
 }
 
-function sentenceAt(sayer, act) {
-  const told = act === 0 ? sayer.opening()
-    : sayer.sentence(course.acts[act - 1], course.at(act - 1), course.at(act));
+function sentenceAt(sayer, act, before, behind) {
+  const told = act === 0 ? sayer.opening() : sayer.sentence(course.acts[act - 1], before, behind);
   return act === course.length && telling.end ? `${told} ${sayer.end(telling.end)}` : told;
 }
 

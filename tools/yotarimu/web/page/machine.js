@@ -100,7 +100,7 @@ class Machine {
       }
       const task = this.tasks.get(id);
       this.putOff(task);
-      this.replace(id, {state: "idle", core: null, number: null, work: 0, pc: task.entry, children: []});
+      this.replace(id, {state: "idle", core: null, number: null, work: 0, pc: task.entry, made: 0, children: []});
       this.act.back.add(id);
     }
   }
@@ -183,11 +183,12 @@ const CHANGES = {
 };
 
 function enqueue(machine, creator, line) {
-  const index = creator.children.length;
-  machine.replace(creator.id, {children: [...creator.children, line.new]});
+  // Children that were spilled before the page begins have names, and aren't in the list.
+  const index = creator.made;
+  machine.replace(creator.id, {made: index + 1, children: [...creator.children, line.new]});
   machine.arrive({
     id: line.new, tile: line.in, state: "idle", core: null, name: null, creator: creator.id, index, ts: line.ts,
-    entry: line.entry, pc: line.entry, number: null, work: 0, children: [],
+    entry: line.entry, pc: line.entry, number: null, work: 0, made: 0, children: [],
   });
 }
 

@@ -108,7 +108,7 @@ class Sayer {
   }
 
   commit(line, before, behind) {
-    const turn = behind.commits, count = before.tasks.get(line.task).children.length;
+    const turn = behind.commits, count = before.tasks.get(line.task).made;
     const texts = sentences.commit, values = {turn, count, last: count - 1};
     return {name: line.name.join("."), turn,
       output: "output" in line ? filled(texts.output, {text: printable(line.output)}) : "",

@@ -80,7 +80,7 @@ function openingOf(head, placed) {
   for (const line of placed) {
     const task = {id: line.new ?? null, tile: line.tile, state: "new" in line ? "idle" : "spilled", core: null,
       name: line.name, creator: null, index: line.name[1], ts: line.ts, entry: line.entry, pc: line.entry, number: null,
-      work: 0, children: []};
+      work: 0, made: 0, children: []};
     if (task.id === null) {
       opening.blocks[line.tile].push(task);
     } else {

@@ -11,7 +11,7 @@ const MOST_POINTS = 1000;
 const STATES = {idle: "i", running: "r", trapped: "t", finished: "f", spilled: ""};
 
 const at = (id) => document.getElementById(id);
-// What is shown: a course, and `saying(place)`, the text on an act.
+// What is shown: a course, and `saying(place, before, behind)`, the text on an act by the machine before and behind it.
 let course = null, saying = () => "";
 
 /** Sets a part of the page where it isn't as it stands: what doesn't change isn't laid out again. */
@@ -254,21 +254,23 @@ function showCurves(place) {
 
 // ---- going from act to act
 
-let current = 0, machineShown = null;
+let current = 0, lastShown = null;
 
-/** The machine behind an act. One act further than what is shown is one act more to follow. */
-function machineAt(place) {
-  if (machineShown?.course === course && place === machineShown.place + 1) machineShown.machine.follow(course.acts[place - 1]);
-  else if (machineShown?.course !== course || place !== machineShown.place) machineShown = {course, machine: course.at(place)};
-  machineShown.place = place;
-  return machineShown.machine;
+/** The machine before an act and behind it. One act further than what was shown last is one act more to follow. */
+function machinesAt(place) {
+  const isNext = lastShown?.course === course && lastShown.place === place - 1;
+  const before = place === 0 ? null : isNext ? lastShown.machine : course.at(place - 1);
+  const machine = place === 0 ? course.at(0) : before.copy();
+  if (place) machine.follow(course.acts[place - 1]);
+  lastShown = {course, place, machine};
+  return {before, machine};
 }
 
 function go(wanted) {
   current = Math.max(0, Math.min(course.length, wanted));
   const line = course.acts[current - 1];
-  at("said").textContent = saying(current);
-  const machine = machineAt(current);
+  const {before, machine} = machinesAt(current);
+  at("said").textContent = saying(current, before, machine);
   document.body.dataset.at = machine.at;
   document.body.dataset.n = machine.events;
   showTiles(machine, line);

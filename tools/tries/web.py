@@ -1,0 +1,245 @@
+"""Tries of ./fractal web: the modules, the command of them, and the page, which a browser is driven through."""
+from __future__ import annotations
+
+import base64
+import itertools
+import json
+import os
+import pathlib
+import re
+import shutil
+import subprocess
+import tempfile
+
+from yotarimu.common.places import EXAMPLES_FOLDER, HOME
+from yotarimu.images.image import DATA, image_bytes
+from yotarimu.images.listing import NO_LISTING, read_listing
+from yotarimu.images.source import assemble, described, source_at, sources_in
+from yotarimu.lines.reader import open_watched
+from yotarimu.lines.sentences import end_told, label_of, opening_told, sentence_of
+from yotarimu.programs.examples import EXAMPLES, SCHEDULES, words_of
+from yotarimu.programs.program import SECOND_PROGRAM
+from yotarimu.web.bundling import constant, source, table_at
+from yotarimu.web.holding import stored_calls
+from yotarimu.web.making import COMMAND, PAGE, PROGRAMS, command_text, commit_path, module_path, modules, page_text
+
+from tries.place import LeftOut, expect, need_built, one_sentence_each
+
+BROWSER_FOLDER = pathlib.Path(__file__).with_name("browser")
+# What the harnesses for Node are made of, in front of each.
+READER = ("texts.js", "machine.js", "telling.js", "sentences.js")
+ASSEMBLER = ("host.js", "texts.js", "machine.js", "images.js", "assembler.js", "assembling.js", "sources.js")
+CASES = "40"
+MOST_SECONDS = 600
+
+
+def need_command(*names):
+    for name in names:
+        if shutil.which(name) is None:
+            raise LeftOut(f"it wants {name}")
+
+
+def need_modules():
+    if not all(path(crate).exists() for crate in PROGRAMS.values() for path in (module_path, commit_path)):
+        raise LeftOut("it wants the modules: ./fractal prove --web")
+    return modules()
+
+
+class Harness:
+    """A script for Node that answers each line of JSON by one."""
+
+    def __init__(self, place, name, parts, constants=""):
+        need_command("node")
+        script = place.root / f"{name}.mjs"
+        own = (BROWSER_FOLDER / f"{name}.js").read_text(encoding="utf-8")
+        script.write_text(constants + "".join(map(source, parts)) + own, encoding="utf-8")
+        self.process = subprocess.Popen(["node", str(script)], stdin=subprocess.PIPE, stdout=subprocess.PIPE)
+
+    def ask(self, **question):
+        self.process.stdin.write(json.dumps(question).encode() + b"\n")
+        self.process.stdin.flush()
+        return json.loads(self.process.stdout.readline())
+
+    def __enter__(self):
+        return self
+
+    def __exit__(self, *_):
+        self.process.kill()
+        self.process.wait()
+
+
+# ---- words, modules and the command
+
+
+def web_words(place):
+    """./fractal web without its modules, and with odd words, is a sentence"""
+    one_sentence_each([
+        (place.call("fractal web"), ["./fractal prove --web"]),
+        (place.call("fractal web", "nowhere"), ["nowhere"]),
+        (place.call("fractal web", "a", "b"), ["one FOLDER"]),
+        (place.call("fractal web", "--dance"), ["--help"]),
+        (place.call("fractal web", "--compare"), [""]),
+    ])
+
+
+def web_holds(place):
+    """the modules answer as what is stored, and as the built programs on schedules and generated calls"""
+    need_modules()
+    need_command("node")
+    need_built(SECOND_PROGRAM)
+    answer = place.call(str(HOME / "fractal"), "web", "--hold", CASES)
+    expect(answer.status == 0 and b"\n0 calls were answered otherwise" in answer.output, "the same answers", answer)
+
+
+def web_command(place):
+    """fractal.mjs answers the whole table of answers as it is stored"""
+    need_command("node")
+    command = place.root / COMMAND
+    command.write_text(command_text(need_modules()), encoding="utf-8")
+    for case in stored_calls():
+        done = subprocess.run(["node", command, *case.words], input=case.given, capture_output=True, timeout=MOST_SECONDS)
+        expect((done.returncode, done.stdout) == (case.status, case.text), f"{case.name} as stored", done.returncode)
+    help_page = subprocess.run(["node", command, "help"], capture_output=True, text=True)
+    expect("lockstep ROUNDS SEED" in help_page.stdout, "a page of help", help_page)
+    full = subprocess.run(["sh", "-c", f"node '{command}' run > /dev/full"], input=b"", capture_output=True)
+    expect(full.returncode == 7, "status 7 where nothing can be written", full)
+    folder = subprocess.run(["sh", "-c", f"node '{command}' run < /"], capture_output=True)
+    expect(folder.returncode == 6, "status 6 where nothing can be read", folder)
+
+
+# ---- the reader of lines
+
+
+def web_sentences(place):
+    """the page's reader of lines tells each act, and the machine behind them, as the tools do"""
+    need_built(SECOND_PROGRAM)
+    with Harness(place, "tellings", READER, constant("sentences", table_at("common/sentences.json"))) as harness:
+        for name, words in courses():
+            hold_told(harness, name, words)
+
+
+def courses():
+    for name in SCHEDULES:
+        words = words_of(name)
+        yield name, words
+        yield name, ["lockstep", "50", "7", *words[1:]]
+    for name in EXAMPLES:
+        for options in ([], ["--tiles", "2", "--task-queue", "4", "--commit-queue", "1"],
+                        ["--tiles", "1", "--task-queue", "4", "--budget", "20"]):
+            yield name, ["least", *options]
+            yield name, ["lockstep", "60", "5", *options]
+
+
+def hold_told(harness, name, words):
+    folder = EXAMPLES_FOLDER / name
+    given = (folder / "image.bin").read_bytes() + ((folder / "script").read_bytes() if words[0] == "steps" else b"")
+    text = subprocess.run([SECOND_PROGRAM, *words], input=given, stdout=subprocess.PIPE, check=False).stdout
+    listing = read_listing((folder / "listing").read_text(), folder) if (folder / "listing").exists() else NO_LISTING
+    told, end, machine = told_by_tools(text, listing)
+    seen = harness.ask(text=text.decode(), labels=list(listing.labels.items()))
+    expect(seen["told"] == told and seen["end"] == end, f"the same sentences on {name}",
+           next((pair for pair in itertools.zip_longest(told, seen["told"]) if pair[0] != pair[1]), None))
+    tasks = sorted([task.id, label_of(task), task.state, task.work, task.pc] for task in machine.tasks.values())
+    state = [machine.queues, machine.cores, machine.finished, machine.commits, machine.events, tasks]
+    names = ("queues", "cores", "finished", "commits", "events", "tasks")
+    expect([seen["machine"][name] for name in names] == state, f"the same machine behind {name} {words}")
+
+
+def told_by_tools(text, listing):
+    with tempfile.NamedTemporaryFile() as lines:
+        lines.write(text)
+        lines.flush()
+        with open_watched(lines.name) as watched:
+            told = [opening_told(watched.head)]
+            told += [sentence_of(it, watched.machine, listing) for it in watched if it.is_act()]
+        return told, end_told(watched.end, listing), watched.machine
+
+
+# ---- the assembler and the disassembler
+
+
+def web_sources(place):
+    """the page's assembler makes of each example's source the stored image, and its disassembler the listing"""
+    with Harness(place, "assemblies", ASSEMBLER) as harness:
+        for path in sorted(EXAMPLES_FOLDER.rglob("*.s")):
+            seen = harness.ask(sources=[{"name": it.name, "text": it.read_text()} for it in sorted(path.parent.glob("*.s"))])
+            image = path.parent / "image.bin"
+            wanted = image.read_bytes() if image.exists() else made_by_tools(path.parent)
+            expect(base64.b64decode(seen.get("image", "")) == wanted, f"the image of {path}", seen.get("refused"))
+        for path in sorted(EXAMPLES_FOLDER.rglob("listing")):
+            hold_listing(harness, path)
+
+
+def made_by_tools(folder):
+    sources = sources_in(folder)
+    return image_bytes(described(sources, assemble(sources)))
+
+
+def hold_listing(harness, path):
+    image = base64.b64encode((path.parent / "image.bin").read_bytes()).decode()
+    rows = {address: text for address, text in harness.ask(image=image)["listing"] if address is not None}
+    for address, word, told in re.findall(r"^([0-9a-f]{8})  ([0-9a-f]{8})  ([^|\n]*)", path.read_text(), re.MULTILINE):
+        if int(address, 16) >= DATA:
+            continue
+        # A listing has labels behind the target of a jump, and the target without leading zeros.
+        seen = re.sub(r"\b000(1[0-9a-f]{4})\b", r"\1", re.sub(" <.*>", "", rows[int(address, 16)]))
+        wanted = f"{address}  {word}  {re.sub(' <.*>', '', told).strip()}"
+        expect(seen == re.sub(r"\b000(1[0-9a-f]{4})\b", r"\1", wanted), f"{wanted} of {path}", seen)
+
+
+def web_forms(place):
+    """the page's assembler makes of each form of each instruction and directive what GNU as makes"""
+    text = (BROWSER_FOLDER / "forms.s").read_text(encoding="utf-8")
+    path = place.root / "forms.s"
+    path.write_text(text, encoding="utf-8")
+    wanted = image_bytes(described([source_at(path)], assemble([source_at(path)])))
+    with Harness(place, "assemblies", ASSEMBLER) as harness:
+        seen = harness.ask(sources=[{"name": "forms.s", "text": text}])
+        made = base64.b64decode(seen.get("image", ""))
+        differing = next((at for at, pair in enumerate(itertools.zip_longest(made, wanted)) if pair[0] != pair[1]), None)
+        expect(differing is None, "the same image", seen.get("refused") or f"byte {differing}")
+        for line, part in ODD_LINES:
+            seen = harness.ask(sources=[{"name": "odd.s", "text": f"# image: task here\nhere:\n{line}\n"}])
+            expect(part in seen.get("refused", ""), f"a sentence on `{line}`", seen)
+
+
+ODD_LINES = (
+    ("dance a0", "odd.s:3: `dance` is no instruction"), ("addi a0, a1", "3 operands"), ("addi a0, a9, 1", "no register"),
+    ("addi a0, a1, 2048", "-2048 to 2047"), ("slli a0, a1, 32", "0 to 31"), ("lui a0, 0x100000", "0 to 1048575"),
+    ("beq a0, a1, nowhere", "defined nowhere"), ("j 1f", "no label `1:`"), (".word 1/0", "divided by zero"),
+    (".section .other", "no place in an image"), (".byte 256", "no place in 1 bytes"), (".ascii x", "in quotes"),
+    ("here: nop", "stands twice"), (".zero 99999999", "0 to 16777216"), (".balign 3", "power of two"), ("li a0, here", "known here"),
+    ("addi a0, a1, (1", "bracket"), ("# image: task nowhere", "no label `nowhere`"), ("# image: dance", "describes nothing"),
+    ("# image: task here ts x", "the timestamp is a number"), ("# image: root", "root ordered"), ("mul a0, a1, a2", "no instruction"),
+    ("beq a0, a1, far\n.zero 8192\nfar: nop", "doesn't reach"), (".bss\n.word 1", "zeros alone"), (".bss\nnop", "no instruction stands"),
+)
+
+
+# ---- the page in a browser
+
+
+def driven(place, browser, *programs):
+    need_command("node")
+    if not any(shutil.which(program) for program in programs):
+        raise LeftOut(f"it wants a browser: {programs[0]}")
+    page = place.root / PAGE
+    page.write_text(page_text(need_modules()), encoding="utf-8")
+    done = subprocess.run(["node", BROWSER_FOLDER / "drive.mjs", page, EXAMPLES_FOLDER], capture_output=True, text=True,
+                          timeout=MOST_SECONDS, env={**os.environ, "BROWSER": browser, "TMPDIR": str(place.temporary)})
+    told = [json.loads(line) for line in done.stdout.splitlines()]
+    expect(done.returncode == 0 and told, "looks at the page", done.stderr[-400:])
+    for it in told:
+        expect("failed" not in it, f"that {it['name']}", it.get("failed"))
+
+
+def web_page(place):
+    """the page is driven through its story, buttons, options, exercises, links, files and keys, in Chromium"""
+    driven(place, "chromium", "chromium")
+
+
+def web_page_in_firefox(place):
+    """the same in Firefox"""
+    driven(place, "firefox", "firefox-esr")
+
+
+TRIES = (web_words, web_holds, web_command, web_sentences, web_sources, web_forms, web_page, web_page_in_firefox)
