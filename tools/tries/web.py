@@ -97,7 +97,8 @@ def web_command(place):
     command = place.root / COMMAND
     command.write_text(command_text(need_modules()), encoding="utf-8")
     for case in stored_calls():
-        done = subprocess.run(["node", command, *case.words], input=case.given, capture_output=True, timeout=MOST_SECONDS)
+        done = subprocess.run(["node", command, *case.words], input=case.given, capture_output=True,
+                              timeout=MOST_SECONDS)
         expect((done.returncode, done.stdout) == (case.status, case.text), f"{case.name} as stored", done.returncode)
     help_page = subprocess.run(["node", command, "help"], capture_output=True, text=True)
     expect("lockstep ROUNDS SEED" in help_page.stdout, "a page of help", help_page)
@@ -162,12 +163,16 @@ def web_sources(place):
     """the page's assembler makes of each example's source the stored image, and its disassembler the listing"""
     with Harness(place, "assemblies", ASSEMBLER) as harness:
         for path in sorted(EXAMPLES_FOLDER.rglob("*.s")):
-            seen = harness.ask(sources=[{"name": it.name, "text": it.read_text()} for it in sorted(path.parent.glob("*.s"))])
+            seen = harness.ask(sources=texts_of(path.parent))
             image = path.parent / "image.bin"
             wanted = image.read_bytes() if image.exists() else made_by_tools(path.parent)
             expect(base64.b64decode(seen.get("image", "")) == wanted, f"the image of {path}", seen.get("refused"))
         for path in sorted(EXAMPLES_FOLDER.rglob("listing")):
             hold_listing(harness, path)
+
+
+def texts_of(folder):
+    return [{"name": path.name, "text": path.read_text()} for path in sorted(folder.glob("*.s"))]
 
 
 def made_by_tools(folder):
@@ -196,7 +201,8 @@ def web_forms(place):
     with Harness(place, "assemblies", ASSEMBLER) as harness:
         seen = harness.ask(sources=[{"name": "forms.s", "text": text}])
         made = base64.b64decode(seen.get("image", ""))
-        differing = next((at for at, pair in enumerate(itertools.zip_longest(made, wanted)) if pair[0] != pair[1]), None)
+        pairs = enumerate(itertools.zip_longest(made, wanted))
+        differing = next((place for place, (one, other) in pairs if one != other), None)
         expect(differing is None, "the same image", seen.get("refused") or f"byte {differing}")
         for line, part in ODD_LINES:
             seen = harness.ask(sources=[{"name": "odd.s", "text": f"# image: task here\nhere:\n{line}\n"}])
@@ -204,14 +210,16 @@ def web_forms(place):
 
 
 ODD_LINES = (
-    ("dance a0", "odd.s:3: `dance` is no instruction"), ("addi a0, a1", "3 operands"), ("addi a0, a9, 1", "no register"),
-    ("addi a0, a1, 2048", "-2048 to 2047"), ("slli a0, a1, 32", "0 to 31"), ("lui a0, 0x100000", "0 to 1048575"),
-    ("beq a0, a1, nowhere", "defined nowhere"), ("j 1f", "no label `1:`"), (".word 1/0", "divided by zero"),
+    ("dance a0", "odd.s:3: `dance` is no instruction"), ("mul a0, a1, a2", "no instruction"),
+    ("addi a0, a1", "3 operands"), ("addi a0, a9, 1", "no register"), ("addi a0, a1, 2048", "-2048 to 2047"),
+    ("slli a0, a1, 32", "0 to 31"), ("lui a0, 0x100000", "0 to 1048575"), ("li a0, here", "known here"),
+    ("beq a0, a1, nowhere", "defined nowhere"), ("j 1f", "no label `1:`"), ("addi a0, a1, (1", "bracket"),
+    ("beq a0, a1, far\n.zero 8192\nfar: nop", "doesn't reach"), (".word 1/0", "divided by zero"),
     (".section .other", "no place in an image"), (".byte 256", "no place in 1 bytes"), (".ascii x", "in quotes"),
-    ("here: nop", "stands twice"), (".zero 99999999", "0 to 16777216"), (".balign 3", "power of two"), ("li a0, here", "known here"),
-    ("addi a0, a1, (1", "bracket"), ("# image: task nowhere", "no label `nowhere`"), ("# image: dance", "describes nothing"),
-    ("# image: task here ts x", "the timestamp is a number"), ("# image: root", "root ordered"), ("mul a0, a1, a2", "no instruction"),
-    ("beq a0, a1, far\n.zero 8192\nfar: nop", "doesn't reach"), (".bss\n.word 1", "zeros alone"), (".bss\nnop", "no instruction stands"),
+    ("here: nop", "stands twice"), (".zero 99999999", "0 to 16777216"), (".balign 3", "power of two"),
+    (".bss\n.word 1", "zeros alone"), (".bss\nnop", "no instruction stands"),
+    ("# image: task nowhere", "no label `nowhere`"), ("# image: dance", "describes nothing"),
+    ("# image: task here ts x", "the timestamp is a number"), ("# image: root", "root ordered"),
 )
 
 

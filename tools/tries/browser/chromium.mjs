@@ -10,16 +10,23 @@ const [TO, FROM] = [3, 4];
 /** A browser with one page. */
 export class Page {
   static async open(url, {width = 1400, height = 1300, dark = false, program = "chromium"} = {}) {
-    const page = Object.assign(new Page(), {folder: mkdtempSync(join(tmpdir(), "fractal-page-")), number: 0, waiting: new Map(), logs: []});
-    page.child = spawn(program, ["--headless", "--no-sandbox", "--disable-gpu", "--remote-debugging-pipe",
-      `--user-data-dir=${page.folder}`, `--window-size=${width},${height}`, "about:blank"], {stdio: ["ignore", "ignore", "ignore", "pipe", "pipe"]});
+    const page = Object.assign(
+      new Page(), {folder: mkdtempSync(join(tmpdir(), "fractal-page-")), number: 0, waiting: new Map(), logs: []});
+    page.child = spawn(
+      program,
+      [
+        "--headless", "--no-sandbox", "--disable-gpu", "--remote-debugging-pipe", `--user-data-dir=${page.folder}`,
+        `--window-size=${width},${height}`, "about:blank"
+      ],
+      {stdio: ["ignore", "ignore", "ignore", "pipe", "pipe"]});
     page.listen();
     const {targetInfos} = await page.send("Target.getTargets");
     const {targetId} = targetInfos.find((it) => it.type === "page");
     page.session = (await page.send("Target.attachToTarget", {targetId, flatten: true})).sessionId;
     for (const domain of ["Page", "Runtime", "Log"]) await page.send(`${domain}.enable`);
     await page.send("Emulation.setDeviceMetricsOverride", {width, height, deviceScaleFactor: 1, mobile: width < 500});
-    if (dark) await page.send("Emulation.setEmulatedMedia", {features: [{name: "prefers-color-scheme", value: "dark"}]});
+    if (dark)
+      await page.send("Emulation.setEmulatedMedia", {features: [{name: "prefers-color-scheme", value: "dark"}]});
     await page.go(url);
     return page;
   }
@@ -28,7 +35,8 @@ export class Page {
     let rest = Buffer.alloc(0);
     this.child.stdio[FROM].on("data", (data) => {
       rest = Buffer.concat([rest, data]);
-      for (let end; (end = rest.indexOf(0)) >= 0; rest = rest.subarray(end + 1)) this.take(JSON.parse(rest.subarray(0, end)));
+      for (let end; (end = rest.indexOf(0)) >= 0; rest = rest.subarray(end + 1))
+        this.take(JSON.parse(rest.subarray(0, end)));
     });
   }
 
@@ -40,8 +48,10 @@ export class Page {
       else resolve(result);
     }
     if (method === "Page.loadEventFired") this.loaded?.();
-    if (method === "Runtime.exceptionThrown") this.logs.push(params.exceptionDetails.exception?.description ?? params.exceptionDetails.text);
-    if (method === "Runtime.consoleAPICalled") this.logs.push(params.args.map((it) => it.value ?? it.description).join(" "));
+    if (method === "Runtime.exceptionThrown")
+      this.logs.push(params.exceptionDetails.exception?.description ?? params.exceptionDetails.text);
+    if (method === "Runtime.consoleAPICalled")
+      this.logs.push(params.args.map((it) => it.value ?? it.description).join(" "));
     if (method === "Log.entryAdded") this.logs.push(params.entry.text);
   }
 
@@ -60,15 +70,18 @@ export class Page {
 
   /** What an expression in the page comes to. */
   async run(expression) {
-    const {result, exceptionDetails} = await this.send("Runtime.evaluate", {expression, awaitPromise: true, returnByValue: true});
+    const {result, exceptionDetails}
+    = await this.send("Runtime.evaluate", {expression, awaitPromise: true, returnByValue: true});
     if (exceptionDetails) throw new Error(exceptionDetails.exception?.description ?? exceptionDetails.text);
     return result.value;
   }
 
   /** A key as a person presses it. */
-  async press(key, text = "") {
-    const codes = {Enter: 13, Tab: 9, ArrowLeft: 37, ArrowRight: 39, ArrowDown: 40, ArrowUp: 38, Home: 36, End: 35, " ": 32};
-    const event = {key, windowsVirtualKeyCode: codes[key] ?? key.toUpperCase().charCodeAt(0), text: text || (key === "Enter" ? "\r" : key.length === 1 ? key : "")};
+  async press(key) {
+    const codes
+      = {Enter: 13, Tab: 9, ArrowLeft: 37, ArrowRight: 39, ArrowDown: 40, ArrowUp: 38, Home: 36, End: 35, " ": 32};
+    const typed = key === "Enter" ? "\r" : key.length === 1 ? key : "";
+    const event = {key, windowsVirtualKeyCode: codes[key] ?? key.toUpperCase().charCodeAt(0), text: typed};
     await this.send("Input.dispatchKeyEvent", {type: event.text ? "keyDown" : "rawKeyDown", ...event});
     await this.send("Input.dispatchKeyEvent", {type: "keyUp", ...event});
   }

@@ -39,7 +39,8 @@ class Driver {
   async click(id) { await this.page.run(`document.querySelector(${JSON.stringify(id)}).click(); chain`); }
 
   async choose(id, value) {
-    await this.page.run(`at("${id}").value = ${JSON.stringify(String(value))}; at("${id}").dispatchEvent(new Event("change", {bubbles: true})); chain`);
+    const change = 'dispatchEvent(new Event("change", {bubbles: true}))';
+    await this.page.run(`at("${id}").value = ${JSON.stringify(String(value))}; at("${id}").${change}; chain`);
   }
 
   async type(text) {
@@ -48,11 +49,14 @@ class Driver {
     await this.page.run("chain");
   }
 
-  async open(name) { await this.choose("example", await this.page.run(`examples.findIndex((it) => it.name === "${name}")`)); }
+  async open(name) {
+    await this.choose("example", await this.page.run(`examples.findIndex((it) => it.name === "${name}")`));
+  }
 
   async files(...files) {
     const given = files.map(([name, data]) => [name, Buffer.from(data).toString("base64")]);
-    await this.page.run(`perform(() => openFiles(${JSON.stringify(given)}.map(([name, text]) => new File([bytesOf(text)], name))))`);
+    await this.page.run(
+      `perform(() => openFiles(${JSON.stringify(given)}.map(([name, text]) => new File([bytesOf(text)], name))))`);
   }
 
   async shoot(name, isWhole = false) { if (shots) await this.page.shoot(join(shots, `${name}.png`), isWhole); }
@@ -103,8 +107,9 @@ const TRIES = {
       await driver.type("dispatch 0");
       await driver.type("step 0 0");
       expect((await driver.see()).said.includes("loads 0"), "the load", await driver.see());
-      for (const [text, part] of [["dance 0", "no act"], ["step 9 0", "tiles are 0 to 3"], ["step 0", "a tile and a core"],
-        ["step 0 00", "leading zero"], ["step 0 2", "cores are 0 to 1"]]) {
+      for (const [text, part] of [
+             ["dance 0", "no act"], ["step 9 0", "tiles are 0 to 3"], ["step 0", "a tile and a core"],
+             ["step 0 00", "leading zero"], ["step 0 2", "cores are 0 to 1"]]) {
         await driver.type(text);
         const seen = await driver.see();
         expect(seen.message.includes(part) && seen.script === 2, `a sentence on ${text}`, seen);
@@ -177,13 +182,16 @@ const TRIES = {
     });
     await Driver.at(`#${address}`, WIDE, async (driver) => {
       const after = await driver.see();
-      expect(after.said === before.said && after.at === 3 && after.script === before.script, "the same state", [before, after]);
+      expect(
+        after.said === before.said && after.at === 3 && after.script === before.script, "the same state",
+        [before, after]);
     });
   },
 
   async "odd addresses are told in a sentence, and the story begins"() {
-    for (const hash of ["#example=nothing", "#name=x&image=zzzz", "#example=nested&acts=dance", "#example=nested&tiles=99",
-      "#example=schedules/stall&acts=steps&script=zz", "#at=5"]) {
+    for (const hash of
+           ["#example=nothing", "#name=x&image=zzzz", "#example=nested&acts=dance", "#example=nested&tiles=99",
+            "#example=schedules/stall&acts=steps&script=zz", "#at=5"]) {
       await Driver.at(hash, WIDE, async (driver) => {
         const seen = await driver.see();
         expect(seen.message && seen.story, `a sentence on ${hash}`, seen);
@@ -196,9 +204,12 @@ const TRIES = {
       const image = readFileSync(join(examples, "trap", "image.bin"));
       await driver.files(["mine.bin", image]);
       expect((await driver.see()).end === "trap", "the trap", await driver.see());
-      expect((await driver.page.run("at('listing').textContent")).includes("ecall"), "instructions", await driver.see());
+      expect(
+        (await driver.page.run("at('listing').textContent")).includes("ecall"), "instructions", await driver.see());
       await driver.files(["task.s", readFileSync(join(examples, "hello", "task.s"))]);
-      expect((await driver.see()).said.includes("placed") && (await driver.see()).name === "task.s", "the source", await driver.see());
+      expect(
+        (await driver.see()).said.includes("placed") && (await driver.see()).name === "task.s", "the source",
+        await driver.see());
       await driver.files(["odd.bin", "no image at all, and no script"]);
       expect((await driver.see()).message.includes("is no image"), "that it is none", await driver.see());
       await driver.files(["task.s", "    dance a0\n"]);
@@ -216,15 +227,19 @@ const TRIES = {
       // Behind the last one the browser's own fields come.
       for (let tab = 0; tab < 60 && names.at(-1) !== "assemble"; tab++) {
         await driver.page.press("Tab");
-        names.push(await driver.page.run("document.activeElement.id || document.activeElement.dataset.act || document.activeElement.tagName"));
+        names.push(await driver.page.run(
+          "document.activeElement.id || document.activeElement.dataset.act || document.activeElement.tagName"));
       }
-      for (const wanted of ["example", "course", "tile", "dispatch", "run-many", "undo", "typed", "first", "slider", "make-report",
-        "exercise", "source-text", "assemble"]) expect(names.includes(wanted), `${wanted} by Tab`, names);
+      for (const wanted of
+             ["example", "course", "tile", "dispatch", "run-many", "undo", "typed", "first", "slider", "make-report",
+              "exercise", "source-text", "assemble"])
+        expect(names.includes(wanted), `${wanted} by Tab`, names);
       await driver.page.run("at('run-many').focus()");
       await driver.page.press("Enter");
       await driver.page.run("chain");
       await driver.page.run("at('first').focus()");
-      for (const [key, place] of [["Home", 0], ["ArrowRight", 1], ["ArrowRight", 2], ["ArrowLeft", 1], ["End", 13], ["Home", 0]]) {
+      for (const [key, place] of [
+             ["Home", 0], ["ArrowRight", 1], ["ArrowRight", 2], ["ArrowLeft", 1], ["End", 13], ["Home", 0]]) {
         await driver.page.press(key);
         expect((await driver.see()).at === place, `act ${place} by ${key}`, await driver.see());
       }
@@ -247,21 +262,32 @@ const TRIES = {
   async "a long run can be stopped, and the page stays alive meanwhile"() {
     await Driver.at("#example=hello", WIDE, async (driver) => {
       const source = "# image: task again\nagain: la a0, again\n li a1, 0\n li a7, 1\n ecall\n li a7, 0\n ecall\n";
-      const begin = () => driver.page.run(`void (window.opened = perform(() => openSources([{name: "long.s", text: ${JSON.stringify(source)}}])))`);
+      const begin = () => driver.page.run(
+        `void (window.opened = perform(() => openSources([{name: "long.s", text: ${JSON.stringify(source)}}])))`);
       await begin();
       await driver.page.run("new Promise((resolve) => setTimeout(resolve, 450))");
-      const ticks = await driver.page.run("(async () => { let count = 0; const timer = setInterval(() => count++, 5); await new Promise((r) => setTimeout(r, 300)); clearInterval(timer); return count; })()");
+      const ticks = await driver.page.run(`(async () => {
+        let count = 0;
+        const timer = setInterval(() => count++, 5);
+        await new Promise((resolve) => setTimeout(resolve, 300));
+        clearInterval(timer);
+        return count;
+      })()`);
       expect(ticks > 20, "a page that is alive", ticks);
       expect(!(await driver.page.run("at('stop').hidden")), "a button to stop", await driver.see());
       await driver.click("#stop");
       await driver.page.run("opened");
-      expect((await driver.see()).message.includes("stopped") && (await driver.see()).name === "hello", "what was open before", await driver.see());
+      expect(
+        (await driver.see()).message.includes("stopped") && (await driver.see()).name === "hello",
+        "what was open before", await driver.see());
       await driver.click("[data-act=advance]");
       expect((await driver.see()).script >= 1, "a machine that is ready again", await driver.see());
       await begin();
       await driver.page.run("opened");
       const seen = await driver.see();
-      expect(seen.acts > 100000 && seen.call.includes("isn't shown whole"), "the first acts of a run that is too long", seen);
+      expect(
+        seen.acts > 100000 && seen.call.includes("isn't shown whole"), "the first acts of a run that is too long",
+        seen);
     });
   },
 };

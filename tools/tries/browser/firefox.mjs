@@ -6,8 +6,16 @@ import {connect, createServer} from "node:net";
 import {tmpdir} from "node:os";
 import {join} from "node:path";
 
-const KEYS = {Enter: "\uE006", Tab: "\uE004", ArrowLeft: "\uE012", ArrowUp: "\uE013", ArrowRight: "\uE014", ArrowDown: "\uE015",
-  End: "\uE010", Home: "\uE011"};
+const KEYS = {
+  Enter: "\uE006",
+  Tab: "\uE004",
+  ArrowLeft: "\uE012",
+  ArrowUp: "\uE013",
+  ArrowRight: "\uE014",
+  ArrowDown: "\uE015",
+  End: "\uE010",
+  Home: "\uE011"
+};
 const MOST_TRIES = 200, BETWEEN = 100, MOST_MILLISECONDS = 300000;
 const pause = (milliseconds) => new Promise((resolve) => setTimeout(resolve, milliseconds));
 
@@ -38,12 +46,22 @@ function freePort() {
 /** A browser with one page. */
 export class Page {
   static async open(url, {width = 1400, height = 1300, dark = false, program = "firefox-esr"} = {}) {
-    const page = Object.assign(new Page(), {folder: mkdtempSync(join(tmpdir(), "fractal-page-")), number: 0, waiting: new Map(),
-      logs: [], rest: Buffer.alloc(0)});
+    const page = Object.assign(new Page(), {
+      folder: mkdtempSync(join(tmpdir(), "fractal-page-")),
+      number: 0,
+      waiting: new Map(),
+      logs: [],
+      rest: Buffer.alloc(0)
+    });
     const port = await freePort();
-    writeFileSync(join(page.folder, "user.js"), `user_pref("marionette.port", ${port});\nuser_pref("ui.systemUsesDarkTheme", ${dark ? 1 : 0});\n`
-      + `user_pref("layout.css.prefers-color-scheme.content-override", ${dark ? 0 : 1});\nuser_pref("browser.shell.checkDefaultBrowser", false);\n`);
-    page.child = spawn(program, ["--headless", "--marionette", "--no-remote", "--profile", page.folder, "--width", width, "--height", height],
+    writeFileSync(
+      join(page.folder, "user.js"),
+      `user_pref("marionette.port", ${port});\nuser_pref("ui.systemUsesDarkTheme", ${dark ? 1 : 0});\n` +
+        `user_pref("layout.css.prefers-color-scheme.content-override", ${
+          dark ? 0 : 1});\nuser_pref("browser.shell.checkDefaultBrowser", false);\n`);
+    page.child = spawn(
+      program,
+      ["--headless", "--marionette", "--no-remote", "--profile", page.folder, "--width", width, "--height", height],
       {stdio: "ignore", env: {...process.env, MOZ_DISABLE_CONTENT_SANDBOX: "1", HOME: page.folder}});
     await page.connect(port);
     await page.send("WebDriver:NewSession", {capabilities: {}});
@@ -98,7 +116,8 @@ export class Page {
 
   /** What an expression in the page comes to. A script of the page's own sees what its other scripts declare. */
   async run(expression) {
-    const {value} = await this.send("WebDriver:ExecuteAsyncScript", {script: `(${inPage})(...arguments);`, args: [expression]});
+    const {value}
+    = await this.send("WebDriver:ExecuteAsyncScript", {script: `(${inPage})(...arguments);`, args: [expression]});
     const told = JSON.parse(value);
     if ("failed" in told) throw new Error(told.failed);
     return told.value;
@@ -106,7 +125,9 @@ export class Page {
 
   async press(key) {
     const value = KEYS[key] ?? key;
-    await this.send("WebDriver:PerformActions", {actions: [{type: "key", id: "keys", actions: [{type: "keyDown", value}, {type: "keyUp", value}]}]});
+    await this.send(
+      "WebDriver:PerformActions",
+      {actions: [{type: "key", id: "keys", actions: [{type: "keyDown", value}, {type: "keyUp", value}]}]});
   }
 
   async shoot(file, isWhole = false) {

@@ -1,4 +1,4 @@
-// ---- how long the page takes for a step among told acts with its drawing, and for a new act: node measure.mjs PAGE IMAGE
+// ---- how long the page takes for a step among told acts, and for a new one: node measure.mjs PAGE IMAGE
 
 import {readFileSync} from "node:fs";
 import {pathToFileURL} from "node:url";
@@ -14,7 +14,11 @@ const STEP = `(async (place) => {
   document.body.getBoundingClientRect();
   const worked = performance.now() - begin;
   const frame = await new Promise((resolve) => requestAnimationFrame(() => resolve(performance.now())));
-  await new Promise((resolve) => { const {port1, port2} = new MessageChannel(); port1.onmessage = resolve; port2.postMessage(0); });
+  await new Promise((resolve) => {
+    const {port1, port2} = new MessageChannel();
+    port1.onmessage = resolve;
+    port2.postMessage(0);
+  });
   return worked + performance.now() - frame;
 })`;
 
@@ -41,7 +45,10 @@ for (const size of SIZES) {
   for (let act = 0; act < NEW_ACTS; act++) {
     const [taken, gap] = await page.run(`(async () => {
       let last = performance.now(), most = 0;
-      const timer = setInterval(() => { const now = performance.now(); most = Math.max(most, now - last); last = now; }, 1);
+      const timer = setInterval(() => {
+        most = Math.max(most, performance.now() - last);
+        last = performance.now();
+      }, 1);
       const begin = performance.now();
       await addActs(["advance"]);
       document.body.getBoundingClientRect();

@@ -16,7 +16,8 @@ async function toldOf({text, labels}) {
 /** The machine in numbers and names alone. */
 function stateOf(machine) {
   const {queues, cores, finished, commits, events} = machine;
-  const tasks = [...machine.tasks.values()].map((task) => [task.id, machine.label(task), task.state, task.work, task.pc]);
+  const tasks =
+    [...machine.tasks.values()].map((task) => [task.id, machine.label(task), task.state, task.work, task.pc]);
   const blocks = machine.blocks.map((block) => block.map((task) => task.name.join(".")));
   return {queues, cores, finished, blocks, commits, events, tasks: tasks.sort(([one], [two]) => one - two)};
 }

@@ -1,4 +1,4 @@
-"""Sentences that are told of acts, replies, traps and ends: one table, which the page with the machine inside reads too.
+"""Sentences on acts, traps and ends: one table, which the page with the machine inside reads too.
 
 What stands between braces is filled in. `sentences.json` has the texts, and each part of the package its own keys.
 """

@@ -51,8 +51,8 @@ def sources(names: Sequence[str]) -> List[str]:
 
 # The sources of the page, in the order in which they name each other.
 SHARED = ("texts.js", "machine.js", "view.js")
-LIVE = ("telling.js", "images.js", "assembler.js", "assembling.js", "sources.js", "sentences.js", "machines.js", "live.js",
-        "keeping.js", "story.js", "exercises.js", "start.js")
+LIVE = ("telling.js", "images.js", "assembler.js", "assembling.js", "sources.js", "sentences.js", "machines.js",
+        "live.js", "keeping.js", "story.js", "exercises.js", "start.js")
 # What sentences are made of, for the tools too.
 TABLES = {"sentences": "common/sentences.json", "exercises": "courses/exercises.json", "story": "web/story.json"}
 
@@ -81,9 +81,11 @@ def live_page(modules: Dict[str, bytes], table: str, commit: str, examples: List
 
 def recorded_page(title: str, values: Dict[str, str]) -> str:
     """The page of a run that was recorded, from the JSON of what it shows."""
-    data = "".join(f'<script type="application/json" id="{name}-data">{value}</script>\n' for name, value in values.items())
+    data = "".join(f'<script type="application/json" id="{name}-data">{value}</script>\n'
+                   for name, value in values.items())
     scripts = (script(f'"use strict";\n\n{source(name)}') for name in (*SHARED, "recorded.js"))
-    parts = {"title": title, "style": source("run.css"), "run": source("run.html"), "data": data, "scripts": "".join(scripts)}
+    parts = {"title": title, "style": source("run.css"), "run": source("run.html"), "data": data,
+             "scripts": "".join(scripts)}
     return filled(source("recorded.html"), parts)
 
 

@@ -109,8 +109,8 @@ def module_of(program: str, home: pathlib.Path) -> bytes:
                           f"{f', and said: {said[-1][:200]}' if said else ''}.")
         modules = [path.read_bytes() for path in kept.iterdir()]
         if not modules:
-            raise Refused(f"this toolchain compiled {program} in another way than by a module of LLVM, so none is kept; "
-                          "all else works without.")
+            raise Refused(f"this toolchain compiled {program} in another way than by a module of LLVM, so none is "
+                          "kept; all else works without.")
         return max(modules, key=len)
 
 
@@ -134,6 +134,7 @@ def wrapped(kit: Toolchain, folder: pathlib.Path, kept: pathlib.Path) -> pathlib
     for name in CALLED:
         (made / "bin" / name).symlink_to(kit.compiler / "bin" / name)
     clang = made / "bin" / "clang"
-    clang.write_text(WRAPPER.format(kept=shlex.quote(str(kept)), clang=shlex.quote(str(kit.compiler / "bin/clang"))), encoding="utf-8")
+    own, place = (shlex.quote(str(path)) for path in (kit.compiler / "bin" / "clang", kept))
+    clang.write_text(WRAPPER.format(kept=place, clang=own), encoding="utf-8")
     clang.chmod(clang.stat().st_mode | stat.S_IXUSR)
     return made

@@ -86,8 +86,8 @@ def linked(module: bytes, name: str, tools: Tools) -> bytes:
 def linker_words(tools: Tools) -> List[str]:
     """What isn't found stops the linker: nothing is left to be imported but the host's five calls."""
     return ["-flavor", "wasm", "-mwasm64", "--no-entry", "--export=main", "--stack-first", "-z",
-            f"stack-size={STACK}", f"--max-memory={MOST_MEMORY}", "--gc-sections", "--threads=1", "-s", "-o", "wide.wasm",
-            "program.o", "shim.o", str(tools.builtins)]
+            f"stack-size={STACK}", f"--max-memory={MOST_MEMORY}", "--gc-sections", "--threads=1", "-s", "-o",
+            "wide.wasm", "program.o", "shim.o", str(tools.builtins)]
 
 
 __all__ = ["TARGET", "Tools", "linked"]

@@ -43,7 +43,8 @@ def commit_path(crate: str) -> pathlib.Path:
 
 def commit_now() -> str:
     """The commit that stands here, as the launcher tells it."""
-    done = subprocess.run([LAUNCHER, "--version"], capture_output=True, text=True, check=False, stdin=subprocess.DEVNULL)
+    done = subprocess.run([LAUNCHER, "--version"], capture_output=True, text=True, check=False,
+                          stdin=subprocess.DEVNULL)
     return done.stdout.strip().partition(", commit ")[2] or "unknown"
 
 

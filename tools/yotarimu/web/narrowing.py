@@ -18,8 +18,8 @@ CALLS_INDIRECT = (0x11, 0x13)
 BLOCKS = (0x02, 0x03, 0x04)
 BRANCH_TABLE, SELECT_TYPED, PREFIX = 0x0E, 0x1C, 0xFC
 # How many numbers stand behind each instruction that has some; others have none.
-NUMBERS = {**dict.fromkeys((*BLOCKS, 0x0C, 0x0D, 0x10, 0x12, *range(0x20, 0x27), 0xD2, 0x3F, 0x40, 0x41, 0x42, 0xD0), 1),
-           **dict.fromkeys((*CALLS_INDIRECT, *range(0x28, 0x3F)), 2)}
+WITH_ONE = (*BLOCKS, 0x0C, 0x0D, 0x10, 0x12, *range(0x20, 0x27), 0xD2, 0x3F, 0x40, 0x41, 0x42, 0xD0)
+NUMBERS = {**dict.fromkeys(WITH_ONE, 1), **dict.fromkeys((*CALLS_INDIRECT, *range(0x28, 0x3F)), 2)}
 BYTES = {0x43: 4, 0x44: 8}
 # Behind the prefix: memory.init, memory.copy, table.init and table.copy have two numbers, conversions none.
 PREFIXED = {**dict.fromkeys(range(8), 0), 8: 2, 9: 1, 10: 2, 11: 1, 12: 2, 13: 1, 14: 2, 15: 1, 16: 1, 17: 1}

@@ -21,12 +21,14 @@ def examples_in(root: pathlib.Path) -> List[Dict[str, Any]]:
 def group_of(root: pathlib.Path, title: str, folder: str) -> List[Dict[str, Any]]:
     places = sorted(place for place in (root / folder).iterdir() if (place / IMAGE).is_file())
     places.sort(key=lambda place: place.name not in NAMED_FIRST)
-    return [{"group": title, **example_of(root, place)} for place in places if (place / IMAGE).stat().st_size <= MOST_BYTES]
+    small = (place for place in places if (place / IMAGE).stat().st_size <= MOST_BYTES)
+    return [{"group": title, **example_of(root, place)} for place in small]
 
 
 def example_of(root: pathlib.Path, place: pathlib.Path) -> Dict[str, Any]:
-    return {"name": place.relative_to(root).as_posix(), "title": place.name.replace("_", " "),
-            "image": base64.b64encode((place / IMAGE).read_bytes()).decode("ascii"), "script": text_of(place / "script"),
+    image = base64.b64encode((place / IMAGE).read_bytes()).decode("ascii")
+    return {"name": place.relative_to(root).as_posix(), "title": place.name.replace("_", " "), "image": image,
+            "script": text_of(place / "script"),
             "listing": text_of(place / "listing"), "source": text_of(place / "task.s"),
             "words": text_of(place / "words").split() or ["least"]}
 

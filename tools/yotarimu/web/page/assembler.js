@@ -1,15 +1,33 @@
 // ---- an assembler of RV32I, for sources as GNU as takes them: instructions, what they are short for, and data
 
-const NUMBERS_OF = new Map(REGISTERS.flatMap((name, number) => [[name, number], [`x${number}`, number]]).concat([["fp", 8]]));
+const NUMBERS_OF
+  = new Map(REGISTERS.flatMap((name, number) => [[name, number], [`x${number}`, number]]).concat([["fp", 8]]));
 const [ZERO, RA, T1] = [0, 1, 6];
-const invert = (names) => Object.fromEntries(Object.entries(names).map(([code, name]) => [name, code.split(" ").map(Number)]));
+const invert
+  = (names) => Object.fromEntries(Object.entries(names).map(([code, name]) => [name, code.split(" ").map(Number)]));
 const CODES = {branch: invert(BRANCHES), load: invert(LOADS), store: invert(STORES), immediate: invert(WITH_IMMEDIATE),
   shift: invert(SHIFTS), register: invert(WITH_REGISTER)};
 // An instruction of two registers whose last operand is a number is the one with an immediate.
-const ALSO_IMMEDIATE = {add: "addi", slt: "slti", sltu: "sltiu", xor: "xori", or: "ori", and: "andi", sll: "slli", srl: "srli",
-  sra: "srai"};
+const ALSO_IMMEDIATE = {
+  add: "addi",
+  slt: "slti",
+  sltu: "sltiu",
+  xor: "xori",
+  or: "ori",
+  and: "andi",
+  sll: "slli",
+  srl: "srli",
+  sra: "srai"
+};
 const SWAPPED = {bgt: "blt", ble: "bge", bgtu: "bltu", bleu: "bgeu"};
-const AGAINST_ZERO = {beqz: ["beq", 0], bnez: ["bne", 0], bgez: ["bge", 0], bltz: ["blt", 0], blez: ["bge", 1], bgtz: ["blt", 1]};
+const AGAINST_ZERO = {
+  beqz: ["beq", 0],
+  bnez: ["bne", 0],
+  bgez: ["bge", 0],
+  bltz: ["blt", 0],
+  blez: ["bge", 1],
+  bgtz: ["blt", 1]
+};
 // What one word is short for: its operands by number, others as they stand.
 const SHORT = {
   nop: [0, "addi zero,zero,0"], mv: [2, "addi $0,$1,0"], not: [2, "xori $0,$1,-1"], neg: [2, "sub $0,zero,$1"],
@@ -34,8 +52,10 @@ function refuseLine(place, why) { throw new Refused(`${place.told}: ${why}.`); }
 // ---- words of instructions
 
 const signedIn = (value, bits) => value >= -(2 ** (bits - 1)) && value < 2 ** (bits - 1);
-const wordI = (opcode, kind, rd, one, value) => ((value & 0xfff) << 20 | one << 15 | kind << 12 | rd << 7 | opcode) >>> 0;
-const wordR = (opcode, kind, high, rd, one, two) => (high << 25 | two << 20 | one << 15 | kind << 12 | rd << 7 | opcode) >>> 0;
+const wordI
+  = (opcode, kind, rd, one, value) => ((value & 0xfff) << 20 | one << 15 | kind << 12 | rd << 7 | opcode) >>> 0;
+const wordR
+  = (opcode, kind, high, rd, one, two) => (high << 25 | two << 20 | one << 15 | kind << 12 | rd << 7 | opcode) >>> 0;
 const wordU = (opcode, rd, value) => (value << 12 | rd << 7 | opcode) >>> 0;
 const wordS = (kind, one, two, value) => (
   (value >> 5 & 127) << 25 | two << 20 | one << 15 | kind << 12 | (value & 31) << 7 | 0x23) >>> 0;
@@ -163,7 +183,8 @@ class Expression {
   }
 
   atom(token) {
-    if (token[0] === "'") return {value: token[1] === "\\" ? ESCAPES[token[2]] ?? token.charCodeAt(2) : token.charCodeAt(1), section: null};
+    if (token[0] === "'")
+      return {value: token[1] === "\\" ? ESCAPES[token[2]] ?? token.charCodeAt(2) : token.charCodeAt(1), section: null};
     if (/^0[xXbB]/.test(token)) return {value: Number(token.toLowerCase()), section: null};
     if (/^\d+$/.test(token)) return {value: parseInt(token, token[0] === "0" ? 8 : 10), section: null};
     return this.named(token, this.line);

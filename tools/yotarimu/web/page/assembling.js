@@ -1,7 +1,17 @@
 // ---- from the statements of a source to the bytes of its sections, in two passes: places first, then words
 
 const SECTIONS = [".text", ".rodata", ".srodata", ".data", ".sdata", ".bss", ".sbss"];
-const DATA_SIZES = {".byte": 1, ".half": 2, ".short": 2, ".2byte": 2, ".hword": 2, ".word": 4, ".long": 4, ".4byte": 4, ".int": 4};
+const DATA_SIZES = {
+  ".byte": 1,
+  ".half": 2,
+  ".short": 2,
+  ".2byte": 2,
+  ".hword": 2,
+  ".word": 4,
+  ".long": 4,
+  ".4byte": 4,
+  ".int": 4
+};
 // Directives that change no byte here.
 const WITHOUT_EFFECT = [".globl", ".global", ".local", ".type", ".option", ".file", ".ident", ".attribute", ".loc"];
 const MOST_SECTION = 16777216;
@@ -117,7 +127,8 @@ class Assembly {
   constantIn(text, least, most, line) {
     const value = this.constant(text, line);
     const wrapped = value > 0x7fffffff && value <= 0xffffffff && least < 0 ? value - 2 ** 32 : value;
-    if (wrapped < least || wrapped > most) refuseLine(line, `a number from ${least} to ${most} is wanted, and not ${text}`);
+    if (wrapped < least || wrapped > most)
+      refuseLine(line, `a number from ${least} to ${most} is wanted, and not ${text}`);
     return wrapped;
   }
 
@@ -132,7 +143,8 @@ class Assembly {
       for (const it of operands) this.put([...bytesInQuotes(it, line), ...(word === ".ascii" ? [] : [0])], line);
     } else if ([".zero", ".space", ".skip"].includes(word)) this.fill(operands, line);
     else if (word === ".balign") this.align(this.constantIn(first, 1, 65536, line), operands[1], line);
-    else if (word === ".align" || word === ".p2align") this.align(2 ** this.constantIn(first, 0, 16, line), operands[1], line);
+    else if (word === ".align" || word === ".p2align")
+      this.align(2 ** this.constantIn(first, 0, 16, line), operands[1], line);
     else if ([".equ", ".set", ".equiv"].includes(word)) this.set(operands, line);
     else if (word === ".size") this.sizes.set(first, this.number(operands[1] ?? "", line).value);
     else if (!WITHOUT_EFFECT.includes(word)) refuseLine(line, `\`${word}\` isn't known to the assembler of this page`);
@@ -148,7 +160,8 @@ class Assembly {
 
   datum(text, size, line) {
     const {value} = this.number(text, line);
-    if (value < -(2 ** (8 * size - 1)) || value >= 2 ** (8 * size)) refuseLine(line, `${text} has no place in ${size} bytes`);
+    if (value < -(2 ** (8 * size - 1)) || value >= 2 ** (8 * size))
+      refuseLine(line, `${text} has no place in ${size} bytes`);
     this.put(Array.from({length: size}, (_, byte) => Math.floor(value / 2 ** (8 * byte)) & 255), line);
   }
 
@@ -162,7 +175,8 @@ class Assembly {
     const {section} = this;
     section.alignment = Math.max(section.alignment, step);
     if (isPart(section, ".text") && byte === undefined) this.fillCode(step, line);
-    else this.put(new Uint8Array(-section.bytes.length & (step - 1)).fill(this.constant(byte ?? "0", line) & 255), line);
+    else
+      this.put(new Uint8Array(-section.bytes.length & (step - 1)).fill(this.constant(byte ?? "0", line) & 255), line);
   }
 
   /** Instructions that do nothing, up to a multiple of the section's alignment or of a step. */
@@ -176,8 +190,10 @@ class Assembly {
 
   put(bytes, line) {
     const {section} = this;
-    if (section.bytes.length + bytes.length > MOST_SECTION) refuseLine(line, "a section is larger than an image may have");
-    if (/^\.s?bss/.test(section.name) && bytes.some((byte) => byte)) refuseLine(line, `${section.name} has zeros alone`);
+    if (section.bytes.length + bytes.length > MOST_SECTION)
+      refuseLine(line, "a section is larger than an image may have");
+    if (/^\.s?bss/.test(section.name) && bytes.some((byte) => byte))
+      refuseLine(line, `${section.name} has zeros alone`);
     for (const byte of bytes) section.bytes.push(byte);
   }
 
@@ -236,7 +252,8 @@ class Instruction {
   short(count, text) {
     this.want(count);
     const [name, rest] = text.split(" ");
-    this.also(name, ...(rest ? rest.split(",").map((it) => it.replace(/\$(\d)/, (_, place) => this.operands[place])) : []));
+    this.also(
+      name, ...(rest ? rest.split(",").map((it) => it.replace(/\$(\d)/, (_, place) => this.operands[place])) : []));
   }
 
   registers(kind, high) {
@@ -360,7 +377,8 @@ class Instruction {
   upper(opcode) {
     this.want(2);
     const [rd, text] = this.operands;
-    this.put(wordU(opcode, this.register(rd), this.part(text) ?? this.assembly.constantIn(text, 0, 0xfffff, this.line)));
+    this.put(
+      wordU(opcode, this.register(rd), this.part(text) ?? this.assembly.constantIn(text, 0, 0xfffff, this.line)));
   }
 
   jump() {
@@ -372,7 +390,9 @@ class Instruction {
   /** `jalr rs`, `jalr rd, rs`, `jalr rd, 4(rs)`, `jalr rd, rs, 4`; `jr` likewise, without rd. */
   jumpBy(rd, operands) {
     const [text = "", value] = operands;
-    const place = value === undefined && !this.isRegister(text) ? this.place(text) : [value === undefined ? 0 : this.low(value), this.register(text)];
+    const place = value === undefined && !this.isRegister(text) ?
+      this.place(text) :
+      [value === undefined ? 0 : this.low(value), this.register(text)];
     if (!place) this.refuse("a register is wanted");
     this.put(wordI(0x67, 0, rd, place[1], place[0]));
   }

@@ -44,15 +44,18 @@ const write = (file, text) => writeAll(file, new TextEncoder().encode(text));
 function helpPage() {
   const rows = (kind, told) => table.filter(([it]) => it === kind).map(told);
   const row = (left, right) => `  ${left.padEnd(22)} ${right}`;
-  return ["Simulates a machine that runs tasks ahead of their turn and commits them in order. An image comes from standard",
-    "input, and what was asked for goes to standard output.", "",
-    "usage: node fractal.mjs COMMAND [OPTION]... < IMAGE", "       node fractal.mjs watch [views K] COURSE [OPTION]... < IMAGE",
-    "", "Commands:", ...rows("command", ([, name, words, , does]) => row(`${name} ${words}`.trim(), does)),
-    "", "Courses of watch:", ...rows("course", ([, name, words, , does]) => row(`${name} ${words}`.trim(), does)),
-    "", "Options:", ...rows("option", ([, name, values, usual, bounds]) => row(`--${name}`,
-      `${bounds} (${values.replace("..", " to ")}; ${usual})`)),
-    "", "Statuses:", ...rows("status", ([, number, says, advice]) => row(number, says + (advice ? ` (${advice})` : ""))),
-    ""].join("\n");
+  return [
+    "Simulates a machine that runs tasks ahead of their turn and commits them in order. An image comes from standard",
+    "input, and what was asked for goes to standard output.", "", "usage: node fractal.mjs COMMAND [OPTION]... < IMAGE",
+    "       node fractal.mjs watch [views K] COURSE [OPTION]... < IMAGE", "",
+    "Commands:", ...rows("command", ([, name, words, , does]) => row(`${name} ${words}`.trim(), does)), "",
+    "Courses of watch:", ...rows("course", ([, name, words, , does]) => row(`${name} ${words}`.trim(), does)), "",
+    "Options:",
+    ...rows("option", ([, name, values, usual,
+                        bounds]) => row(`--${name}`, `${bounds} (${values.replace("..", " to ")}; ${usual})`)),
+    "",
+    "Statuses:", ...rows("status", ([, number, says, advice]) => row(number, says + (advice ? ` (${advice})` : ""))), ""
+  ].join("\n");
 }
 
 function versionLine() {

@@ -39,10 +39,12 @@ async function playedOf(image, acts, words) {
 
 async function judgeJournal({image}, answer) {
   const texts = exercises.journal;
-  const given = answer.split(/\r\n?|\n/).map((line, place) => [place + 1, line.split("#")[0].trim().split(/\s+/).filter(Boolean)])
-    .filter(([, fields]) => fields.length);
+  const given = answer.split(/\r\n?|\n/)
+                  .map((line, place) => [place + 1, line.split("#")[0].trim().split(/\s+/).filter(Boolean)])
+                  .filter(([, fields]) => fields.length);
   const odd = given.find(([, fields]) => fields.length !== texts.fields.length);
-  if (odd) throw new Refused(`Line ${odd[0]}: ${filled(texts.misshapen, {text: odd[1].join(" ").slice(0, MOST_SHOWN)})}.`);
+  if (odd)
+    throw new Refused(`Line ${odd[0]}: ${filled(texts.misshapen, {text: odd[1].join(" ").slice(0, MOST_SHOWN)})}.`);
   const {entries, output} = await runOf(image);
   given.slice(0, entries.length).forEach(([line, fields], place) => {
     const wrong = texts.fields.filter((_, field) => fields[field] !== entries[place][field]);
@@ -93,7 +95,8 @@ async function judgeFalseConflict({image, words, script: text}, answer) {
 }
 
 async function judgeOrder({image}, answer) {
-  const made = imageOf(assembled({name: "", text: answer})), texts = exercises.order, [header, own] = [headerOf(made), headerOf(image)];
+  const made = imageOf(assembled({name: "", text: answer})), texts = exercises.order,
+        [header, own] = [headerOf(made), headerOf(image)];
   const textOf = (bytes, {dataAt}) => bytes.subarray(HEADER_BYTES, dataAt).join();
   hold(textOf(made, header) === textOf(image, own), texts.text);
   const letters = (it) => tasksOf(it).map((task) => task.args.join()).sort().join(" ");
@@ -145,7 +148,8 @@ function judge() {
     words: example.words[0] === "steps" ? example.words : ["steps"]};
   return perform(async () => {
     showVerdict("", "");
-    const given = answer === "script" ? scriptText(subject.name === example.name ? actsSoFar() : []) : at("answer").value;
+    const given
+      = answer === "script" ? scriptText(subject.name === example.name ? actsSoFar() : []) : at("answer").value;
     try {
       showVerdict("right", filled(exercises.verdicts.right, {why: await JUDGES[name](own, given)}));
     } catch (error) {
@@ -159,7 +163,8 @@ function listenToExercises() {
   at("exercise-open").addEventListener("click", openExercise);
   at("exercise").addEventListener("change", () => { at("exercise-box").hidden = true; });
   at("judge").addEventListener("click", judge);
-  at("assemble").addEventListener("click", () => perform(() => openSources([{name: "task.s", text: at("source-text").value}])));
+  at("assemble")
+    .addEventListener("click", () => perform(() => openSources([{name: "task.s", text: at("source-text").value}])));
 }
 
 /** Assembles sources, and opens what they make. */

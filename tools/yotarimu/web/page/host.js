@@ -3,7 +3,7 @@
 /** How a program was left, in place of a status: it can't go on in this engine. */
 class Broken extends Error {}
 
-/** What a call reads and writes. `read(most)` gives bytes, none at the end; both may throw, which the program is told. */
+/** What a call reads and writes. `read(most)` gives bytes, none at the end. Where one throws, the program is told. */
 class Streams {
   constructor(read, write) {
     this.read = read;
@@ -57,8 +57,12 @@ class Program {
   /** The status of a call with these words. */
   run(words, streams) {
     const texts = ["fractal", ...words].map((word) => new TextEncoder().encode(word));
-    const host = {...hostOf(streams, texts, (place, size) => new Uint8Array(instance.exports.memory.buffer, place, size)),
-      exit: (status) => { throw new Exit(status); }};
+    const host = {
+      ...hostOf(streams, texts, (place, size) => new Uint8Array(instance.exports.memory.buffer, place, size)),
+      exit: (status) => {
+        throw new Exit(status);
+      }
+    };
     const instance = new WebAssembly.Instance(this.module, {host});
     try {
       return instance.exports.main(0, 0n);

@@ -17,19 +17,32 @@ function headerOf(image) {
 /** The initial tasks of an image: entry address, timestamp, three arguments. */
 function tasksOf(header) {
   return Array.from({length: header.tasks}, (_, number) => {
-    const [entry, ts, ...args] = [0, 4, 8, 12, 16].map((place) => header.word(header.tasksAt + TASK_BYTES * number + place));
+    const [entry, ts, ...args] =
+      [0, 4, 8, 12, 16].map((place) => header.word(header.tasksAt + TASK_BYTES * number + place));
     return {entry, ts, args};
   });
 }
 
-const REGISTERS = ["zero", "ra", "sp", "gp", "tp", "t0", "t1", "t2", "s0", "s1", ...[0, 1, 2, 3, 4, 5, 6, 7].map((it) => `a${it}`),
-  ...[2, 3, 4, 5, 6, 7, 8, 9, 10, 11].map((it) => `s${it}`), "t3", "t4", "t5", "t6"];
+const REGISTERS = [
+  "zero", "ra", "sp", "gp", "tp", "t0", "t1", "t2", "s0", "s1", ...[0, 1, 2, 3, 4, 5, 6, 7].map((it) => `a${it}`),
+  ...[2, 3, 4, 5, 6, 7, 8, 9, 10, 11].map((it) => `s${it}`), "t3", "t4", "t5", "t6"
+];
 const BRANCHES = {0: "beq", 1: "bne", 4: "blt", 5: "bge", 6: "bltu", 7: "bgeu"};
 const LOADS = {0: "lb", 1: "lh", 2: "lw", 4: "lbu", 5: "lhu"}, STORES = {0: "sb", 1: "sh", 2: "sw"};
 const WITH_IMMEDIATE = {0: "addi", 2: "slti", 3: "sltiu", 4: "xori", 6: "ori", 7: "andi"};
 const SHIFTS = {"1 0": "slli", "5 0": "srli", "5 32": "srai"};
-const WITH_REGISTER = {"0 0": "add", "0 32": "sub", "1 0": "sll", "2 0": "slt", "3 0": "sltu", "4 0": "xor", "5 0": "srl",
-  "5 32": "sra", "6 0": "or", "7 0": "and"};
+const WITH_REGISTER = {
+  "0 0": "add",
+  "0 32": "sub",
+  "1 0": "sll",
+  "2 0": "slt",
+  "3 0": "sltu",
+  "4 0": "xor",
+  "5 0": "srl",
+  "5 32": "sra",
+  "6 0": "or",
+  "7 0": "and"
+};
 // A FENCE by what it orders before and behind it: devices' input and output, reads, writes.
 const FENCED = ["w", "r", "o", "i"];
 
@@ -55,8 +68,10 @@ function instructionTold(word, address, place = hex) {
     case 0x63: return named(BRANCHES[kind], one, two, place(address + at_.b >>> 0));
     case 0x03: return named(LOADS[kind], rd, `${at_.i}(${one})`);
     case 0x23: return named(STORES[kind], two, `${at_.s}(${one})`);
-    case 0x13: return kind === 1 || kind === 5 ? named(SHIFTS[`${kind} ${high}`], rd, one, `0x${(word >>> 20 & 31).toString(16)}`)
-      : named(WITH_IMMEDIATE[kind], rd, one, at_.i);
+    case 0x13:
+      return kind === 1 || kind === 5 ?
+        named(SHIFTS[`${kind} ${high}`], rd, one, `0x${(word >>> 20 & 31).toString(16)}`) :
+        named(WITH_IMMEDIATE[kind], rd, one, at_.i);
     case 0x33: return named(WITH_REGISTER[`${kind} ${high}`], rd, one, two);
     case 0x0f: return fenceTold(word);
     case 0x73: return word === 0x73 ? "ecall" : word === 0x100073 ? "ebreak" : unknownTold(word);
@@ -81,7 +96,8 @@ function disassembled(image) {
   const header = headerOf(image);
   if (!header) return [];
   const entries = [...new Set(tasksOf(header).map((task) => task.entry))].sort((one, two) => one - two);
-  const names = new Map(entries.map((entry, number) => [entry, entries.length === 1 ? "entry" : `entry_${number + 1}`]));
+  const names
+    = new Map(entries.map((entry, number) => [entry, entries.length === 1 ? "entry" : `entry_${number + 1}`]));
   const target = (address) => hex(address) + (names.has(address) ? ` <${names.get(address)}>` : "");
   const rows = [[null, "Disassembled from the image: address, word, instruction."]];
   const count = Math.min(header.textWords, MOST_LISTED);

@@ -35,10 +35,10 @@ async function checkReport() {
   const {output} = await machines.call("sim", words, withBehind(subject.image, text));
   const said = new TextDecoder().decode(output).trim();
   const fault = /^fault journal (\d+)$/.exec(said), accepted = /^check ok (\d+)$/.exec(said);
-  at("report-said").textContent = fault
-    ? `Refused: line ${fault[1]} is the first that is wrong: \`${(text.split("\n")[fault[1] - 1] ?? "").slice(0, 60)}\`.`
-    : accepted ? `Accepted: this is the report of a run, and ${plural(Number(accepted[1]), "task")} took a turn in it.`
-      : `The program says: ${said}.`;
+  at("report-said").textContent = fault ? `Refused: line ${fault[1]} is the first that is wrong: \`${
+                                    (text.split("\n")[fault[1] - 1] ?? "").slice(0, 60)}\`.` :
+    accepted ? `Accepted: this is the report of a run, and ${plural(Number(accepted[1]), "task")} took a turn in it.` :
+               `The program says: ${said}.`;
 }
 
 // ---- files
@@ -69,7 +69,8 @@ async function through(stream, bytes) {
 async function packedText(bytes) {
   const made = await through(new CompressionStream("gzip"), bytes);
   let text = "";
-  for (let place = 0; place < made.length; place += 8192) text += String.fromCharCode(...made.subarray(place, place + 8192));
+  for (let place = 0; place < made.length; place += 8192)
+    text += String.fromCharCode(...made.subarray(place, place + 8192));
   return btoa(text).replaceAll("+", "-").replaceAll("/", "_").replace(/=+$/, "");
 }
 
@@ -77,12 +78,13 @@ async function unpackedText(text) {
   return through(new DecompressionStream("gzip"), bytesOf(text.replaceAll("-", "+").replaceAll("_", "/")));
 }
 
-/** The part of an address behind its `#`: an example's name or an image, the options, the course, the acts, the place. */
+/** The part of an address behind its `#`: an example's name or an image, options, course, acts, place. */
 async function addressNow() {
   const parts = new URLSearchParams();
   const example = examples.find((it) => it.name === subject.name);
   if (example) parts.set("example", example.name);
-  else if (subject.sources) parts.set("sources", await packedText(new TextEncoder().encode(JSON.stringify(subject.sources))));
+  else if (subject.sources)
+    parts.set("sources", await packedText(new TextEncoder().encode(JSON.stringify(subject.sources))));
   else {
     parts.set("name", subject.name);
     parts.set("image", await packedText(subject.image));
@@ -116,8 +118,10 @@ async function openAddress() {
   const address = location.hash.slice(1);
   if (!address || address === written) return false;
   const parts = new URLSearchParams(address), [kind, rounds, seed] = (parts.get("acts") ?? "steps").split(" ");
-  if (!["steps", "least", "lockstep"].includes(kind)) throw new Refused("The address has acts of no kind that is known here.");
-  const options = Object.fromEntries(optionRows.filter(([, name]) => parts.has(name)).map(([, name]) => [name, parts.get(name)]));
+  if (!["steps", "least", "lockstep"].includes(kind))
+    throw new Refused("The address has acts of no kind that is known here.");
+  const options
+    = Object.fromEntries(optionRows.filter(([, name]) => parts.has(name)).map(([, name]) => [name, parts.get(name)]));
   const acts = parts.has("script") ? actsIn(new TextDecoder().decode(await read(parts.get("script")))) : [];
   const number = Number(parts.get("at") ?? NaN), place = Number.isInteger(number) && number >= 0 ? number : Infinity;
   const more = {options, acts, course: {kind, rounds, seed}};

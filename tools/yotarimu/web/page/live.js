@@ -32,8 +32,10 @@ function perform(action) {
       tell("");
       await action();
     } catch (error) {
-      tell(error instanceof Refused ? error.message : error instanceof Stopped ? "It was stopped, and nothing has changed."
-        : `The machine gave no answer: ${error.message}.`);
+      tell(
+        error instanceof Refused   ? error.message :
+          error instanceof Stopped ? "It was stopped, and nothing has changed." :
+                                     `The machine gave no answer: ${error.message}.`);
     } finally {
       clearTimeout(late);
       showBusy(false);
@@ -109,7 +111,8 @@ async function play(place = Infinity) {
   const had = telling.course, kept = await telling.take(output);
   showAnswer({isNew: telling.course !== had, kept, place});
   const size = `${plural(output.length, "byte")}, ${milliseconds.toFixed(0)} ms`;
-  at("call").textContent = `fractal watch ${words.join(" ")}: status ${status}, ${size}.${telling.end ? "" : brokenOff(status)}`;
+  at("call").textContent
+    = `fractal watch ${words.join(" ")}: status ${status}, ${size}.${telling.end ? "" : brokenOff(status)}`;
   lastOptions = {options: optionsNow(), course: courseNow()};
   clearTexts();
 }
@@ -161,7 +164,8 @@ function statusTold(status) {
 
 function faultTold(fault) {
   switch (fault.fault) {
-    case "image": return `${subject.name} is no image: ${sentences["image faults"][fault.number]} (at its byte ${fault.offset}).`;
+    case "image":
+      return `${subject.name} is no image: ${sentences["image faults"][fault.number]} (at its byte ${fault.offset}).`;
     case "script": return actFault(script[fault.line - 1] ?? "", fault.line);
     case "long": return `The image and its script have more than ${MOST_INPUT.toLocaleString("en")} bytes.`;
     default: return `An option is outside its range: ${optionFault()}.`;
@@ -185,11 +189,15 @@ function isAllowed(values, text) {
 function actFault(act, line) {
   const [word, ...numbers] = act.split(" "), {tiles, cores} = optionsNow();
   const where = line ? `Line ${line}, \`${act.slice(0, 40)}\`` : `\`${act.slice(0, 40)}\``;
-  if (!Object.hasOwn(actWords, word)) return `${where}, is no act; an act begins with ${Object.keys(actWords).join(", ")}.`;
-  if (numbers.length !== actWords[word]) return `${where}: it wants ${["no number", "a tile", "a tile and a core"][actWords[word]]}.`;
+  if (!Object.hasOwn(actWords, word))
+    return `${where}, is no act; an act begins with ${Object.keys(actWords).join(", ")}.`;
+  if (numbers.length !== actWords[word])
+    return `${where}: it wants ${["no number", "a tile", "a tile and a core"][actWords[word]]}.`;
   if (numbers.some((it) => /^0\d/.test(it))) return `${where}: a number has no leading zero.`;
-  if (numbers[0] !== undefined && !isAllowed(`0..${tiles - 1}`, numbers[0])) return `${where}: the tiles are 0 to ${tiles - 1}.`;
-  if (numbers[1] !== undefined && !isAllowed(`0..${cores - 1}`, numbers[1])) return `${where}: the cores are 0 to ${cores - 1}.`;
+  if (numbers[0] !== undefined && !isAllowed(`0..${tiles - 1}`, numbers[0]))
+    return `${where}: the tiles are 0 to ${tiles - 1}.`;
+  if (numbers[1] !== undefined && !isAllowed(`0..${cores - 1}`, numbers[1]))
+    return `${where}: the cores are 0 to ${cores - 1}.`;
   return `${where}: it isn't written as an act is.`;
 }
 
@@ -229,8 +237,10 @@ function runRounds(count) {
   return perform(async () => {
     const {tiles, cores} = telling.head, before = actsSoFar().length;
     const each = (length, act) => Array.from({length}, (_, number) => act(number));
-    const round = [...each(tiles, (tile) => [`dispatch ${tile}`, ...each(cores, (core) => `step ${tile} ${core}`)]).flat(),
-      ...each(tiles, () => "commit"), ...each(tiles, (tile) => `split ${tile}`)];
+    const round = [
+      ...each(tiles, (tile) => [`dispatch ${tile}`, ...each(cores, (core) => `step ${tile} ${core}`)]).flat(),
+      ...each(tiles, () => "commit"), ...each(tiles, (tile) => `split ${tile}`)
+    ];
     if (count * round.length > 200000) throw new Refused("So many rounds at once are too many; make fewer.");
     await change(() => {
       undoLengths.push(script.length);
@@ -304,14 +314,18 @@ function openExample(example) {
 }
 
 const bytesOf = (base64) => Uint8Array.from(atob(base64), (sign) => sign.charCodeAt(0));
-const actsIn = (text) => text.split(/\r\n?|\n/).map((line) => line.split("#")[0].trim().replace(/\s+/g, " ")).filter(Boolean);
+const actsIn
+  = (text) => text.split(/\r\n?|\n/).map((line) => line.split("#")[0].trim().replace(/\s+/g, " ")).filter(Boolean);
 
 /** The course and the options of a call's words. */
 function wordsRead(words) {
   const options = {};
   words.forEach((word, place) => { if (word.startsWith("--")) options[word.slice(2)] = words[place + 1]; });
   const kind = ["steps", "lockstep"].includes(words[0]) ? words[0] : "least";
-  return {course: {kind, rounds: words[1], seed: words[2], ...(kind === "lockstep" ? {} : {rounds: undefined})}, options};
+  return {
+    course: {kind, rounds: words[1], seed: words[2], ...(kind === "lockstep" ? {} : {rounds: undefined})},
+    options
+  };
 }
 
 /** Files of one's own: an image with what belongs to it, or a source. */
@@ -321,13 +335,15 @@ async function openFiles(files) {
     throw new Refused(`${large.name} has ${plural(large.size, "byte")}; an image and its script have at most `
       + `${MOST_INPUT.toLocaleString("en")}.`);
   }
-  const read = await Promise.all(files.map(async (file) => ({name: file.name, bytes: new Uint8Array(await file.arrayBuffer())})));
+  const read = await Promise.all(
+    files.map(async (file) => ({name: file.name, bytes: new Uint8Array(await file.arrayBuffer())})));
   const kinds = {};
   for (const file of read) kinds[kindOf(file)] ??= file;
   const text = (file) => (file ? new TextDecoder().decode(file.bytes) : "");
   if (!kinds.image && kinds.source) {
     at("source-text").value = text(kinds.source);
-    return openSources(read.filter((file) => kindOf(file) === "source").map((file) => ({name: file.name, text: text(file)})));
+    return openSources(
+      read.filter((file) => kindOf(file) === "source").map((file) => ({name: file.name, text: text(file)})));
   }
   if (!kinds.image && kinds.script && !kinds.other) return change(() => {
     script = actsIn(text(kinds.script));
@@ -381,10 +397,16 @@ function fieldHtml([, name, values, usual, bounds]) {
 function buildControls() {
   at("options").innerHTML = optionRows.map(fieldHtml).join("");
   setOptions({});
-  at("example").innerHTML = '<option value="-1">of my own</option>' + [...new Set(examples.map((it) => it.group))].map((group) => `<optgroup label="${group}">${
-    examples.map((it, place) => (it.group === group ? `<option value="${place}">${escaped(it.title)}</option>` : "")).join("")
-  }</optgroup>`).join("");
-  at("made").textContent = `Version ${table.find(([kind]) => kind === "version")[1]}, made of the commit ${made.commit}.`;
+  at("example").innerHTML = '<option value="-1">of my own</option>' +
+    [...new Set(examples.map((it) => it.group))]
+      .map(
+        (group) => `<optgroup label="${group}">${
+          examples
+            .map((it, place) => (it.group === group ? `<option value="${place}">${escaped(it.title)}</option>` : ""))
+            .join("")}</optgroup>`)
+      .join("");
+  at("made").textContent
+    = `Version ${table.find(([kind]) => kind === "version")[1]}, made of the commit ${made.commit}.`;
 }
 
 function listenToControls() {
@@ -396,7 +418,8 @@ function listenToControls() {
   on("options", "change", () => perform(changedOption));
   for (const id of ["course", "rounds", "seed"]) on(id, "change", () => perform(changedOption));
   on("file", "change", () => perform(() => openFiles([...at("file").files]).finally(() => { at("file").value = ""; })));
-  for (const button of document.querySelectorAll("[data-act]")) button.addEventListener("click", () => addActs([actOf(button)]));
+  for (const button of document.querySelectorAll("[data-act]"))
+    button.addEventListener("click", () => addActs([actOf(button)]));
   on("run-many", "click", () => withCount(runMany));
   on("run-rounds", "click", () => withCount(runRounds));
   on("undo", "click", undoLast);

@@ -6,7 +6,7 @@ const MOST_OUTPUT = 32 << 20;
 /** A call that was stopped by a person. */
 class Stopped extends Error {}
 
-/** Both programs, in a worker where the browser allows one for a file from a disk, and else in the page's own thread. */
+/** Both programs, in a worker where the browser allows one for a file from a disk, else in the page's own thread. */
 class Machines {
   constructor(packed) {
     this.packed = packed;

@@ -20,12 +20,14 @@ class Described {
     for (const it of assembly.sources.flatMap(descriptionOf)) this.follow(it);
     const window = this.seen.get("window");
     if (window) this.window = this.windowOf(window);
-    if (!this.tasks.length) throw new Refused("No line tells an initial task: `# image: task LABEL [ts N] [args A [B [C]]]`.");
+    if (!this.tasks.length)
+      throw new Refused("No line tells an initial task: `# image: task LABEL [ts N] [args A [B [C]]]`.");
   }
 
   follow(it) {
     const {line, words} = it, [word = ""] = words;
-    if (!Object.hasOwn(FORMS, word)) refuseLine(line, `\`${word}\` describes nothing; ${Object.keys(FORMS).join(", ")} do`);
+    if (!Object.hasOwn(FORMS, word))
+      refuseLine(line, `\`${word}\` describes nothing; ${Object.keys(FORMS).join(", ")} do`);
     if (word !== "task" && this.seen.has(word)) refuseLine(line, `a second line on \`${word}\``);
     this.seen.set(word, it);
     if (word === "root") this.isOrdered = this.oneOf(it, ["ordered", "unordered"]) === "ordered";
@@ -43,7 +45,8 @@ class Described {
 
   number(text, what, most, line) {
     const value = /^(0[xX][0-9a-fA-F]{1,8}|\d{1,10})$/.test(text) ? Number(text) : NaN;
-    if (!(value <= most)) refuseLine(line, `${what} is a number from 0 to ${most}, in decimal or after 0x, and not \`${text}\``);
+    if (!(value <= most))
+      refuseLine(line, `${what} is a number from 0 to ${most}, in decimal or after 0x, and not \`${text}\``);
     return value;
   }
 
@@ -66,11 +69,13 @@ class Described {
   windowOf(it) {
     if (it.words.length < 2 || it.words.length > 3) this.misshapen(it);
     const [, name, told] = it.words, offset = this.labelOf(name, SECTIONS.slice(3), "data", it.line) - DATA_START;
-    if (offset % 4) refuseLine(it.line, `the label \`${name}\` doesn't stand at a multiple of 4: \`.balign 4\` above it helps`);
+    if (offset % 4)
+      refuseLine(it.line, `the label \`${name}\` doesn't stand at a multiple of 4: \`.balign 4\` above it helps`);
     const words = told === undefined ? Math.ceil((this.assembly.sizes.get(name) ?? 0) / 4)
       : this.number(told, "the number of words", MOST_WINDOW, it.line);
     if (told === undefined && !(words > 0 && words <= MOST_WINDOW)) this.misshapen(it);
-    if (offset + 4 * words > this.dataBytes) refuseLine(it.line, `the window ends after the data, which has ${this.dataBytes} bytes`);
+    if (offset + 4 * words > this.dataBytes)
+      refuseLine(it.line, `the window ends after the data, which has ${this.dataBytes} bytes`);
     return [offset, words];
   }
 
@@ -98,7 +103,8 @@ class Described {
   }
 }
 
-const sectionsAs = (assembly, names) => assembly.sections.filter((it) => it.size && names.some((name) => isPart(it, name)));
+const sectionsAs
+  = (assembly, names) => assembly.sections.filter((it) => it.size && names.some((name) => isPart(it, name)));
 
 /** The bytes from a place on that these sections have. */
 function bytesFrom(start, sections) {
@@ -120,8 +126,10 @@ function assembled(...sources) {
 function imageOf(assembly) {
   const told = new Described(assembly);
   const own = bytesFrom(TEXT_START, sectionsAs(assembly, SECTIONS.slice(0, 3)));
-  const textBytes = joined([own], Math.ceil(own.length / 4) * 4), data = bytesFrom(DATA_START, sectionsAs(assembly, [".data", ".sdata"]));
-  if (textBytes.length / 4 > MOST_TEXT_WORDS) throw new Refused(`${textBytes.length / 4} words of text are more than an image may have.`);
+  const textBytes = joined([own], Math.ceil(own.length / 4) * 4),
+        data = bytesFrom(DATA_START, sectionsAs(assembly, [".data", ".sdata"]));
+  if (textBytes.length / 4 > MOST_TEXT_WORDS)
+    throw new Refused(`${textBytes.length / 4} words of text are more than an image may have.`);
   if (told.tasks.length > MOST_TASKS) throw new Refused("These are more initial tasks than an image may have.");
   const words = [textBytes.length / 4, data.length, told.dataBytes, ...told.window, told.tasks.length];
   const header = new DataView(new ArrayBuffer(HEADER_BYTES));
@@ -139,7 +147,8 @@ function listingOf(assembly) {
   const names = assembly.sources.map(({name}) => name).join(", ");
   const labels = [...assembly.labels].filter(([label]) => !label.startsWith(".L"))
     .map(([label, it]) => [it.section.address + it.offset, label]).sort(([one], [two]) => one - two);
-  const labelled = (address) => labels.filter(([it]) => it === address).map(([, label]) => [null, `${hex(address)} <${label}>:`]);
+  const labelled
+    = (address) => labels.filter(([it]) => it === address).map(([, label]) => [null, `${hex(address)} <${label}>:`]);
   const rows = [[null, `What stands where in image.bin, made of ${names}: address, word, instruction, source line.`]];
   for (const section of sectionsAs(assembly, [".text"])) {
     for (let place = 0; place + 4 <= section.size; place += 4) {

@@ -99,7 +99,8 @@ function buildTiles(tiles) {
   for (let tile = 0; tile < tiles; tile++) {
     const row = at("tiles").tBodies[0].insertRow();
     row.dataset.tile = tile;
-    row.innerHTML = `<th scope="row">${tile}</th>${LANE_TITLES.map((title) => `<td data-title="${title}"></td>`).join("")}`;
+    row.innerHTML
+      = `<th scope="row">${tile}</th>${LANE_TITLES.map((title) => `<td data-title="${title}"></td>`).join("")}`;
     rows.push(row);
   }
 }
@@ -245,7 +246,8 @@ function buildCurve(id, curves, what) {
 function showCurves(place) {
   // The mark stands over the curves, which needn't be painted anew then.
   const across = place / Math.max(1, course.length);
-  for (const mark of document.querySelectorAll(".mark")) mark.style.transform = `translateX(${(across * 100).toFixed(3)}%)`;
+  for (const mark of document.querySelectorAll(".mark"))
+    mark.style.transform = `translateX(${(across * 100).toFixed(3)}%)`;
   const [idle, running, finished, spilled, useful, wasted] = CURVES.map((name) => course.curves[name][place]);
   at("counts").textContent = `Behind this act: ${plural(idle, "task")} idle, ${running} running or trapped, `
     + `${finished} finished, ${spilled} spilled; ${plural(useful, "instruction")} executed by tasks that committed, `
@@ -320,7 +322,8 @@ const BUTTONS = {
 function onKey(event) {
   const isScrolling = event.target.closest?.(".scrolls") && event.key.length > 1;
   const isTyping = event.target.closest?.("textarea, select, input:not([type=range])");
-  if (event.ctrlKey || event.altKey || event.metaKey || isScrolling || isTyping || !Object.hasOwn(KEYS, event.key)) return;
+  if (event.ctrlKey || event.altKey || event.metaKey || isScrolling || isTyping || !Object.hasOwn(KEYS, event.key))
+    return;
   event.preventDefault();
   KEYS[event.key]();
 }
