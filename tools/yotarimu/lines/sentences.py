@@ -117,7 +117,9 @@ VALUES = {"dispatch": of_its_task, "step": of_step, "take": of_take, "abort": of
 def leg_told(told):
     line, texts = told.line, SENTENCES["leg"]
     who = filled(texts["who"], **{**line, "task": label_of(told.task)})
-    return filled(texts["plain"], who=who, instructions=counted(line["leg"], "plain instruction")) if line["leg"] else who
+    if not line["leg"]:
+        return who
+    return filled(texts["plain"], who=who, instructions=counted(line["leg"], "plain instruction"))
 
 
 def request_told(told, machine, listing, limits):
