@@ -298,7 +298,7 @@ function open({name, image, listing = [], acts = [], options = {}, course: wante
   return change(() => {
     const rows = listing.length ? listing : disassembled(image);
     subject = {name, image, listing: rows, labels: new Labels(labelsIn(rows)), sources};
-    at("story").hidden = true;
+    showStory(false);
     script = acts;
     undoLengths = [];
     setOptions(options);

@@ -5,9 +5,15 @@ let storyPlace = -1;
 function openStory() {
   return perform(async () => {
     await openExample(examples.find((it) => it.name === story.example));
-    at("story").hidden = false;
+    showStory(true);
     tellStory(0);
   });
+}
+
+/** While the story is told, it stands alone above the machine. */
+function showStory(isOpen) {
+  at("story").hidden = !isOpen;
+  at("controls").hidden = isOpen;
 }
 
 function tellStory(place) {
@@ -26,7 +32,7 @@ function storyOn() {
 }
 
 function closeStory() {
-  at("story").hidden = true;
+  showStory(false);
   at("typed").focus();
 }
 
