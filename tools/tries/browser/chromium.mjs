@@ -9,7 +9,7 @@ const [TO, FROM] = [3, 4];
 
 /** A browser with one page. */
 export class Page {
-  static async open(url, {width = 1400, height = 1300, dark = false, program = "chromium"} = {}) {
+  static async open(url, {width = 1400, height = 1300, dark = false, before = "", program = "chromium"} = {}) {
     const page = Object.assign(
       new Page(), {folder: mkdtempSync(join(tmpdir(), "fractal-page-")), number: 0, waiting: new Map(), logs: []});
     page.child = spawn(
@@ -27,6 +27,7 @@ export class Page {
     await page.send("Emulation.setDeviceMetricsOverride", {width, height, deviceScaleFactor: 1, mobile: width < 500});
     if (dark)
       await page.send("Emulation.setEmulatedMedia", {features: [{name: "prefers-color-scheme", value: "dark"}]});
+    if (before) await page.send("Page.addScriptToEvaluateOnNewDocument", {source: before});
     await page.go(url);
     return page;
   }

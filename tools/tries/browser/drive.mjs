@@ -259,6 +259,19 @@ const TRIES = {
     });
   },
 
+  async "a browser that lacks a worker answers all the same, and one that lacks more says so"() {
+    // Only this browser's debugger runs a script before those of the page.
+    if (BROWSER !== "chromium") return;
+    await Driver.at("#example=nested&acts=least", {before: "delete window.Worker"}, async (driver) => {
+      const seen = await driver.see();
+      expect(seen.end === "normal", "the run's end", seen);
+    });
+    await Driver.at("", {before: "delete window.WebAssembly"}, async (driver) => {
+      const message = await driver.page.run("at('message').textContent");
+      expect(message.includes("too old"), "a sentence", message);
+    });
+  },
+
   async "a long run can be stopped, and the page stays alive meanwhile"() {
     await Driver.at("#example=hello", WIDE, async (driver) => {
       const source = "# image: task again\nagain: la a0, again\n li a1, 0\n li a7, 1\n ecall\n li a7, 0\n ecall\n";
