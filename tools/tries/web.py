@@ -12,6 +12,7 @@ import subprocess
 import tempfile
 
 from yotarimu.common.places import EXAMPLES_FOLDER, HOME
+from yotarimu.images import loads
 from yotarimu.images.image import DATA, image_bytes
 from yotarimu.images.listing import NO_LISTING, read_listing
 from yotarimu.images.source import assemble, described, source_at, sources_in
@@ -20,8 +21,9 @@ from yotarimu.lines.sentences import end_told, label_of, opening_told, sentence_
 from yotarimu.programs.examples import EXAMPLES, SCHEDULES, words_of
 from yotarimu.programs.program import SECOND_PROGRAM
 from yotarimu.web.bundling import constant, source, table_at
-from yotarimu.web.holding import stored_calls
+from yotarimu.web.holding import Asked, engine, stored_calls
 from yotarimu.web.making import COMMAND, PAGE, PROGRAMS, command_text, commit_path, module_path, modules, page_text
+from yotarimu.web.narrowing import HEADER, number, number_at
 
 from tries.place import LeftOut, expect, need_built, one_sentence_each
 
@@ -30,6 +32,8 @@ BROWSER_FOLDER = pathlib.Path(__file__).with_name("browser")
 READER = ("texts.js", "machine.js", "telling.js", "sentences.js")
 ASSEMBLER = ("host.js", "texts.js", "machine.js", "images.js", "assembler.js", "assembling.js", "sources.js")
 CASES = "40"
+# The section of a module that tells its memory, and so many pages of 64 KiB as are too few for a large run.
+MEMORY, LITTLE = 5, 160
 MOST_SECONDS = 600
 
 
@@ -106,6 +110,36 @@ def web_command(place):
     expect(full.returncode == 7, "status 7 where nothing can be written", full)
     folder = subprocess.run(["sh", "-c", f"node '{command}' run < /"], capture_output=True)
     expect(folder.returncode == 6, "status 6 where nothing can be read", folder)
+
+
+def web_memory(place):
+    """a module whose memory has too little room answers with status 5, and writes nothing or whole lines"""
+    found = need_modules()
+    need_command("node")
+    paths = {name: place.root / f"{name}.wasm" for name in found.programs}
+    for name, path in paths.items():
+        path.write_bytes(with_most_memory(found.programs[name], LITTLE))
+    image = image_bytes(loads.generated("walk", 7, 20_000))
+    with engine(paths) as running:
+        report = running.answer(Asked("sim", ("run",), image))
+        expect(report == (5, b""), "status 5 and nothing written", report.status)
+        lines = running.answer(Asked("watch", ("least",), image))
+        expect(lines.status == 5 and (not lines.output or lines.output.endswith(b"\n")), "whole lines", lines.status)
+
+
+def with_most_memory(module, pages):
+    """The module with another limit of its memory."""
+    made, place = bytearray(module[:HEADER]), HEADER
+    while place < len(module):
+        kind = module[place]
+        size, start = number_at(module, place + 1)
+        section, place = module[start:start + size], start + size
+        if kind == MEMORY:
+            expect(section[:2] == b"\x01\x01", "one memory with a limit", section)
+            least, _ = number_at(section, 2)
+            section = section[:2] + number(min(least, pages)) + number(pages)
+        made += bytes([kind]) + number(len(section)) + section
+    return bytes(made)
 
 
 # ---- the reader of lines
@@ -250,4 +284,4 @@ def web_page_in_firefox(place):
     driven(place, "firefox", "firefox-esr")
 
 
-TRIES = (web_words, web_holds, web_command, web_sentences, web_sources, web_forms, web_page, web_page_in_firefox)
+TRIES = (web_words, web_holds, web_command, web_memory, web_sentences, web_sources, web_forms, web_page, web_page_in_firefox)
