@@ -58,20 +58,20 @@ const immediates = (word) => ({
 /** A word as an instruction of RV32I, in the words of GNU objdump without aliases; else as `.word`. */
 function instructionTold(word, address, place = hex) {
   const [rd, one, two] = [7, 15, 20].map((shift) => REGISTERS[word >>> shift & 31]);
-  const kind = word >>> 12 & 7, high = word >>> 25, at_ = immediates(word);
+  const kind = word >>> 12 & 7, high = word >>> 25, numbers = immediates(word);
   const named = (name, ...rest) => (name ? `${name} ${rest.join(",")}` : unknownTold(word));
   switch (word & 127) {
-    case 0x37: return named("lui", rd, `0x${at_.u.toString(16)}`);
-    case 0x17: return named("auipc", rd, `0x${at_.u.toString(16)}`);
-    case 0x6f: return named("jal", rd, place(address + at_.j >>> 0));
-    case 0x67: return named(kind === 0 && "jalr", rd, `${at_.i}(${one})`);
-    case 0x63: return named(BRANCHES[kind], one, two, place(address + at_.b >>> 0));
-    case 0x03: return named(LOADS[kind], rd, `${at_.i}(${one})`);
-    case 0x23: return named(STORES[kind], two, `${at_.s}(${one})`);
+    case 0x37: return named("lui", rd, `0x${numbers.u.toString(16)}`);
+    case 0x17: return named("auipc", rd, `0x${numbers.u.toString(16)}`);
+    case 0x6f: return named("jal", rd, place(address + numbers.j >>> 0));
+    case 0x67: return named(kind === 0 && "jalr", rd, `${numbers.i}(${one})`);
+    case 0x63: return named(BRANCHES[kind], one, two, place(address + numbers.b >>> 0));
+    case 0x03: return named(LOADS[kind], rd, `${numbers.i}(${one})`);
+    case 0x23: return named(STORES[kind], two, `${numbers.s}(${one})`);
     case 0x13:
       return kind === 1 || kind === 5 ?
         named(SHIFTS[`${kind} ${high}`], rd, one, `0x${(word >>> 20 & 31).toString(16)}`) :
-        named(WITH_IMMEDIATE[kind], rd, one, at_.i);
+        named(WITH_IMMEDIATE[kind], rd, one, numbers.i);
     case 0x33: return named(WITH_REGISTER[`${kind} ${high}`], rd, one, two);
     case 0x0f: return fenceTold(word);
     case 0x73: return word === 0x73 ? "ecall" : word === 0x100073 ? "ebreak" : unknownTold(word);

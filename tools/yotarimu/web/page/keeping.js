@@ -34,11 +34,18 @@ async function checkReport() {
   const text = at("report").value;
   const {output} = await machines.call("sim", words, withBehind(subject.image, text));
   const said = new TextDecoder().decode(output).trim();
+  at("report-said").textContent = checkTold(said, text.split("\n"));
+}
+
+/** What `check` says, in a sentence. */
+function checkTold(said, lines) {
   const fault = /^fault journal (\d+)$/.exec(said), accepted = /^check ok (\d+)$/.exec(said);
-  at("report-said").textContent = fault ? `Refused: line ${fault[1]} is the first that is wrong: \`${
-                                    (text.split("\n")[fault[1] - 1] ?? "").slice(0, 60)}\`.` :
-    accepted ? `Accepted: this is the report of a run, and ${plural(Number(accepted[1]), "task")} took a turn in it.` :
-               `The program says: ${said}.`;
+  if (fault) {
+    const line = (lines[fault[1] - 1] ?? "").slice(0, 60);
+    return `Refused: line ${fault[1]} is the first that is wrong: \`${line}\`.`;
+  }
+  if (!accepted) return `The program says: ${said}.`;
+  return `Accepted: this is the report of a run, and ${plural(Number(accepted[1]), "task")} took a turn in it.`;
 }
 
 // ---- files

@@ -32,16 +32,19 @@ function perform(action) {
       tell("");
       await action();
     } catch (error) {
-      tell(
-        error instanceof Refused   ? error.message :
-          error instanceof Stopped ? "It was stopped, and nothing has changed." :
-                                     `The machine gave no answer: ${error.message}.`);
+      tell(failureTold(error));
     } finally {
       clearTimeout(late);
       showBusy(false);
     }
   });
   return chain;
+}
+
+function failureTold(error) {
+  if (error instanceof Refused) return error.message;
+  if (error instanceof Stopped) return "It was stopped, and nothing has changed.";
+  return `The machine gave no answer: ${error.message}.`;
 }
 
 function showBusy(isBusy) {
@@ -322,10 +325,7 @@ function wordsRead(words) {
   const options = {};
   words.forEach((word, place) => { if (word.startsWith("--")) options[word.slice(2)] = words[place + 1]; });
   const kind = ["steps", "lockstep"].includes(words[0]) ? words[0] : "least";
-  return {
-    course: {kind, rounds: words[1], seed: words[2], ...(kind === "lockstep" ? {} : {rounds: undefined})},
-    options
-  };
+  return {course: kind === "lockstep" ? {kind, rounds: words[1], seed: words[2]} : {kind}, options};
 }
 
 /** Files of one's own: an image with what belongs to it, or a source. */
@@ -394,17 +394,17 @@ function fieldHtml([, name, values, usual, bounds]) {
   return `<label title="${escaped(bounds)}">${name} ${control} <small class="quiet">${range}</small></label>`;
 }
 
+function groupHtml(group) {
+  const choices = examples.map((it, place) => (
+    it.group === group ? `<option value="${place}">${escaped(it.title)}</option>` : ""));
+  return `<optgroup label="${group}">${choices.join("")}</optgroup>`;
+}
+
 function buildControls() {
   at("options").innerHTML = optionRows.map(fieldHtml).join("");
   setOptions({});
-  at("example").innerHTML = '<option value="-1">of my own</option>' +
-    [...new Set(examples.map((it) => it.group))]
-      .map(
-        (group) => `<optgroup label="${group}">${
-          examples
-            .map((it, place) => (it.group === group ? `<option value="${place}">${escaped(it.title)}</option>` : ""))
-            .join("")}</optgroup>`)
-      .join("");
+  const groups = [...new Set(examples.map((it) => it.group))];
+  at("example").innerHTML = `<option value="-1">of my own</option>${groups.map(groupHtml).join("")}`;
   at("made").textContent
     = `Version ${table.find(([kind]) => kind === "version")[1]}, made of the commit ${made.commit}.`;
 }

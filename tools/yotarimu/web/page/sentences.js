@@ -159,14 +159,14 @@ class Sayer {
     if (line.reply !== "stale" || line.do === "give") return refusals[`${line.asks ?? line.do} ${line.reply}`];
     if (line.task !== undefined) return refusals["stale leg"];
     const holder = before.cores[line.tile][line.core];
-    return holder === null ? refusals["stale free"] :
-                             filled(refusals["stale trapped"], {task: this.task(holder, before)});
+    if (holder === null) return refusals["stale free"];
+    return filled(refusals["stale trapped"], {task: this.task(holder, before)});
   }
 
   /** What the last line says. */
   end(end) {
-    const values
-      = end.end === "trap" ? {name: end.name.join("."), place: this.labels.labelled(end.pc), trap: this.trap(end)} : {};
-    return filled(sentences.ends[end.end], values);
+    if (end.end !== "trap") return sentences.ends[end.end];
+    const values = {name: end.name.join("."), place: this.labels.labelled(end.pc), trap: this.trap(end)};
+    return filled(sentences.ends.trap, values);
   }
 }
