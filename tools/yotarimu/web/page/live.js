@@ -406,7 +406,7 @@ function buildControls() {
   const groups = [...new Set(examples.map((it) => it.group))];
   at("example").innerHTML = `<option value="-1">of my own</option>${groups.map(groupHtml).join("")}`;
   at("made").textContent
-    = `Version ${table.find(([kind]) => kind === "version")[1]}, made of the commit ${made.commit}.`;
+    = `Version ${table.find(([kind]) => kind === "version")[1]}; both programs are of the commit ${made.commit}.`;
 }
 
 function listenToControls() {
