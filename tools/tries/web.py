@@ -25,6 +25,7 @@ from yotarimu.web.holding import Asked, engine, stored_calls
 from yotarimu.web.making import COMMAND, PAGE, PROGRAMS, command_text, commit_path, module_path, modules, page_text
 from yotarimu.web.narrowing import HEADER, number, number_at
 
+from tries.launcher import STUB_BUILD
 from tries.place import LeftOut, expect, need_built, one_sentence_each
 
 BROWSER_FOLDER = pathlib.Path(__file__).with_name("browser")
@@ -84,6 +85,14 @@ def web_words(place):
         (place.call("fractal web", "--dance"), ["--help"]),
         (place.call("fractal web", "--compare"), [""]),
     ])
+
+
+def web_wants_a_toolchain(place):
+    """where the toolchain can't be asked for its module, `prove --web` proves and builds, and says so in a sentence"""
+    place.stub_tool("rt", STUB_BUILD % "mkdir -p out && printf '#!/bin/sh\\n' >out/\"${PWD##*/}\" && chmod +x out/*")
+    answer = place.call("fractal prove", "--web")
+    answer.tells("can't be asked for its module", "all else works")
+    expect(answer.status == 1 and place.program.exists(), "a program that is built", answer)
 
 
 def web_holds(place):
@@ -284,4 +293,5 @@ def web_page_in_firefox(place):
     driven(place, "firefox", "firefox-esr")
 
 
-TRIES = (web_words, web_holds, web_command, web_memory, web_sentences, web_sources, web_forms, web_page, web_page_in_firefox)
+TRIES = (web_words, web_wants_a_toolchain, web_holds, web_command, web_memory, web_sentences, web_sources, web_forms,
+         web_page, web_page_in_firefox)
