@@ -7,7 +7,7 @@ const {Page} = await import(`./${process.env.BROWSER ?? "chromium"}.mjs`);
 const [, , file, image] = process.argv;
 const SIZES = [200, 20000], STEPS = 40, NEW_ACTS = 10;
 
-// The work of a step: script and layout, and then the frame in which it is drawn, without the wait for that frame.
+// A step, up to the frame in which it is drawn.
 const STEP = `(async (place) => {
   const begin = performance.now();
   go(place);
@@ -27,20 +27,34 @@ const told = (numbers) => `${middle(numbers).toFixed(1)} ms in the middle, ${Mat
 
 const page = await Page.open(pathToFileURL(file).href);
 await page.run("ready");
+// Only Chromium tells what its thread took of a processor, which no other work on the machine changes much.
+const hasThreadTime = Boolean(page.child) && !process.env.BROWSER;
+if (hasThreadTime) await page.send("Performance.enable", {timeDomain: "threadTicks"});
+
+async function threadTime() {
+  if (!hasThreadTime) return NaN;
+  const {metrics} = await page.send("Performance.getMetrics");
+  return metrics.find(({name}) => name === "TaskDuration").value * 1000;
+}
+
 const text = readFileSync(image).toString("base64");
 await page.run(`closeStory(); perform(() => open({name: "walk", image: bytesOf("${text}"), course: {kind: "steps"}}))`);
 for (const size of SIZES) {
   while (await page.run("script.length") < size) await page.run(`runMany(Math.min(10000, ${size} - script.length))`);
-  const times = async (places) => {
-    const found = [];
-    for (const place of places) found.push(await page.run(`${STEP}(${place})`));
-    return found;
+  const times = async (what, places) => {
+    const found = [], ofThread = [];
+    for (const place of places) {
+      const before = await threadTime();
+      found.push(await page.run(`${STEP}(${place})`));
+      ofThread.push(await threadTime() - before);
+    }
+    console.log(`${size} acts, ${what}: ${told(found)}; of the thread's own time ${told(ofThread)}`);
   };
   const from = size >> 1, each = (place) => Array.from({length: STEPS}, (_, step) => place(step));
-  await times([from]);
-  console.log(`${size} acts, a step on: ${told(await times(each((step) => from + step + 1)))}`);
-  console.log(`${size} acts, a step back: ${told(await times(each((step) => from + STEPS - step)))}`);
-  console.log(`${size} acts, a leap: ${told(await times(each((step) => (step * 7919) % size)))}`);
+  await page.run(`go(${from})`);
+  await times("a step on", each((step) => from + step + 1));
+  await times("a step back", each((step) => from + STEPS - step));
+  await times("a leap", each((step) => (step * 7919) % size));
   const made = [], gaps = [];
   for (let act = 0; act < NEW_ACTS; act++) {
     const [taken, gap] = await page.run(`(async () => {

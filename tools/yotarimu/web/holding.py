@@ -25,8 +25,8 @@ from yotarimu.web.making import PROGRAMS, module_path
 ENGINE = "node"
 NATIVE = {"sim": PROGRAM, "watch": SECOND_PROGRAM}
 LIMITS = ("--commits", "--budget")
-# An answer that takes longer has failed.
-MOST_SECONDS = 120
+# An answer that takes longer isn't waited for.
+MOST_SECONDS = 600
 SAME, ACCEPTED = "the same bytes and status", "another report of a run with workers, which `check` accepts"
 
 
@@ -50,8 +50,12 @@ class Asked(NamedTuple):
 
 
 def native_answer(asked: Asked) -> Answer:
-    done = subprocess.run([NATIVE[asked.program], *asked.words], input=asked.data, capture_output=True, check=False,
-                          timeout=MOST_SECONDS)
+    try:
+        done = subprocess.run([NATIVE[asked.program], *asked.words], input=asked.data, capture_output=True, check=False,
+                              timeout=MOST_SECONDS)
+    except subprocess.TimeoutExpired:
+        raise Refused(f"{asked.told()}: the built program gave no answer within {MOST_SECONDS} seconds; the machine may "
+                      "have too much other work.") from None
     return Answer(done.returncode, done.stdout)
 
 
