@@ -54,8 +54,7 @@ def native_answer(asked: Asked) -> Answer:
         done = subprocess.run([NATIVE[asked.program], *asked.words], input=asked.data, capture_output=True, check=False,
                               timeout=MOST_SECONDS)
     except subprocess.TimeoutExpired:
-        raise Refused(f"{asked.told()}: the built program gave no answer within {MOST_SECONDS} seconds; the machine may "
-                      "have too much other work.") from None
+        raise Refused(f"{asked.told()}: the built program gave no answer within {MOST_SECONDS} seconds.") from None
     return Answer(done.returncode, done.stdout)
 
 
