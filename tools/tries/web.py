@@ -13,9 +13,10 @@ import tempfile
 
 from yotarimu.common.places import EXAMPLES_FOLDER, HOME
 from yotarimu.images import loads
+from yotarimu.images.description import described
 from yotarimu.images.image import DATA, image_bytes
 from yotarimu.images.listing import NO_LISTING, read_listing
-from yotarimu.images.source import assemble, described, source_at, sources_in
+from yotarimu.images.source import assemble, source_at, sources_in
 from yotarimu.lines.reader import open_watched
 from yotarimu.lines.sentences import end_told, label_of, opening_told, sentence_of
 from yotarimu.programs.examples import EXAMPLES, SCHEDULES, words_of
