@@ -212,6 +212,9 @@ const TRIES = {
         await driver.see());
       await driver.files(["odd.bin", "no image at all, and no script"]);
       expect((await driver.see()).message.includes("is no image"), "that it is none", await driver.see());
+      await driver.click("#run-rounds");
+      const seen = await driver.see();
+      expect(seen.message === "" && seen.name === "task.s", "what was open before", seen);
       await driver.files(["task.s", "    dance a0\n"]);
       expect((await driver.see()).message.includes("task.s:1"), "the line", await driver.see());
       await driver.page.run("perform(() => openFiles([{name: 'large', size: 70 << 20}]))");

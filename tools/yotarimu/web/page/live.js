@@ -10,8 +10,7 @@ const actWords = {dispatch: 1, step: 2, take: 2, give: 2, abort: 1, commit: 0, c
 // Replies to what nothing asked for, in rounds.
 const NOT_ASKED_FOR = ["empty", "busy", "stale", "ended"];
 
-const telling = new Telling();
-let machines;
+let machines, telling = new Telling();
 let subject = {name: "", image: new Uint8Array(0), listing: [], labels: new Labels([])};
 let script = [], undoLengths = [], lastOptions = null;
 
@@ -89,13 +88,13 @@ function withBehind(image, text) {
   return joined([image, behind], image.length + behind.length);
 }
 
-/** All that decides what is played. */
+/** All that decides what is played, and what was told of it. */
 function stateNow() {
-  return {subject, script, options: optionsNow(), course: courseNow()};
+  return {subject, script, telling, options: optionsNow(), course: courseNow()};
 }
 
 function setState(state) {
-  ({subject, script} = state);
+  ({subject, script, telling} = state);
   setOptions(state.options);
   setCourse(state.course);
 }
@@ -238,7 +237,7 @@ function runMany(count) {
 /** Rounds in lockstep, of which those acts stay that something asked for. A refused act changes nothing. */
 function runRounds(count) {
   return perform(async () => {
-    const {tiles, cores} = telling.head, before = actsSoFar().length;
+    const {tiles, cores} = course.head, before = actsSoFar().length;
     const each = (length, act) => Array.from({length}, (_, number) => act(number));
     const round = [
       ...each(tiles, (tile) => [`dispatch ${tile}`, ...each(cores, (core) => `step ${tile} ${core}`)]).flat(),
@@ -306,7 +305,7 @@ function open({name, image, listing = [], acts = [], options = {}, course: wante
     undoLengths = [];
     setOptions(options);
     setCourse(wanted);
-    telling.forget();
+    telling = new Telling();
   }, place);
 }
 
