@@ -10,24 +10,27 @@ import re
 import shutil
 import subprocess
 import tempfile
+from typing import Any, Dict, Iterator, List, Sequence, Tuple
 
 from yotarimu.common.places import EXAMPLES_FOLDER, HOME
 from yotarimu.images import loads
 from yotarimu.images.description import described
 from yotarimu.images.image import DATA, image_bytes
-from yotarimu.images.listing import NO_LISTING, read_listing
+from yotarimu.images.listing import NO_LISTING, Listing, read_listing
 from yotarimu.images.source import assemble, source_at, sources_in
 from yotarimu.lines.reader import open_watched
+from yotarimu.lines.replay import Machine
 from yotarimu.lines.sentences import end_told, label_of, opening_told, sentence_of
 from yotarimu.programs.examples import EXAMPLES, SCHEDULES, words_of
 from yotarimu.programs.program import SECOND_PROGRAM
 from yotarimu.web.bundling import constant, source, table_at
 from yotarimu.web.holding import Asked, engine, stored_calls
-from yotarimu.web.making import COMMAND, PAGE, PROGRAMS, command_text, commit_path, module_path, modules, page_text
+from yotarimu.web.making import (
+    COMMAND, PAGE, PROGRAMS, Modules, command_text, commit_path, module_path, modules, page_text)
 from yotarimu.web.narrowing import HEADER, number, number_at
 
 from tries.launcher import STUB_BUILD
-from tries.place import LeftOut, expect, need_built, one_sentence_each
+from tries.place import LeftOut, Place, expect, need_built, one_sentence_each
 
 BROWSER_FOLDER = pathlib.Path(__file__).with_name("browser")
 # What the harnesses for Node are made of, in front of each.
@@ -39,13 +42,13 @@ MEMORY, LITTLE = 5, 160
 MOST_SECONDS = 600
 
 
-def need_command(*names):
+def need_command(*names: str) -> None:
     for name in names:
         if shutil.which(name) is None:
             raise LeftOut(f"it wants {name}")
 
 
-def need_modules():
+def need_modules() -> Modules:
     if not all(path(crate).exists() for crate in PROGRAMS.values() for path in (module_path, commit_path)):
         raise LeftOut("it wants the modules: ./fractal prove --web")
     return modules()
@@ -54,22 +57,24 @@ def need_modules():
 class Harness:
     """A script for Node that answers each line of JSON by one."""
 
-    def __init__(self, place, name, parts, constants=""):
+    def __init__(self, place: Place, name: str, parts: Sequence[str], constants: str = "") -> None:
         need_command("node")
         script = place.root / f"{name}.mjs"
         own = (BROWSER_FOLDER / f"{name}.js").read_text(encoding="utf-8")
         script.write_text(constants + "".join(map(source, parts)) + own, encoding="utf-8")
         self.process = subprocess.Popen(["node", str(script)], stdin=subprocess.PIPE, stdout=subprocess.PIPE)
 
-    def ask(self, **question):
+    def ask(self, **question: Any) -> Dict[str, Any]:
+        assert self.process.stdin is not None and self.process.stdout is not None
         self.process.stdin.write(json.dumps(question).encode() + b"\n")
         self.process.stdin.flush()
-        return json.loads(self.process.stdout.readline())
+        told: Dict[str, Any] = json.loads(self.process.stdout.readline())
+        return told
 
-    def __enter__(self):
+    def __enter__(self) -> Harness:
         return self
 
-    def __exit__(self, *_):
+    def __exit__(self, *_: object) -> None:
         self.process.kill()
         self.process.wait()
 
@@ -77,7 +82,7 @@ class Harness:
 # ---- words, modules and the command
 
 
-def web_words(place):
+def web_words(place: Place) -> None:
     """./fractal web without its modules, and with odd words, is a sentence"""
     one_sentence_each([
         (place.call("fractal web"), ["./fractal prove --web"]),
@@ -88,7 +93,7 @@ def web_words(place):
     ])
 
 
-def web_wants_a_toolchain(place):
+def web_wants_a_toolchain(place: Place) -> None:
     """where the toolchain can't be asked for its module, `prove --web` proves and builds, and says so in a sentence"""
     place.stub_tool("rt", STUB_BUILD % "mkdir -p out && printf '#!/bin/sh\\n' >out/\"${PWD##*/}\" && chmod +x out/*")
     answer = place.call("fractal prove", "--web")
@@ -96,7 +101,7 @@ def web_wants_a_toolchain(place):
     expect(answer.status == 1 and place.program.exists(), "a program that is built", answer)
 
 
-def web_holds(place):
+def web_holds(place: Place) -> None:
     """the modules answer as what is stored, and as the built programs on schedules and generated calls"""
     need_modules()
     need_command("node")
@@ -105,7 +110,7 @@ def web_holds(place):
     expect(answer.status == 0 and b"\n0 calls were answered otherwise" in answer.output, "the same answers", answer)
 
 
-def web_command(place):
+def web_command(place: Place) -> None:
     """fractal.mjs answers the whole table of answers as it is stored"""
     need_command("node")
     command = place.root / COMMAND
@@ -122,7 +127,7 @@ def web_command(place):
     expect(folder.returncode == 6, "status 6 where nothing can be read", folder)
 
 
-def web_memory(place):
+def web_memory(place: Place) -> None:
     """a module whose memory has too little room answers with status 5, and writes nothing or whole lines"""
     found = need_modules()
     need_command("node")
@@ -137,7 +142,7 @@ def web_memory(place):
         expect(lines.status == 5 and (not lines.output or lines.output.endswith(b"\n")), "whole lines", lines.status)
 
 
-def with_most_memory(module, pages):
+def with_most_memory(module: bytes, pages: int) -> bytes:
     """The module with another limit of its memory."""
     made, place = bytearray(module[:HEADER]), HEADER
     while place < len(module):
@@ -155,7 +160,7 @@ def with_most_memory(module, pages):
 # ---- the reader of lines
 
 
-def web_sentences(place):
+def web_sentences(place: Place) -> None:
     """the page's reader of lines tells each act, and the machine behind them, as the tools do"""
     need_built(SECOND_PROGRAM)
     with Harness(place, "tellings", READER, constant("sentences", table_at("common/sentences.json"))) as harness:
@@ -163,9 +168,9 @@ def web_sentences(place):
             hold_told(harness, name, words)
 
 
-def courses():
+def courses() -> Iterator[Tuple[str, List[str]]]:
     for name in SCHEDULES:
-        words = words_of(name)
+        words = list(words_of(name))
         yield name, words
         yield name, ["lockstep", "50", "7", *words[1:]]
     for name in EXAMPLES:
@@ -175,7 +180,7 @@ def courses():
             yield name, ["lockstep", "60", "5", *options]
 
 
-def hold_told(harness, name, words):
+def hold_told(harness: Harness, name: str, words: List[str]) -> None:
     folder = EXAMPLES_FOLDER / name
     given = (folder / "image.bin").read_bytes() + ((folder / "script").read_bytes() if words[0] == "steps" else b"")
     text = subprocess.run([SECOND_PROGRAM, *words], input=given, stdout=subprocess.PIPE, check=False).stdout
@@ -190,7 +195,7 @@ def hold_told(harness, name, words):
     expect([seen["machine"][name] for name in names] == state, f"the same machine behind {name} {words}")
 
 
-def told_by_tools(text, listing):
+def told_by_tools(text: bytes, listing: Listing) -> Tuple[List[str], str, Machine]:
     with tempfile.NamedTemporaryFile() as lines:
         lines.write(text)
         lines.flush()
@@ -203,7 +208,7 @@ def told_by_tools(text, listing):
 # ---- the assembler and the disassembler
 
 
-def web_sources(place):
+def web_sources(place: Place) -> None:
     """the page's assembler makes of each example's source the stored image, and its disassembler the listing"""
     with Harness(place, "assemblies", ASSEMBLER) as harness:
         for path in sorted(EXAMPLES_FOLDER.rglob("*.s")):
@@ -215,16 +220,16 @@ def web_sources(place):
             hold_listing(harness, path)
 
 
-def texts_of(folder):
+def texts_of(folder: pathlib.Path) -> List[Dict[str, str]]:
     return [{"name": path.name, "text": path.read_text()} for path in sorted(folder.glob("*.s"))]
 
 
-def made_by_tools(folder):
+def made_by_tools(folder: pathlib.Path) -> bytes:
     sources = sources_in(folder)
     return image_bytes(described(sources, assemble(sources)))
 
 
-def hold_listing(harness, path):
+def hold_listing(harness: Harness, path: pathlib.Path) -> None:
     image = base64.b64encode((path.parent / "image.bin").read_bytes()).decode()
     rows = {address: text for address, text in harness.ask(image=image)["listing"] if address is not None}
     for address, word, told in re.findall(r"^([0-9a-f]{8})  ([0-9a-f]{8})  ([^|\n]*)", path.read_text(), re.MULTILINE):
@@ -236,7 +241,7 @@ def hold_listing(harness, path):
         expect(seen == re.sub(r"\b000(1[0-9a-f]{4})\b", r"\1", wanted), f"{wanted} of {path}", seen)
 
 
-def web_forms(place):
+def web_forms(place: Place) -> None:
     """the page's assembler makes of each form of each instruction and directive what GNU as makes"""
     text = (BROWSER_FOLDER / "forms.s").read_text(encoding="utf-8")
     path = place.root / "forms.s"
@@ -270,7 +275,7 @@ ODD_LINES = (
 # ---- the page in a browser
 
 
-def driven(place, browser, *programs):
+def driven(place: Place, browser: str, *programs: str) -> None:
     need_command("node")
     if not any(shutil.which(program) for program in programs):
         raise LeftOut(f"it wants a browser: {programs[0]}")
@@ -284,12 +289,12 @@ def driven(place, browser, *programs):
         expect("failed" not in it, f"that {it['name']}", it.get("failed"))
 
 
-def web_page(place):
+def web_page(place: Place) -> None:
     """the page is driven through its story, buttons, options, exercises, links, files and keys, in Chromium"""
     driven(place, "chromium", "chromium")
 
 
-def web_page_in_firefox(place):
+def web_page_in_firefox(place: Place) -> None:
     """the same in Firefox"""
     driven(place, "firefox", "firefox-esr")
 

@@ -55,7 +55,7 @@ def hold(count: int) -> int:
     outcome = held(count, SEED)
     for kind, times in outcome.counts.items():
         print(f"{times:,} calls: {kind}")
-    for difference in outcome.differences[:MOST_TOLD]:
-        print(f"otherwise: {difference}")
+    for told in outcome.differences[:MOST_TOLD]:
+        print(f"otherwise: {told}")
     print(f"{len(outcome.differences):,} calls were answered otherwise.")
     return 1 if outcome.differences else 0
