@@ -1,9 +1,13 @@
 # Each form of each instruction and directive that the page's assembler takes, for GNU as to take too.
 # image: task near
     .equ CONST, 1004
+    .cfi_sections .debug_frame
     .text
     .globl near
+    .cfi_startproc
+    .cfi_undefined ra
 near: nop
+    .cfi_endproc
 1: lb t2, there
 1: nop
 1: lb a1, %lo(there)(a1)

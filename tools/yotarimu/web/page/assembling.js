@@ -12,7 +12,7 @@ const DATA_SIZES = {
   ".4byte": 4,
   ".int": 4
 };
-// Directives that change no byte here.
+// Directives that change no byte here; those that begin with .cfi_ are for debuggers.
 const WITHOUT_EFFECT = [".globl", ".global", ".local", ".type", ".option", ".file", ".ident", ".attribute", ".loc"];
 const MOST_SECTION = 16777216;
 
@@ -147,7 +147,9 @@ class Assembly {
       this.align(2 ** this.constantIn(first, 0, 16, line), operands[1], line);
     else if ([".equ", ".set", ".equiv"].includes(word)) this.set(operands, line);
     else if (word === ".size") this.sizes.set(first, this.number(operands[1] ?? "", line).value);
-    else if (!WITHOUT_EFFECT.includes(word)) refuseLine(line, `\`${word}\` isn't known to the assembler of this page`);
+    else if (!WITHOUT_EFFECT.includes(word) && !word.startsWith(".cfi_")) {
+      refuseLine(line, `\`${word}\` isn't known to the assembler of this page`);
+    }
   }
 
   openSection(name, operands, line) {
