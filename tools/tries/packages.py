@@ -52,6 +52,7 @@ def packages_run_elsewhere(place: Place) -> None:
     expect(both.returncode == 0 and both.stdout.count(": OK") == 2, "the checksums of both programs", both)
     answer = place.call("fractal", "watch", "least", stdin=image_of(place, "hello"))
     expect(answer.output.startswith(b'{"watch":1,') and answer.errors == "", "the second program's lines", answer)
+    expect((place.clone / "fractal.html").is_file(), "the machine in a page")
     for word in ("prove", "package"):
         expect(place.call("fractal", word).status == 69, f"that {word} wants a clone")
 

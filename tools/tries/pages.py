@@ -39,8 +39,8 @@ const seen = (place) => {
     at("counts").textContent.replaceAll(",", "").match(/[0-9]+/g).map(Number),
     [...at("memory").tBodies[0].rows].map(word), at("journal").tBodies[0].rows.length];
 };
-const forwards = [...Array(acts.length + 1).keys()].map(seen);
-const back = [...Array(acts.length + 1).keys()].reverse().map(seen).reverse();
+const forwards = [...Array(course.length + 1).keys()].map(seen);
+const back = [...Array(course.length + 1).keys()].reverse().map(seen).reverse();
 document.body.dataset.seen = JSON.stringify([forwards, back]);
 </script></body>"""
 # Presses keys, and notes the acts that they lead to.

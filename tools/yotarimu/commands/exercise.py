@@ -10,8 +10,9 @@ The numbers 1 to 5 stand for the names in this order. The status is 0 for a righ
 from __future__ import annotations
 
 from yotarimu.common.outcome import Refused
+from yotarimu.common.sentences import filled
 from yotarimu.common.words import Words
-from yotarimu.courses.exercises import JUDGES, Wrong
+from yotarimu.courses.exercises import JUDGES, SAID, Wrong
 
 
 def main(words: list[str]) -> int:
@@ -21,8 +22,8 @@ def main(words: list[str]) -> int:
     if name not in JUDGES:
         raise Refused(f"`{name}` is no exercise; they are {', '.join(JUDGES)}.")
     try:
-        print(f"right: {JUDGES[name](answer)}.")
+        print(filled(SAID["verdicts"]["right"], why=JUDGES[name](answer)))
         return 0
     except Wrong as wrong:
-        print(f"wrong: {wrong}.")
+        print(filled(SAID["verdicts"]["wrong"], why=wrong))
         return 1

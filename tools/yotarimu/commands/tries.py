@@ -16,12 +16,12 @@ from yotarimu.common.outcome import Refused
 
 from tries import (
     applications, build, c_tasks, causes, contents, debug, documents, explain, figures, gate, interrupts, launcher,
-    lockstep, packages, pages, resume, schedules, studies, sweep, watch, words)
+    lockstep, packages, pages, resume, schedules, studies, sweep, watch, web, words)
 from tries.place import Failed, LeftOut, Place
 
 Attempt = Callable[[Place], None]
 PARTS = (launcher, words, packages, build, c_tasks, contents, applications, explain, gate, sweep, resume, schedules,
-         lockstep, studies, watch, causes, debug, figures, pages, interrupts, documents)
+         lockstep, studies, watch, causes, debug, figures, pages, web, interrupts, documents)
 TRIES: list[Attempt] = [attempt for part in PARTS for attempt in part.TRIES]
 OK, FAILED, LEFT_OUT = "ok", "FAILED", "left"
 

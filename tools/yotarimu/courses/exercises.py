@@ -1,12 +1,17 @@
-"""Judges of answers to the five exercises of docs/guide/EXERCISES.md."""
+"""Judges of answers to the five exercises of docs/guide/EXERCISES.md.
+
+What they say stands in `exercises.json`, which the page with the machine inside reads too.
+"""
 from __future__ import annotations
 
+import json
 import pathlib
 import re
 
 from yotarimu.common.files import read_bytes, read_written
 from yotarimu.common.outcome import Refused
 from yotarimu.common.places import EXAMPLES_FOLDER
+from yotarimu.common.sentences import filled
 from yotarimu.courses.scripts import acts_in, asked, options_beside, play, read_lines
 from yotarimu.images.compiler import GCC
 from yotarimu.images.folder import build
@@ -15,9 +20,9 @@ from yotarimu.programs.table import Table
 from yotarimu.reports.report import read_report
 
 FOLDER = EXAMPLES_FOLDER / "exercises"
-FIELDS = ("turn", "name", "depth", "timestamp")
-VERBS = ("isn't", "aren't")
-WORD = b"SWARM"
+SAID = json.loads(pathlib.Path(__file__).with_suffix(".json").read_text(encoding="utf-8"))
+FIELDS = SAID["journal"]["fields"]
+WORD = SAID["order"]["word"].encode()
 MOST_SHOWN = 40
 
 
@@ -25,9 +30,9 @@ class Wrong(Exception):
     """The answer isn't right; the text says why."""
 
 
-def hold(is_so, sentence):
+def hold(is_so, template, **values):
     if not is_so:
-        raise Wrong(sentence)
+        raise Wrong(filled(template, **values))
 
 
 def run_of(image):
@@ -39,20 +44,20 @@ def run_of(image):
 
 
 def judge_journal(path):
+    said = SAID["journal"]
     given = [line.partition("#")[0].split() for line in read_written(path).split("\n")]
     given = [(number, fields) for number, fields in enumerate(given, 1) if fields]
     for number, fields in given:
         if len(fields) != len(FIELDS):
-            raise Refused(f"{path}:{number}: `{' '.join(fields)[:MOST_SHOWN]}` is no line of a journal, which is a "
-                          "turn, a name, a depth and a timestamp.")
+            raise Refused(f"{path}:{number}: {filled(said['misshapen'], text=' '.join(fields)[:MOST_SHOWN])}.")
     report = run_of(FOLDER / "journal" / "image.bin")
     for (number, fields), entry in zip(given, report.entries):
         wanted = (entry.turn, entry.name, entry.depth, entry.timestamp)
         wrong = [name for name, field, right in zip(FIELDS, fields, wanted) if field != str(right)]
-        hold(not wrong, f"line {number}: the {' and the '.join(wrong)} of this task {VERBS[len(wrong) > 1]} right")
-    hold(len(given) >= len(report.entries), f"after {len(given)} tasks one more comes")
-    hold(len(given) <= len(report.entries), f"only {len(report.entries)} tasks come")
-    return f"{len(given)} tasks, which emit {report.output.decode()}"
+        hold(not wrong, said["field"], line=number, fields=said["and"].join(wrong), isnt=said["isnt"][len(wrong) > 1])
+    hold(len(given) >= len(report.entries), said["fewer"], count=len(given))
+    hold(len(given) <= len(report.entries), said["more"], count=len(report.entries))
+    return filled(said["right"], count=len(given), output=report.output.decode())
 
 
 # ---- 2 and 3, scripts
@@ -63,27 +68,27 @@ def played_of(name, path):
     folder, table = FOLDER / name, Table()
     options = options_beside(folder, table)
     acts = acts_in(read_lines(path), path, options, table)
-    hold(acts, "the script has no act")
+    hold(acts, SAID["script"]["none"])
     _, _, played = play(folder / "image.bin", acts, options, str(path))
     return [(number, act, said) for (number, _), (act, said) in zip(acts, played.pairs())], played.report.end
 
 
 def judge_abort(path):
-    played, end = played_of("abort", path)
-    back = [(number, act, said) for number, act, said in played if said.taken_back]
-    hold(back, "no act takes a task back")
+    (played, end), said = played_of("abort", path), SAID["abort"]
+    back = [(number, act, it) for number, act, it in played if it.taken_back]
+    hold(back, said["none"])
     found = next((it for it in back if it[1].word in ("step", "give", "advance")), None)
-    hold(found, f"line {back[0][0]}: `{back[0][1]}` takes a task back by itself; let a store do it")
-    hold(end == "normal", f"line {found[0]} takes a task back, but then the run hasn't come to its end: tasks are left")
-    return f"line {found[0]} takes {found[2].taken_back} back, and all tasks commit in the end"
+    hold(found, said["by itself"], line=back[0][0], act=back[0][1])
+    hold(end == "normal", said["left"], line=found[0])
+    return filled(said["right"], line=found[0], count=found[2].taken_back)
 
 
 def judge_stall(path):
-    played, end = played_of("stall", path)
-    found = next((number for number, _, said in played if said.reply == "stall"), None)
-    hold(found, "no act is answered `stall`")
-    hold(end == "normal", f"line {found} stalls, but then the run hasn't come to its end: tasks are left")
-    return f"line {found} stalls, and all tasks commit in the end"
+    (played, end), said = played_of("stall", path), SAID["stall"]
+    found = next((number for number, _, it in played if it.reply == "stall"), None)
+    hold(found, said["none"])
+    hold(end == "normal", said["left"], line=found)
+    return filled(said["right"], line=found)
 
 
 # ---- 4 and 5, sources
@@ -101,30 +106,30 @@ def built(folder):
 
 def judge_false_conflict(folder):
     path, _ = built(folder)
-    table, own = Table(), FOLDER / "false_conflict"
+    table, own, said = Table(), FOLDER / "false_conflict", SAID["false_conflict"]
     options = options_beside(own, table)
     acts = acts_in(read_lines(own / "script"), own / "script", options, table)
     before = play(own / "image.bin", acts, options, str(own))[2].report
     played = play(path, acts, options, str(path))[2]
     seen, wanted = ((it.entries, it.output, it.end) for it in (played.report, before))
-    hold(seen == wanted, f"the tasks, their order or what they emit has changed; it is to be {before.output.decode()}")
-    back = next((number for (number, _), said in zip(acts, played.said) if said.taken_back), None)
-    hold(back is None, f"line {back} of the script still takes a task back")
-    return "no task is taken back, and all emit what they did"
+    hold(seen == wanted, said["changed"], output=before.output.decode())
+    back = next((number for (number, _), it in zip(acts, played.said) if it.taken_back), None)
+    hold(back is None, said["taken"], line=back)
+    return said["right"]
 
 
 def judge_order(folder):
-    path, image = built(folder)
+    (path, image), said = built(folder), SAID["order"]
     own = read_image(read_bytes(FOLDER / "order" / "image.bin"), "order")
-    hold(image.text == own.text, "the instructions have changed; only the lines `# image:` are to")
+    hold(image.text == own.text, said["text"])
     letters = [sorted(task.arguments for task in it.tasks) for it in (image, own)]
-    hold(letters[0] == letters[1], "the letters have changed; only timestamps and the root domain are to")
+    hold(letters[0] == letters[1], said["letters"])
     report = run_of(path)
-    hold(report.output == WORD, f"it emits {re.sub('[^A-Z]', '?', report.output.decode('ascii', 'replace'))}")
-    hold(image.is_ordered, "it emits the word this time, but in an unordered domain any order is allowed")
+    hold(report.output == WORD, said["other"], output=re.sub("[^A-Z]", "?", report.output.decode("ascii", "replace")))
+    hold(image.is_ordered, said["unordered"])
     times = [task.timestamp for task in image.tasks]
-    hold(len(set(times)) == len(times), "it emits the word this time, but two tasks with one timestamp have no order")
-    return f"it emits {WORD.decode()}, whatever the order in which the tasks are run"
+    hold(len(set(times)) == len(times), said["tie"])
+    return filled(said["right"], output=WORD.decode())
 
 
 JUDGES = {"journal": judge_journal, "abort": judge_abort, "stall": judge_stall, "false_conflict": judge_false_conflict,

@@ -6,6 +6,7 @@ them. A listing gives labels to addresses. Until the creator of a task commits, 
 """
 from __future__ import annotations
 
+from yotarimu.common.sentences import SENTENCES, filled
 from yotarimu.common.text import counted, printable
 from yotarimu.images.image import DATA
 from yotarimu.images.listing import NO_LISTING
@@ -16,55 +17,31 @@ from yotarimu.reports.meanings import ENDS, cause_told
 MOST_NAMED = 12
 # So many places among children stand in one label; of more the first and the last do.
 MOST_PLACES = 6
-DOMAINS = {"same": "its own domain", "sub": "its subdomain", "super": "its superdomain"}
-# Why an event was refused, by its word and the reply; of a stalled step by what its task asked for.
-REFUSALS = {
-    ("dispatch", "empty"): "it has no idle task",
-    ("dispatch", "busy"): "each of its cores holds a task, and its least idle task isn't the least task of all",
-    ("give", "stale"): "no leg is held for that core",
-    ("enqueue", "stall"): "the task queue for it is full and has no idle firm task, and this task isn't the least one",
-    ("end", "stall"): "the commit queue is full, and holds no later task",
-    ("abort", "empty"): "it has no dispatched task",
-    ("abort", "firm"): "that one is the least task, which is never taken back",
-    ("commit", "empty"): "the least task isn't finished",
-    ("coalesce", "empty"): "it has no idle firm task",
-    ("split", "empty"): "its block is empty",
-    ("split", "stall"): "its task queue is full, and the first task of its block isn't the least task",
-}
-# What an event without a leg, or an act that hands nothing in, was to do.
-WISHES = {
-    "dispatch": "Tile {tile} is to dispatch a task",
-    "step": "The task on core {core} of tile {tile} is to make a step",
-    "take": "A leg of the task on core {core} of tile {tile} is to be held",
-    "give": "The leg that is held for core {core} of tile {tile} is to be handed in",
-    "abort": "Tile {tile} is to take its latest dispatched task back",
-    "commit": "The least task is to commit",
-    "coalesce": "Tile {tile} is to coalesce",
-    "split": "Tile {tile} is to split",
-    "advance": "The least task is to be brought on",
-}
+DONE, REQUESTS, REFUSALS, WISHES = (SENTENCES[key] for key in ("done", "requests", "refusals", "wishes"))
+DOMAINS = SENTENCES["domains"]
 
 
 def sentence_of(told, machine, listing=NO_LISTING, limits=None):
     """What an act's line says, by the machine behind it; `limits` are those of the image's version, if known."""
     if told.line["reply"] != "ok":
         return refused_told(told, machine)
-    done = DONE[told.line["do"]](told, machine, listing, limits)
-    return f"{done}.{back_told(told, machine, listing)}{spilled_told(told)}"
+    word = told.line["do"]
+    values = VALUES[word](told, machine, listing, limits) if word in VALUES else {}
+    return f"{filled(DONE[word], **{**told.line, **values})}.{back_told(told, machine, listing)}{spilled_told(told)}"
 
 
 def opening_told(head):
     """What stands before the first act."""
     count = head["tasks"]
-    return f"The image's {counted(count, 'task')} {is_or_are(count)} placed, and nothing was done yet."
+    return filled(SENTENCES["opening"], tasks=counted(count, "task"), are=is_or_are(count))
 
 
 def end_told(end, listing=NO_LISTING, limits=None):
     """What the last line says."""
     if end["end"] != "trap":
         return ENDS[end["end"]]
-    return (f"The run ended in a trap of the task {name_told(end['name'])} at {listing.labelled(end['pc'])}, "
-            f"{trap_told(end, limits)}.")
+    return filled(SENTENCES["ends"]["trap"], name=name_told(end["name"]), place=listing.labelled(end["pc"]),
+                  trap=trap_told(end, limits))
 
 
 # ---- names
@@ -87,7 +64,8 @@ def label_of(task):
 
 def listed(parts):
     if len(parts) > MOST_NAMED:
-        parts = [*parts[:MOST_NAMED], f"{len(parts) - MOST_NAMED:,} more"]
+        more = filled(SENTENCES["more"], count=f"{len(parts) - MOST_NAMED:,}")
+        parts = [*parts[:MOST_NAMED], more]
     return ", ".join(parts)
 
 
@@ -95,105 +73,100 @@ def is_or_are(count):
     return "is" if count == 1 else "are"
 
 
-# ---- what an act did
+# ---- what the sentence on an act names, beside the fields of its line
 
 
-def dispatched(told, _machine, _listing, _limits):
-    line = told.line
-    return (f"Tile {line['tile']} dispatches task {label_of(told.task)} to its core {line['core']}, with the dispatch "
-            f"number {line['number']}")
+def of_its_task(told, _machine, _listing, _limits):
+    return {"task": label_of(told.task)}
 
 
-def stepped(told, machine, listing, limits):
-    return f"{leg_told(told)} {request_told(told, machine, listing, limits)}"
+def of_step(told, machine, listing, limits):
+    return {"leg": leg_told(told), "request": request_told(told, machine, listing, limits)}
 
 
-def held(told, machine, _listing, _limits):
-    tile, core = told.line["tile"], told.line["core"]
-    label = label_of(machine.tasks[machine.cores[tile][core]])
-    return f"A leg of task {label} on core {core} of tile {tile} is run and held, and nothing changes"
+def of_take(told, machine, _listing, _limits):
+    return {"task": label_of(machine.tasks[machine.cores[told.line["tile"]][told.line["core"]]])}
 
 
-def aborted(told, _machine, _listing, _limits):
-    return f"Tile {told.line['tile']} takes back its latest dispatched task, {label_of(told.task)}"
-
-
-def committed(told, machine, _listing, _limits):
-    line = told.line
-    output = f", and emits `{printable(bytes.fromhex(line['output']))}`" if "output" in line else ""
-    children = children_named(len(told.committed.children), machine.commits)
-    return (f"Task {name_told(line['name'])} commits as number {machine.commits} of the journal, at depth "
-            f"{line['depth']} with the timestamp {line['ts']}{output}{children}")
+def of_commit(told, machine, _listing, _limits):
+    line, texts = told.line, SENTENCES["commit"]
+    output = filled(texts["output"], text=printable(bytes.fromhex(line["output"]))) if "output" in line else ""
+    return {"name": name_told(line["name"]), "turn": machine.commits, "output": output,
+            "children": children_named(len(told.committed.children), machine.commits)}
 
 
 def children_named(count, turn):
     """What the children of a task that committed are named from then on."""
     if not count:
         return ""
-    if count == 1:
-        return f"; its child is {turn}.0 from now on"
-    return f"; its {count} children are {turn}.0 to {turn}.{count - 1} from now on"
+    return filled(SENTENCES["commit"]["child" if count == 1 else "children"], turn=turn, count=count, last=count - 1)
 
 
-def coalesced(told, _machine, _listing, _limits):
-    return f"Tile {told.line['tile']} coalesces"
+def of_split(told, _machine, _listing, _limits):
+    return {"name": name_told(told.line["name"])}
 
 
-def split(told, _machine, _listing, _limits):
-    line = told.line
-    return f"Tile {line['tile']} brings the first task of its block, {name_told(line['name'])}, back to its task queue"
-
-
-DONE = {"dispatch": dispatched, "step": stepped, "take": held, "abort": aborted, "commit": committed,
-        "coalesce": coalesced, "split": split}
+VALUES = {"dispatch": of_its_task, "step": of_step, "take": of_take, "abort": of_its_task, "commit": of_commit,
+          "split": of_split}
 
 
 # ---- a leg, and what the task asks for at its end
 
 
 def leg_told(told):
-    line = told.line
-    who = f"Task {label_of(told.task)} on core {line['core']} of tile {line['tile']}"
-    return f"{who} executes {counted(line['leg'], 'plain instruction')} and" if line["leg"] else who
+    line, texts = told.line, SENTENCES["leg"]
+    who = filled(texts["who"], **{**line, "task": label_of(told.task)})
+    if not line["leg"]:
+        return who
+    return filled(texts["plain"], who=who, instructions=counted(line["leg"], "plain instruction"))
 
 
 def request_told(told, machine, listing, limits):
     """What the task did at the end of its leg."""
     line = told.line
-    asks = line["asks"]
-    if asks == "go":
-        return f"goes on at {listing.labelled(line['pc'])} in its next step"
-    if asks == "load":
-        return f"loads {line['old']} from {access_told(line, machine, listing)}"
-    if asks == "store":
-        return f"stores {told.access.value} to {access_told(line, machine, listing)}, where {line['old']} stood"
-    if asks == "enqueue":
-        return enqueue_told(told, listing)
-    if asks == "emit":
-        return f"emits `{printable(bytes([line['byte']]))}`, which counts once it commits"
-    if asks == "end":
-        return f"ends: it leaves its core for the commit queue of tile {line['tile']}"
-    if asks == "trap":
-        return f"traps at {listing.labelled(line['pc'])}, {trap_told(line, limits)}; it keeps its core"
-    return f"makes an {asks} subdomain"
+    values = REQUESTED[line["asks"]](told, machine, listing, limits) if line["asks"] in REQUESTED else {}
+    return filled(REQUESTS[line["asks"]], **{**line, **values})
+
+
+def of_go(told, _machine, listing, _limits):
+    return {"place": listing.labelled(told.line["pc"])}
+
+
+def of_load(told, machine, listing, _limits):
+    return {"access": access_told(told.line, machine, listing)}
+
+
+def of_store(told, machine, listing, _limits):
+    return {"value": told.access.value, "access": access_told(told.line, machine, listing)}
 
 
 def access_told(line, machine, listing):
     address = line["addr"]
     label = listing.label(address)
-    named = f"{address:08x} ({label})" if label else f"{address:08x}"
-    return f"{counted(line['bytes'], 'byte')} at {named}, in line {(address - DATA) // machine.head['line']}"
+    place = filled(SENTENCES["labelled"], address=f"{address:08x}", label=label) if label else f"{address:08x}"
+    return filled(SENTENCES["access"], bytes=counted(line["bytes"], "byte"), place=place,
+                  line=(address - DATA) // machine.head["line"])
 
 
-def enqueue_told(told, listing):
+def of_enqueue(told, _machine, listing, _limits):
     line, child = told.line, told.arrived
-    return (f"enqueues child {child.index} to {DOMAINS[line['to']]}: {label_of(child)}, `"
-            f"{listing.task_words(line['entry'], line['args'])}` with the timestamp {line['ts']} and the hint "
-            f"{line['hint']}, which waits in tile {line['in']}")
+    return {"index": child.index, "domain": DOMAINS[line["to"]], "child": label_of(child),
+            "words": listing.task_words(line["entry"], line["args"])}
+
+
+def of_emit(told, _machine, _listing, _limits):
+    return {"text": printable(bytes([told.line["byte"]]))}
+
+
+def of_trap(told, _machine, listing, limits):
+    return {"place": listing.labelled(told.line["pc"]), "trap": trap_told(told.line, limits)}
+
+
+REQUESTED = {"go": of_go, "load": of_load, "store": of_store, "enqueue": of_enqueue, "emit": of_emit, "trap": of_trap}
 
 
 def trap_told(line, limits):
-    return f"cause {line['cause']}: {cause_told(line['cause'], limits)[0]}"
+    return filled(SENTENCES["trap"], cause=line["cause"], meaning=cause_told(line["cause"], limits)[0])
 
 
 # ---- what was taken back, and what moved
@@ -205,19 +178,18 @@ def back_told(told, machine, listing):
     if not count:
         return ""
     line_size = machine.head["line"]
-    telling = Telling(label_of, line_size, listing)
-    causes = causes_of(told, line_size)
-    more = f" {count - MOST_NAMED:,} more." if count > MOST_NAMED else ""
-    parts = "".join(f" {taken_told(cause, telling)}." for cause in causes[:MOST_NAMED])
-    return f" {counted(count, 'task')} {is_or_are(count)} taken back.{parts}{more}"
+    telling, causes = Telling(label_of, line_size, listing), causes_of(told, line_size)
+    more = filled(SENTENCES["taken"]["more"], count=f"{count - MOST_NAMED:,}") if count > MOST_NAMED else ""
+    return filled(SENTENCES["back"], tasks=counted(count, "task"), are=is_or_are(count), more=more,
+                  list="".join(taken_told(cause, telling) for cause in causes[:MOST_NAMED]))
 
 
 def taken_told(cause, telling):
     """A task that was taken back, with the work that this undid, and why."""
-    taken = cause.taken
-    work = f"after {counted(taken.work, 'instruction')}" if taken.work else "with nothing done"
-    gone = " (discarded)" if taken.is_gone else ""
-    return f"{label_of(taken.task)} {work}{gone}: {telling.sentence(cause)}"
+    texts, taken = SENTENCES["taken"], cause.taken
+    return filled(texts["worked" if taken.work else "idle"], task=label_of(taken.task), cause=telling.sentence(cause),
+                  instructions=counted(taken.work, "instruction"),
+                  discarded=texts["discarded"] if taken.is_gone else "")
 
 
 def spilled_told(told):
@@ -225,8 +197,8 @@ def spilled_told(told):
     count = len(told.spilled)
     if not count:
         return ""
-    names = listed([label_of(task) for task in told.spilled])
-    return f" {counted(count, 'task')} {is_or_are(count)} spilled to the block of tile {told.spilled[0].tile}: {names}."
+    return filled(SENTENCES["spilled"], tasks=counted(count, "task"), are=is_or_are(count), tile=told.spilled[0].tile,
+                  list=listed([label_of(task) for task in told.spilled]))
 
 
 # ---- what was refused
@@ -234,31 +206,33 @@ def spilled_told(told):
 
 def refused_told(told, machine):
     """What an act was to do that came to nothing, and why."""
+    return filled(SENTENCES["refused"], wish=wish_told(told), reply=told.line["reply"], why=why_refused(told, machine))
+
+
+def wish_told(told):
     line = told.line
     asks = line.get("asks")
-    if asks == "enqueue":
-        wish = f"{leg_told(told)} asks for a child in {DOMAINS[line['to']]}"
-    elif asks == "end":
-        wish = f"{leg_told(told)} asks to end"
-    elif line["do"] == "step" and told.task is not None:
-        wish = f"A leg is handed in for task {label_of(told.task)} on core {line['core']} of tile {line['tile']}"
-    else:
-        wish = WISHES[line["do"]].format_map(line)
-    return f"{wish}, and the reply is {line['reply']}: {why_refused(told, machine)}. Nothing changes."
+    if asks in ("enqueue", "end"):
+        return filled(WISHES[asks], leg=leg_told(told), domain=DOMAINS.get(line.get("to")))
+    if line["do"] == "step" and told.task is not None:
+        return filled(WISHES["leg"], **{**line, "task": label_of(told.task)})
+    return filled(WISHES[line["do"]], **line)
 
 
 def why_refused(told, machine):
     line = told.line
     if line["reply"] == "ended":
-        return "the run is over"
+        return REFUSALS["ended"]
     if line["reply"] == "stale" and line["do"] != "give":
         return why_stale(told, machine)
-    return REFUSALS[line.get("asks", line["do"]), line["reply"]]
+    return REFUSALS[f"{line.get('asks', line['do'])} {line['reply']}"]
 
 
 def why_stale(told, machine):
     """Why no leg is taken on a core, or none is run there."""
     if told.task is not None:
-        return "the task doesn't run from where that leg begins"
+        return REFUSALS["stale leg"]
     holder = machine.cores[told.line["tile"]][told.line["core"]]
-    return "no task runs there" if holder is None else f"{label_of(machine.tasks[holder])} is trapped there"
+    if holder is None:
+        return REFUSALS["stale free"]
+    return filled(REFUSALS["stale trapped"], task=label_of(machine.tasks[holder]))

@@ -1,7 +1,7 @@
 """A page that shows a run act by act: lines of the second program, a sentence for each, and the machine before them.
 
-The page replays the lines in the browser, from the machine as it stands where the page begins. `page.html` is its
-template; what stands there between percent signs is filled in.
+The page replays the lines in the browser, from the machine as it stands where the page begins. Its parts stand in
+`web/page`, where the page with the machine inside has them from too.
 """
 from __future__ import annotations
 
@@ -17,11 +17,11 @@ from yotarimu.images.image import DATA, TEXT
 from yotarimu.images.listing import NO_LISTING, read_listing
 from yotarimu.lines.reader import open_watched
 from yotarimu.lines.sentences import end_told, name_told, opening_told, sentence_of
+from yotarimu.web.bundling import recorded_page, within
 
 MOST_ACTS = 50_000
 # So many entries of the journal before the page's first act stand on it.
 MOST_ENTRIES = 12
-TEMPLATE = pathlib.Path(__file__).with_name("page.html")
 CUT = "Here the text breaks off."
 
 
@@ -150,20 +150,11 @@ def page_of(path, listing_path, first=0, last=float("inf"), is_cut_allowed=False
         excerpt.close(watched.machine, watched.end, listing)
     head = json.dumps(watched.head, separators=(",", ":"))
     title = "A run, act by act" if str(path) == "-" else f"{pathlib.Path(path).name}, act by act"
-    return filled({"title": in_page(title), "lines": f"[{','.join([head, *excerpt.lines])}]",
-                   "opening": excerpt.opening, "sentences": within(excerpt.sentences), "listing": within(rows)})
+    return recorded_page(in_page(title), {
+        "lines": f"[{','.join([head, *excerpt.lines])}]", "opening": excerpt.opening,
+        "sentences": within(excerpt.sentences), "listing": within(rows)})
 
 
 def in_page(text):
     """A text as it stands in a page, in whatever encoding that is written."""
     return html.escape(text).encode("ascii", "xmlcharrefreplace").decode()
-
-
-def within(value):
-    """A value as JSON that may stand within a page: nothing in it ends the element around it."""
-    return json.dumps(value, separators=(",", ":")).replace("<", "\\u003c")
-
-
-def filled(values):
-    return re.sub("%(title|lines|opening|sentences|listing)%", lambda found: values[found[1]],
-                  TEMPLATE.read_text(encoding="utf-8"))

@@ -4,38 +4,15 @@ from __future__ import annotations
 import re
 from typing import Optional
 
+from yotarimu.common.sentences import SENTENCES
 from yotarimu.images.image import Limits
 from yotarimu.programs.table import Table
 
 # A trap's cause, and what usually leads to it, with the limits of the image's version.
-CAUSES = {
-    1: ("there is no instruction at the pc", "a `ret` without a return address, or a missing end call"),
-    2: ("the word is no instruction of RV32I", "data after the last `ecall`, or another instruction set"),
-    3: ("a jump to no multiple of 4", "a computed jump with its low bits set"),
-    4: ("a load from no multiple of its width", "a word read from a byte's address"),
-    5: ("a load from outside {readable}", "an index past the end, or an address without its high part"),
-    6: ("a store to no multiple of its width", "a word written to a byte's address"),
-    7: ("a store outside {writable}", "{stack}, or a store to the text"),
-    8: ("`ebreak`", "an assertion of the program, such as `require` or `at` in C"),
-    9: ("no such call, or no such kind of domain", "a7 above 5, or call 4 with a0 above 1"),
-    10: ("a timestamp in the past", "a child below its creator's timestamp, or below the floor of the domain around"),
-    11: ("a child for a subdomain that isn't there", "call 2 before call 4"),
-    12: ("a second subdomain", "call 4 twice in a task"),
-    13: ("a child for a superdomain that isn't there", "call 3 in the root domain"),
-    14: ("the domains are too deep", "a subdomain at the depth {depth}, the last"),
-    15: ("a {child} child", "a loop of enqueues: let each child enqueue some of them"),
-    16: ("a 257th byte", "too much output for one task"),
-    17: ("the budget of instructions is used up", "a loop without an end, or a task that should be split"),
-}
-ENDS = {
-    "normal": "The run ended normally: no task is left.",
-    "limit": "The run ended at its limit: as many tasks took their turn as --commits allows, and one more is left.",
-    "open": "The end is open: a task is left, and nobody ran it.",
-}
+CAUSES = {int(cause): tuple(texts) for cause, texts in SENTENCES["causes"].items()}
+ENDS = {end: text for end, text in SENTENCES["ends"].items() if end != "trap"}
 # The words of causes that an image's version decides, where that isn't known.
-EITHER: dict[str, object] = {
-    "readable": "text, data and any stack", "writable": "data and any stack",
-    "stack": "more than a stack, if any", "depth": "8 or 16", "child": "65th, or in version 2 a 257th,"}
+EITHER: dict[str, object] = SENTENCES["either version"]
 # What a reply says, where it isn't what was asked for.
 REPLIES = {
     "empty": "there is nothing to do it with",
@@ -48,15 +25,7 @@ REPLIES = {
     "moved": "an event was made",
     "committed": "a task committed",
 }
-IMAGE_FAULTS = {
-    1: "the image is cut off",
-    2: "it doesn't begin with the letters FRAC",
-    3: "its version isn't 1 or 2",
-    4: "the kind of its root domain isn't 0 or 1",
-    5: "a number of the header is above its limit",
-    6: "the window doesn't lie in the data, or doesn't begin at a multiple of 4",
-    7: "it has no initial task",
-}
+IMAGE_FAULTS = {int(number): text for number, text in SENTENCES["image faults"].items()}
 
 
 def told_without_report(text: str) -> Optional[str]:

@@ -1,0 +1,94 @@
+"""Joins sources in JavaScript with both modules and what they show, to one file."""
+from __future__ import annotations
+
+import base64
+import gzip
+import json
+import pathlib
+import re
+from typing import Any, Dict, List, Sequence
+
+PAGE = pathlib.Path(__file__).resolve().with_name("page")
+PACKAGE = PAGE.parent.parent
+
+
+def source(name: str) -> str:
+    return (PAGE / name).read_text(encoding="utf-8")
+
+
+def packed(module: bytes) -> str:
+    """A module by gzip and in base64; the same bytes give the same text."""
+    return base64.b64encode(gzip.compress(module, 9, mtime=0)).decode("ascii")
+
+
+def within(value: Any) -> str:
+    """A value as JSON that may stand within a page: nothing in it ends the element around it."""
+    return json.dumps(value, separators=(",", ":")).replace("<", "\\u003c")
+
+
+def constant(name: str, value: Any) -> str:
+    """A constant of a script."""
+    return f"const {name} = {within(value)};\n"
+
+
+def rows_of(table: str) -> List[List[str]]:
+    """The rows of the launcher's table."""
+    return [line.split("|") for line in table.splitlines()]
+
+
+def command_line(modules: Dict[str, bytes], table: str, commit: str) -> str:
+    """`fractal.mjs`: both programs as a command for Node and Deno."""
+    constants = (constant("table", rows_of(table)), constant("made", {"commit": commit}),
+                 constant("modules", {name: packed(module) for name, module in modules.items()}))
+    return "".join(("#!/usr/bin/env node\n", *constants, *sources(("host.js", "command_line.js"))))
+
+
+def sources(names: Sequence[str]) -> List[str]:
+    return [source(name) for name in names]
+
+
+# ---- the pages
+
+# The sources of the page, in the order in which they name each other.
+SHARED = ("texts.js", "machine.js", "view.js")
+LIVE = ("telling.js", "images.js", "assembler.js", "assembling.js", "sources.js", "causes.js", "sentences.js",
+        "machines.js", "live.js", "keeping.js", "story.js", "exercises.js", "start.js")
+# What sentences are made of, for the tools too.
+TABLES = {"sentences": "common/sentences.json", "exercises": "courses/exercises.json", "story": "web/story.json"}
+
+
+def table_at(path: str) -> Any:
+    return json.loads((PACKAGE / path).read_text(encoding="utf-8"))
+
+
+def script(text: str, name: str = "", kind: str = "") -> str:
+    """An element that has a script; nothing in the text ends it."""
+    words = (f' id="{name}"' if name else "") + (f' type="{kind}"' if kind else "")
+    return f"<script{words}>\n{text}</script>\n"
+
+
+def live_page(modules: Dict[str, bytes], table: str, commit: str, examples: List[Dict[str, Any]]) -> str:
+    """The page that has both programs inside."""
+    values = {"table": rows_of(table), "made": {"commit": commit}, "examples": examples,
+              "modules": {name: packed(module) for name, module in modules.items()},
+              **{name: table_at(path) for name, path in TABLES.items()}}
+    scripts = [script("".join(constant(name, value) for name, value in values.items())),
+               script(source("host.js"), "host-source"), script(source("worker.js"), "worker-source", "text/plain"),
+               *(script(f'"use strict";\n\n{source(name)}') for name in (*SHARED, *LIVE))]
+    parts = {"style": source("run.css") + source("live.css"), "run": source("run.html"), "scripts": "".join(scripts)}
+    return filled(source("live.html"), parts)
+
+
+def recorded_page(title: str, values: Dict[str, str]) -> str:
+    """The page of a run that was recorded, from the JSON of what it shows."""
+    data = "".join(f'<script type="application/json" id="{name}-data">{value}</script>\n'
+                   for name, value in values.items())
+    scripts = (script(f'"use strict";\n\n{source(name)}') for name in (*SHARED, "recorded.js"))
+    parts = {"title": title, "style": source("run.css"), "run": source("run.html"), "data": data,
+             "scripts": "".join(scripts)}
+    return filled(source("recorded.html"), parts)
+
+
+def filled(template: str, parts: Dict[str, str]) -> str:
+    """A template with what stands there between percent signs filled in."""
+    return re.sub(f"%({'|'.join(parts)})%", lambda found: parts[found[1]], template)

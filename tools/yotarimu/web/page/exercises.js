@@ -1,0 +1,175 @@
+// ---- exercises, which judge themselves: the texts stand in exercises.json, which the tools in Python read too
+
+const MOST_SHOWN = 40;
+
+/** The answer isn't right; the text says why. */
+class Wrong extends Error {}
+
+function hold(isSo, text, values = {}) {
+  if (!isSo) throw new Wrong(filled(text, values));
+}
+
+// ---- runs and reports
+
+/** A report read: its entries, its output in hexadecimal, and its end. */
+function reportRead(text) {
+  const lines = reportIn(text).split("\n");
+  const entries = lines.filter((line) => /^\d/.test(line)).map((line) => line.split(" "));
+  return {entries, output: lines.find((line) => line.startsWith("output ")).slice("output ".length).replace("-", ""),
+    end: lines.find((line) => line.startsWith("end ")).split(" ")[1], text: lines.join("\n")};
+}
+
+const lettersOf = (digits) => digits.replace(/../g, (pair) => String.fromCharCode(parseInt(pair, 16)));
+
+async function runOf(image) {
+  const {output} = await machines.call("sim", ["run"], image);
+  return reportRead(new TextDecoder().decode(output));
+}
+
+/** What `steps` says to each act, and its report. */
+async function playedOf(image, acts, words) {
+  const {output} = await machines.call("sim", words, withBehind(image, scriptText(acts)));
+  const text = new TextDecoder().decode(output);
+  if (text.startsWith("fault")) throw new Refused(`The program refused it: ${text.trim()}.`);
+  const said = text.split("\n").slice(0, acts.length).map((line) => line.split(" "));
+  return {said: said.map(([reply, count]) => ({reply, count: Number(count)})), report: reportRead(text)};
+}
+
+// ---- judges: each gives the sentence on a right answer, or throws Wrong
+
+async function judgeJournal({image}, answer) {
+  const texts = exercises.journal;
+  const given = answer.split(/\r\n?|\n/)
+                  .map((line, place) => [place + 1, line.split("#")[0].trim().split(/\s+/).filter(Boolean)])
+                  .filter(([, fields]) => fields.length);
+  const odd = given.find(([, fields]) => fields.length !== texts.fields.length);
+  if (odd)
+    throw new Refused(`Line ${odd[0]}: ${filled(texts.misshapen, {text: odd[1].join(" ").slice(0, MOST_SHOWN)})}.`);
+  const {entries, output} = await runOf(image);
+  given.slice(0, entries.length).forEach(([line, fields], place) => {
+    const wrong = texts.fields.filter((_, field) => fields[field] !== entries[place][field]);
+    hold(!wrong.length, texts.field, {line, fields: wrong.join(texts.and), isnt: texts.isnt[wrong.length > 1 ? 1 : 0]});
+  });
+  hold(given.length >= entries.length, texts.fewer, {count: given.length});
+  hold(given.length <= entries.length, texts.more, {count: entries.length});
+  return filled(texts.right, {count: given.length, output: lettersOf(output)});
+}
+
+async function judgeAbort({image, words}, answer) {
+  const acts = numbered(answer), texts = exercises.abort;
+  const {said, report} = await playedOf(image, acts.map(([, act]) => act), words);
+  const back = acts.map(([line, act], place) => ({line, act, ...said[place]})).filter(({count}) => count);
+  hold(back.length, texts.none);
+  const found = back.find(({act}) => ["step", "give", "advance"].includes(act.split(" ")[0]));
+  hold(found, texts["by itself"], back[0]);
+  hold(report.end === "normal", texts.left, found);
+  return filled(texts.right, found);
+}
+
+async function judgeStall({image, words}, answer) {
+  const acts = numbered(answer), texts = exercises.stall;
+  const {said, report} = await playedOf(image, acts.map(([, act]) => act), words);
+  const place = said.findIndex(({reply}) => reply === "stall");
+  hold(place >= 0, texts.none);
+  const [line] = acts[place];
+  hold(report.end === "normal", texts.left, {line});
+  return filled(texts.right, {line});
+}
+
+/** The acts of an answer with the numbers of their lines. */
+function numbered(answer) {
+  const acts = answer.split(/\r\n?|\n/).map((line, place) => [place + 1, actsIn(line)[0]]).filter(([, act]) => act);
+  hold(acts.length, exercises.script.none);
+  return acts;
+}
+
+async function judgeFalseConflict({image, words, script: text}, answer) {
+  const made = imageOf(assembled({name: "", text: answer})), acts = numbered(text), texts = exercises.false_conflict;
+  const before = await playedOf(image, acts.map(([, act]) => act), words);
+  const {said, report} = await playedOf(made, acts.map(([, act]) => act), words);
+  const seen = ({entries, output, end}) => JSON.stringify([entries, output, end]);
+  hold(seen(report) === seen(before.report), texts.changed, {output: lettersOf(before.report.output)});
+  const place = said.findIndex(({count}) => count);
+  hold(place < 0, texts.taken, {line: acts[place]?.[0]});
+  return texts.right;
+}
+
+async function judgeOrder({image}, answer) {
+  const made = imageOf(assembled({name: "", text: answer})), texts = exercises.order,
+        [header, own] = [headerOf(made), headerOf(image)];
+  const textOf = (bytes, {dataAt}) => bytes.subarray(HEADER_BYTES, dataAt).join();
+  hold(textOf(made, header) === textOf(image, own), texts.text);
+  const letters = (it) => tasksOf(it).map((task) => task.args.join()).sort().join(" ");
+  hold(letters(header) === letters(own), texts.letters);
+  const output = lettersOf((await runOf(made)).output);
+  hold(output === texts.word, texts.other, {output: output.replace(/[^A-Z]/g, "?")});
+  hold(header.isOrdered, texts.unordered);
+  const times = tasksOf(header).map((task) => task.ts);
+  hold(new Set(times).size === times.length, texts.tie);
+  return filled(texts.right, {output});
+}
+
+const JUDGES = {journal: judgeJournal, abort: judgeAbort, stall: judgeStall, false_conflict: judgeFalseConflict,
+  order: judgeOrder};
+
+// ---- the page's part
+
+const exerciseExample = (name) => examples.find((it) => it.name === `exercises/${name}`);
+
+function buildExercises() {
+  at("exercise").innerHTML = Object.entries(exercises.exercises)
+    .map(([name, {title}]) => `<option value="${name}">${escaped(title)}</option>`).join("");
+}
+
+/** Opens an exercise: its image at the beginning of a run, its text, and a place for the answer. */
+function openExercise() {
+  const name = at("exercise").value, {text, answer} = exercises.exercises[name], example = exerciseExample(name);
+  return perform(async () => {
+    await openExample(example);
+    if (answer !== "script") setAnswer(answer === "source" ? example.source : "");
+    at("exercise-text").textContent = text + (answer === "script" ? " Your answer is the acts that you make." : "");
+    at("answer-box").hidden = answer === "script";
+    at("source-text").value = example.source;
+    at("exercise-box").hidden = false;
+    showVerdict("", "");
+  });
+}
+
+function setAnswer(text) { at("answer").value = text; }
+
+function showVerdict(kind, text) {
+  at("verdict").className = kind;
+  at("verdict").textContent = text;
+}
+
+function judge() {
+  const name = at("exercise").value, {answer} = exercises.exercises[name], example = exerciseExample(name);
+  const own = {image: bytesOf(example.image), script: example.script,
+    words: example.words[0] === "steps" ? example.words : ["steps"]};
+  return perform(async () => {
+    showVerdict("", "");
+    const given
+      = answer === "script" ? scriptText(subject.name === example.name ? actsSoFar() : []) : at("answer").value;
+    try {
+      showVerdict("right", filled(exercises.verdicts.right, {why: await JUDGES[name](own, given)}));
+    } catch (error) {
+      if (!(error instanceof Wrong)) throw error;
+      showVerdict("wrong", filled(exercises.verdicts.wrong, {why: error.message}));
+    }
+  });
+}
+
+function listenToExercises() {
+  at("exercise-open").addEventListener("click", openExercise);
+  at("exercise").addEventListener("change", () => { at("exercise-box").hidden = true; });
+  at("judge").addEventListener("click", judge);
+  at("assemble")
+    .addEventListener("click", () => perform(() => openSources([{name: "task.s", text: at("source-text").value}])));
+}
+
+/** Assembles sources, and opens what they make. */
+async function openSources(sources, more = {course: {kind: "least"}}, place = 0) {
+  const assembly = assembled(...sources), image = imageOf(assembly);
+  await open({name: sources[0].name, image, listing: listingOf(assembly), sources, ...more}, place);
+  at("assembled").textContent = `The image has ${plural(image.length, "byte")}.`;
+}

@@ -1,0 +1,455 @@
+// ---- the live page: an image, options and acts, which the machine in the page plays anew at each change
+
+const MOST_INPUT = 67108864, MOST_AT_ONCE = 10000;
+// After so many milliseconds a call that still runs is told, and can be stopped.
+const PATIENCE = 300;
+// The status of a call whose output wasn't taken whole.
+const UNWRITTEN = 7;
+const optionRows = table.filter(([kind, name]) => kind === "option" && name !== "workers");
+const actWords = {dispatch: 1, step: 2, take: 2, give: 2, abort: 1, commit: 0, coalesce: 1, split: 1, advance: 0};
+// Replies to what nothing asked for, in rounds.
+const NOT_ASKED_FOR = ["empty", "busy", "stale", "ended"];
+
+let machines, telling = new Telling();
+let subject = {name: "", image: new Uint8Array(0), listing: [], labels: new Labels([])};
+let script = [], undoLengths = [], lastOptions = null;
+
+/** What can't be done: its text is the sentence for the person. */
+class Refused extends Error {}
+
+const tell = (sentence) => { at("message").textContent = sentence; };
+
+// ---- one thing after another
+
+let chain = Promise.resolve();
+
+/** Does something once all before it is done; what goes wrong is told in a sentence. */
+function perform(action) {
+  chain = chain.then(async () => {
+    const late = setTimeout(() => showBusy(true), PATIENCE);
+    try {
+      tell("");
+      await action();
+    } catch (error) {
+      tell(failureTold(error));
+    } finally {
+      clearTimeout(late);
+      showBusy(false);
+    }
+  });
+  return chain;
+}
+
+function failureTold(error) {
+  if (error instanceof Refused) return error.message;
+  if (error instanceof Stopped) return "It was stopped, and nothing has changed.";
+  return `The machine gave no answer: ${error.message}.`;
+}
+
+function showBusy(isBusy) {
+  at("stop").hidden = !isBusy;
+  if (isBusy) at("call").textContent = "The machine runs.";
+}
+
+// ---- what is asked of the machine
+
+function optionsNow() {
+  return Object.fromEntries(optionRows.map(([, name, , usual]) => [name, at(`option-${name}`).value.trim() || usual]));
+}
+
+function setOptions(options) {
+  for (const [, name, , usual] of optionRows) at(`option-${name}`).value = options[name] ?? usual;
+}
+
+/** The words for options that aren't as usual. */
+function optionWords(options = optionsNow()) {
+  return optionRows.filter(([, name, , usual]) => options[name] !== undefined && options[name] !== usual)
+    .flatMap(([, name]) => [`--${name}`, options[name]]);
+}
+
+function courseNow() {
+  const kind = at("course").value;
+  return kind === "lockstep" ? {kind, rounds: at("rounds").value, seed: at("seed").value} : {kind};
+}
+
+function setCourse({kind, rounds, seed}) {
+  at("course").value = document.body.dataset.course = kind;
+  if (rounds !== undefined) [at("rounds").value, at("seed").value] = [rounds, seed];
+}
+
+function courseWords({kind, rounds, seed} = courseNow()) {
+  return kind === "lockstep" ? [kind, rounds, seed] : [kind];
+}
+
+const scriptText = (acts = script) => acts.map((act) => `${act}\n`).join("");
+
+function withBehind(image, text) {
+  const behind = new TextEncoder().encode(text);
+  return joined([image, behind], image.length + behind.length);
+}
+
+/** All that decides what is played, and what was told of it. */
+function stateNow() {
+  return {subject, script, telling, options: optionsNow(), course: courseNow()};
+}
+
+function setState(state) {
+  ({subject, script, telling} = state);
+  setOptions(state.options);
+  setCourse(state.course);
+}
+
+/** Plays it all anew, and shows an act; where the machine refuses it, all is as it was before. */
+async function play(place = Infinity) {
+  const isSteps = courseNow().kind === "steps";
+  const words = [...courseWords(), ...optionWords()];
+  const begin = performance.now();
+  const input = isSteps ? withBehind(subject.image, scriptText()) : subject.image;
+  const {status, output} = await machines.call("watch", words, input);
+  const milliseconds = performance.now() - begin;
+  const text = new TextDecoder().decode(output.subarray(0, 200));
+  if (text.startsWith('{"fault"')) throw new Refused(faultTold(JSON.parse(text.split("\n")[0])));
+  if (!output.length) throw new Refused(`${statusTold(status)}: status ${status}.`);
+  const had = telling.course, kept = await telling.take(output);
+  showAnswer({isNew: telling.course !== had, kept, place});
+  const size = `${plural(output.length, "byte")}, ${milliseconds.toFixed(0)} ms`;
+  at("call").textContent
+    = `fractal watch ${words.join(" ")}: status ${status}, ${size}.${telling.end ? "" : brokenOff(status)}`;
+  lastOptions = {options: optionsNow(), course: courseNow()};
+  clearTexts();
+}
+
+function showAnswer({isNew, kept, place}) {
+  ({course} = telling);
+  const sayer = new Sayer(telling.head, subject.labels);
+  saying = (act, before, behind) => sentenceAt(sayer, act, before, behind);
+  lastShown = null;
+  if (isNew) {
+    build(subject.listing);
+    buildPlaces(telling.head);
+  } else if (kept !== course.length || at("slider").max !== String(course.length)) {
+    buildCurves();
+  }
+  showScript();
+  at("example").value = String(examples.findIndex((it) => it.name === subject.name));
+  go(place);
+}
+
+function sentenceAt(sayer, act, before, behind) {
+  const told = act === 0 ? sayer.opening() : sayer.sentence(course.acts[act - 1], before, behind);
+  return act === course.length && telling.end ? `${told} ${sayer.end(telling.end)}` : told;
+}
+
+/** Tries a change of what is played; where that is refused, it is taken back. */
+async function change(make, place) {
+  const before = stateNow();
+  try {
+    await make();
+    await play(place);
+  } catch (error) {
+    setState(before);
+    showScript();
+    throw error;
+  }
+}
+
+/** What is said of a text without its end. */
+function brokenOff(status) {
+  return status === UNWRITTEN ? ` So long a run isn't shown whole: these are its first ${plural(course.length, "act")}.`
+    : ` ${statusTold(status)}: the text isn't whole.`;
+}
+
+function statusTold(status) {
+  const row = table.find(([kind, number]) => kind === "status" && number === String(status));
+  return row ? `${row[2][0].toUpperCase()}${row[2].slice(1)}` : "The program told nothing";
+}
+
+function faultTold(fault) {
+  switch (fault.fault) {
+    case "image":
+      return `${subject.name} is no image: ${sentences["image faults"][fault.number]} (at its byte ${fault.offset}).`;
+    case "script": return actFault(script[fault.line - 1] ?? "", fault.line);
+    case "long": return `The image and its script have more than ${MOST_INPUT.toLocaleString("en")} bytes.`;
+    default: return `An option is outside its range: ${optionFault()}.`;
+  }
+}
+
+function optionFault() {
+  const options = optionsNow();
+  const wrong = optionRows.find(([, name, values]) => !isAllowed(values, options[name]));
+  return wrong ? `${wrong[1]} is ${wrong[2].replace("..", " to ").replaceAll(",", ", ")}, and not ${options[wrong[1]]}`
+    : "rounds are 1 to 1,000,000, and a seed is 0 to 4,294,967,295";
+}
+
+function isAllowed(values, text) {
+  const [least, most] = values.split("..").map(Number);
+  if (!/^\d{1,10}$/.test(text)) return false;
+  return most === undefined ? values.split(",").includes(text) : Number(text) >= least && Number(text) <= most;
+}
+
+/** Why a line is no act here. */
+function actFault(act, line) {
+  const [word, ...numbers] = act.split(" "), {tiles, cores} = optionsNow();
+  const where = line ? `Line ${line}, \`${act.slice(0, 40)}\`` : `\`${act.slice(0, 40)}\``;
+  if (!Object.hasOwn(actWords, word))
+    return `${where}, is no act; an act begins with ${Object.keys(actWords).join(", ")}.`;
+  if (numbers.length !== actWords[word])
+    return `${where}: it wants ${["no number", "a tile", "a tile and a core"][actWords[word]]}.`;
+  if (numbers.some((it) => /^0\d/.test(it))) return `${where}: a number has no leading zero.`;
+  if (numbers[0] !== undefined && !isAllowed(`0..${tiles - 1}`, numbers[0]))
+    return `${where}: the tiles are 0 to ${tiles - 1}.`;
+  if (numbers[1] !== undefined && !isAllowed(`0..${cores - 1}`, numbers[1]))
+    return `${where}: the cores are 0 to ${cores - 1}.`;
+  return `${where}: it isn't written as an act is.`;
+}
+
+// ---- acts
+
+/** The acts up to what is shown as a script; of a course that the machine makes, each act that it told. */
+function actsSoFar() {
+  if (courseNow().kind === "steps") return script;
+  return course.acts.slice(0, current).filter((line) => Object.hasOwn(actWords, line.do)).map((line) => (
+    [line.do, ...[line.tile, line.core].slice(0, actWords[line.do])].join(" ")));
+}
+
+/** Further acts, behind those that stand. */
+function addActs(more) {
+  return perform(() => change(() => {
+    undoLengths.push(script.length);
+    script = [...actsSoFar(), ...more];
+    setCourse({kind: "steps"});
+  }));
+}
+
+function runMany(count) {
+  return perform(async () => {
+    const before = actsSoFar().length;
+    await change(() => {
+      undoLengths.push(script.length);
+      script = [...actsSoFar(), ...Array(count).fill("advance")];
+      setCourse({kind: "steps"});
+    });
+    await dropReplies(before, ["ended"]);
+    if (script.length === before) throw new Refused("The run is over, so no event is left.");
+  });
+}
+
+/** Rounds in lockstep, of which those acts stay that something asked for. A refused act changes nothing. */
+function runRounds(count) {
+  return perform(async () => {
+    const {tiles, cores} = course.head, before = actsSoFar().length;
+    const each = (length, act) => Array.from({length}, (_, number) => act(number));
+    const round = [
+      ...each(tiles, (tile) => [`dispatch ${tile}`, ...each(cores, (core) => `step ${tile} ${core}`)]).flat(),
+      ...each(tiles, () => "commit"), ...each(tiles, (tile) => `split ${tile}`)
+    ];
+    if (count * round.length > 200000) throw new Refused("So many rounds at once are too many; make fewer.");
+    await change(() => {
+      undoLengths.push(script.length);
+      script = [...actsSoFar(), ...Array(count).fill(round).flat()];
+      setCourse({kind: "steps"});
+    });
+    await dropReplies(before, NOT_ASKED_FOR);
+    if (script.length === before) throw new Refused("Nothing is left to do in a round.");
+  });
+}
+
+/** Takes acts out of the script that were answered so, behind so many. */
+async function dropReplies(before, replies) {
+  const kept = script.filter((_, place) => place < before || !replies.includes(course.acts[place].reply));
+  if (kept.length === script.length) return;
+  script = kept;
+  await play();
+}
+
+function undo(count) {
+  return perform(() => {
+    if (courseNow().kind !== "steps") throw new Refused("The machine made these acts; choose another course.");
+    if (!script.length) throw new Refused("No act is left to undo.");
+    return change(() => { script = script.slice(0, Math.max(0, script.length - count)); });
+  });
+}
+
+/** Undoes what the last button did. */
+function undoLast() {
+  const length = undoLengths.filter((it) => it < script.length).at(-1) ?? script.length - 1;
+  undoLengths = undoLengths.filter((it) => it < length);
+  return undo(script.length - length);
+}
+
+function doTyped() {
+  const text = at("typed").value.split("#")[0].trim().replace(/\s+/g, " ");
+  if (!text) return;
+  const many = /^(run|undo)(?: (\d{1,5}))?$/.exec(text);
+  const count = many && Math.min(Number(many[2] ?? 1), MOST_AT_ONCE);
+  const done = !many ? addTyped(text) : many[1] === "run" ? runMany(count) : undo(count);
+  done.then(() => { if (!at("message").textContent) at("typed").value = ""; });
+}
+
+function addTyped(text) {
+  const [word, ...numbers] = text.split(" ");
+  const isAct = Object.hasOwn(actWords, word) && numbers.length === actWords[word];
+  return isAct ? addActs([text]) : perform(() => { throw new Refused(actFault(text)); });
+}
+
+// ---- what is opened
+
+/** Shows another image with its script and its options. */
+function open({name, image, listing = [], acts = [], options = {}, course: wanted = {kind: "steps"}, sources = null},
+  place = Infinity) {
+  return change(() => {
+    const rows = listing.length ? listing : disassembled(image);
+    subject = {name, image, listing: rows, labels: new Labels(rows), sources};
+    showStory(false);
+    script = acts;
+    undoLengths = [];
+    setOptions(options);
+    setCourse(wanted);
+    telling = new Telling();
+  }, place);
+}
+
+function openExample(example) {
+  const {course: wanted, options} = wordsRead(example.words);
+  return open({name: example.name, image: bytesOf(example.image), listing: listingRows(example.listing),
+    acts: actsIn(example.script), options, course: wanted}, example.words[0] === "steps" ? Infinity : 0);
+}
+
+const bytesOf = (base64) => Uint8Array.from(atob(base64), (sign) => sign.charCodeAt(0));
+const actsIn
+  = (text) => text.split(/\r\n?|\n/).map((line) => line.split("#")[0].trim().replace(/\s+/g, " ")).filter(Boolean);
+
+/** The course and the options of a call's words. */
+function wordsRead(words) {
+  const options = {};
+  words.forEach((word, place) => { if (word.startsWith("--")) options[word.slice(2)] = words[place + 1]; });
+  const kind = ["steps", "lockstep"].includes(words[0]) ? words[0] : "least";
+  return {course: kind === "lockstep" ? {kind, rounds: words[1], seed: words[2]} : {kind}, options};
+}
+
+/** Files of one's own: an image with what belongs to it, or a source. */
+async function openFiles(files) {
+  const large = files.find((file) => file.size > MOST_INPUT);
+  if (large) {
+    throw new Refused(`${large.name} has ${plural(large.size, "byte")}; an image and its script have at most `
+      + `${MOST_INPUT.toLocaleString("en")}.`);
+  }
+  const read = await Promise.all(
+    files.map(async (file) => ({name: file.name, bytes: new Uint8Array(await file.arrayBuffer())})));
+  const kinds = {};
+  for (const file of read) kinds[kindOf(file)] ??= file;
+  const text = (file) => (file ? new TextDecoder().decode(file.bytes) : "");
+  if (!kinds.image && kinds.source) {
+    at("source-text").value = text(kinds.source);
+    return openSources(
+      read.filter((file) => kindOf(file) === "source").map((file) => ({name: file.name, text: text(file)})));
+  }
+  if (!kinds.image && kinds.script && !kinds.other) return change(() => {
+    script = actsIn(text(kinds.script));
+    setCourse({kind: "steps"});
+  });
+  const image = kinds.image ?? kinds.other ?? read[0];
+  return open({name: image.name, image: image.bytes, listing: kinds.listing ? listingRows(text(kinds.listing)) : [],
+    acts: actsIn(text(kinds.script)), course: {kind: kinds.script ? "steps" : "least"}}, kinds.script ? Infinity : 0);
+}
+
+function kindOf({name, bytes}) {
+  if (String.fromCharCode(...bytes.subarray(0, 4)) === MAGIC) return "image";
+  if (/\.s$/i.test(name)) return "source";
+  const start = new TextDecoder().decode(bytes.subarray(0, 400));
+  if (start.startsWith("What stands where in ")) return "listing";
+  const first = actsIn(start)[0] ?? "";
+  return Object.hasOwn(actWords, first.split(" ")[0]) ? "script" : "other";
+}
+
+// ---- the parts of the page that hang on the image
+
+function buildPlaces({tiles, cores}) {
+  const choices = (count) => Array.from({length: count}, (_, number) => `<option>${number}</option>`).join("");
+  const chosen = [at("tile").value, at("core").value];
+  at("tile").innerHTML = choices(tiles);
+  at("core").innerHTML = choices(cores);
+  if (chosen[0] < tiles) at("tile").value = chosen[0] || 0;
+  if (chosen[1] < cores) at("core").value = chosen[1] || 0;
+}
+
+/** The script as text, where it is open: a long one takes long to be laid out. */
+function showScript() {
+  if (!at("script-box").open) return;
+  at("script").value = scriptText(courseNow().kind === "steps" ? script : []);
+  at("script").scrollTop = at("script").scrollHeight;
+}
+
+function clearTexts() {
+  at("report").value = at("report-said").textContent = "";
+}
+
+function fieldHtml([, name, values, usual, bounds]) {
+  const [least, most] = values.split("..");
+  const control = most === undefined
+    ? `<select id="option-${name}">${values.split(",").map((it) => `<option>${it}</option>`).join("")}</select>`
+    : `<input id="option-${name}" type="number" min="${least}" max="${most}" value="${usual}">`;
+  const range = most === undefined ? values.replaceAll(",", ", ") : `${least} to ${Number(most).toLocaleString("en")}`;
+  return `<label title="${escaped(bounds)}">${name} ${control} <small class="quiet">${range}</small></label>`;
+}
+
+function groupHtml(group) {
+  const choices = examples.map((it, place) => (
+    it.group === group ? `<option value="${place}">${escaped(it.title)}</option>` : ""));
+  return `<optgroup label="${group}">${choices.join("")}</optgroup>`;
+}
+
+function buildControls() {
+  at("options").innerHTML = optionRows.map(fieldHtml).join("");
+  setOptions({});
+  const groups = [...new Set(examples.map((it) => it.group))];
+  at("example").innerHTML = `<option value="-1">of my own</option>${groups.map(groupHtml).join("")}`;
+  at("made").textContent
+    = `Version ${table.find(([kind]) => kind === "version")[1]}; both programs are of the commit ${made.commit}.`;
+}
+
+function listenToControls() {
+  const on = (id, event, action) => at(id).addEventListener(event, action);
+  on("example", "change", () => {
+    if (at("example").value === "-1") at("file").click();
+    else perform(() => openExample(examples[at("example").value]));
+  });
+  on("options", "change", () => perform(changedOption));
+  for (const id of ["course", "rounds", "seed"]) on(id, "change", () => perform(changedOption));
+  on("file", "change", () => perform(() => openFiles([...at("file").files]).finally(() => { at("file").value = ""; })));
+  for (const button of document.querySelectorAll("[data-act]"))
+    button.addEventListener("click", () => addActs([actOf(button)]));
+  on("run-many", "click", () => withCount(runMany));
+  on("run-rounds", "click", () => withCount(runRounds));
+  on("undo", "click", undoLast);
+  on("stop", "click", () => machines.stop());
+  on("typed", "keydown", (event) => { if (event.key === "Enter") doTyped(); });
+  on("script-box", "toggle", showScript);
+  on("script", "change", () => perform(() => change(() => {
+    script = actsIn(at("script").value);
+    setCourse({kind: "steps"});
+  })));
+}
+
+/** A field was changed: where the machine refuses what stands there, the field is as it was. */
+async function changedOption() {
+  document.body.dataset.course = at("course").value;
+  try {
+    await play(at("course").value === "steps" ? Infinity : 0);
+  } catch (error) {
+    setOptions(lastOptions.options);
+    setCourse(lastOptions.course);
+    throw error;
+  }
+}
+
+function actOf(button) {
+  const word = button.dataset.act;
+  return [word, ...[at("tile").value, at("core").value].slice(0, actWords[word])].join(" ");
+}
+
+function withCount(action) {
+  const count = Number(at("count").value);
+  if (Number.isInteger(count) && count >= 1 && count <= MOST_AT_ONCE) return action(count);
+  return perform(() => { throw new Refused(`N is 1 to ${MOST_AT_ONCE.toLocaleString("en")}.`); });
+}

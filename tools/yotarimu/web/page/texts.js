@@ -1,0 +1,25 @@
+// ---- numbers, bytes and texts as they are told
+
+const hex = (number) => number.toString(16).padStart(8, "0");
+const plural = (count, one) => `${count.toLocaleString("en")} ${one}${count === 1 ? "" : "s"}`;
+
+/** A text with the values that it names between braces. */
+function filled(text, values) {
+  return text.replace(/\{(\w+)\}/g, (_, name) => values[name]);
+}
+
+// As in C; other bytes than printable ASCII are \xNN.
+const ESCAPED = {"\n": "\\n", "\t": "\\t", "\r": "\\r", "\\": "\\\\", '"': '\\"'};
+
+/** Bytes in hexadecimal as text. */
+function printable(digits) {
+  return digits.replace(/../g, (pair) => {
+    const sign = String.fromCharCode(parseInt(pair, 16));
+    return ESCAPED[sign] ?? (sign >= " " && sign <= "~" ? sign : `\\x${pair}`);
+  });
+}
+
+/** A text as it stands in HTML. */
+function escaped(text) {
+  return text.replace(/[&<>"]/g, (sign) => `&#${sign.charCodeAt(0)};`);
+}

@@ -1,0 +1,351 @@
+// ---- what is shown
+
+const MOST_ENTRIES = 12;
+const MOST_LINES = 12;
+// So many acts are looked back at for them.
+const MOST_LOOKED_AT = 5000;
+const MOST_IN_BLOCK = 24;
+const MOST_EMITTED = 120;
+const PAGE_OF_ACTS = 20;
+const MOST_POINTS = 1000;
+const STATES = {idle: "i", running: "r", trapped: "t", finished: "f", spilled: ""};
+
+const at = (id) => document.getElementById(id);
+// What is shown: a course, and `saying(place, before, behind)`, the text on an act by the machine before and behind it.
+let course = null, saying = () => "";
+
+/** Sets a part of the page where it isn't as it stands: what doesn't change isn't laid out again. */
+const shown = new Map();
+function show(element, html) {
+  if (shown.get(element) === html) return;
+  shown.set(element, html);
+  element.innerHTML = html;
+}
+
+/** What stands beside a task in each lane, as it is read out and as it is shown, and the tasks that have no marks. */
+const LANES = {
+  queue: {told: (task) => `timestamp ${task.ts}`, shown: (task) => `@${task.ts}`, plain: new WeakMap()},
+  cores: {told: (task) => plural(task.work, "instruction"), shown: (task) => `${task.work}`, plain: new WeakMap()},
+  finished: {told: () => "", shown: () => "", plain: new WeakMap()},
+  block: {told: () => "", shown: () => "", plain: new WeakMap()},
+};
+
+const LANE_TITLES = ["task queue", "cores", "commit queue", "block"];
+
+/** A task in a lane. What colours and lines show is told in words too, for whoever doesn't see them. */
+function taskHtml(machine, name, task) {
+  const lane = LANES[name];
+  const marks = marksOf(machine.act, task);
+  // The label of a task that has no name changes with the names of others.
+  const isPlain = task.name !== null && !marks.length;
+  if (isPlain && lane.plain.has(task)) return lane.plain.get(task);
+  const classes = [task.state, ...marks.map((mark) => mark[1])].join(" ");
+  const signs = [lane.shown(task), STATES[task.state], ...marks.map((mark) => mark[2])].filter((sign) => sign !== "");
+  const words = [lane.told(task), task.state, ...marks.map((mark) => mark[3])].filter((word) => word !== "");
+  const id = task.id === null ? "" : ` data-id="${task.id}"`;
+  const html = itemHtml(machine.label(task), classes, signs, words, `${id} title="${detail(task)}"`);
+  if (isPlain) lane.plain.set(task, html);
+  return html;
+}
+
+/** What an act did to a task: whether it is so, the class, the sign and the words for it. */
+function marksOf(act, task) {
+  return [
+    [task.id !== null && act.own === task.id, "own", "*", "the act's task"],
+    [task.id !== null && act.arrived === task.id, "new", "new", "came by this act"],
+    [act.back.has(task.id), "back", "back", "taken back by this act"],
+    [act.spilled.has(task), "moved", "spilled", "spilled by this act"],
+  ].filter(([isSo]) => isSo);
+}
+
+/** An item of a lane: what is read out says the same as what is seen. */
+function itemHtml(label, classes, signs, words, more) {
+  return `<li class="task ${classes}" data-label="${label}"${more}><span role="img" `
+    + `aria-label="${[label, ...words].join(", ")}">${label} <small>${signs.join(" ")}</small></span></li>`;
+}
+
+function detail(task) {
+  const number = task.number === null ? "" : `, dispatched with the number ${task.number}`;
+  return `timestamp ${task.ts}, entry ${hex(task.entry)}${number}`;
+}
+
+function laneHtml(machine, name, ids, more = "") {
+  const items = ids.map((id) => (id === null ? '<li class="free">free</li>'
+    : taskHtml(machine, name, machine.tasks.get(id))));
+  return `<ul role="list" data-lane="${name}">${items.join("")}${more}</ul>`;
+}
+
+function discardedHtml(machine, tile) {
+  return machine.act.discarded.filter((task) => task.tile === tile).map((task) => {
+    const id = ` data-discarded="${task.id}"`;
+    return itemHtml(task.label, "discarded", ["discarded"], ["discarded by this act"], id);
+  }).join("");
+}
+
+function blockHtml(machine, tile) {
+  const block = machine.blocks[tile];
+  const latest = block.slice(-MOST_IN_BLOCK);
+  const rest = block.length - latest.length;
+  return `<ul role="list" data-lane="block" data-count="${block.length}">${rest ? `<li>${rest} more</li>` : ""}`
+    + `${latest.map((task) => taskHtml(machine, "block", task)).join("")}</ul>`;
+}
+
+const rows = [];
+
+/** A row for each tile. */
+function buildTiles(tiles) {
+  at("tiles").tBodies[0].replaceChildren();
+  rows.length = 0;
+  for (let tile = 0; tile < tiles; tile++) {
+    const row = at("tiles").tBodies[0].insertRow();
+    row.dataset.tile = tile;
+    row.innerHTML
+      = `<th scope="row">${tile}</th>${LANE_TITLES.map((title) => `<td data-title="${title}"></td>`).join("")}`;
+    rows.push(row);
+  }
+}
+
+function showTiles(machine, line) {
+  machine.queues.forEach((queue, tile) => {
+    const cells = rows[tile].cells;
+    rows[tile].className = line && line.tile === tile ? "here" : "";
+    show(cells[1], laneHtml(machine, "queue", queue, discardedHtml(machine, tile)));
+    show(cells[2], laneHtml(machine, "cores", machine.cores[tile]));
+    show(cells[3], laneHtml(machine, "finished", machine.finished[tile]));
+    show(cells[4], blockHtml(machine, tile));
+  });
+}
+
+function showJournal(machine, place) {
+  // Where the page begins behind the first act, it has the last entries before it.
+  const missing = course.opening.commits - course.before;
+  const end = machine.commits - missing;
+  const first = Math.max(0, end - MOST_ENTRIES);
+  const body = course.entries.slice(first, end).map(([name, depth, ts], index) => {
+    const turn = missing + first + index + 1;
+    const isNew = turn === machine.act.committed;
+    return `<tr class="${isNew ? "hit" : ""}"><td>${turn}</td><td>${name}</td><td>${depth}</td><td>${ts}</td>`
+      + `<td>${isNew ? "committed" : ""}</td></tr>`;
+  });
+  show(at("journal").tBodies[0], body.join(""));
+  const digits = course.outputAt(place);
+  const count = digits.length / 2 + course.opening.emitted;
+  at("output").textContent = `${plural(machine.commits, "task")} committed, ${plural(count, "byte")} of output`
+    + (digits ? `: ${printable(digits.slice(-2 * MOST_EMITTED))}` : "");
+}
+
+const isAccess = (line) => line.reply === "ok" && (line.asks === "load" || line.asks === "store");
+
+/** The lines that were touched last, from an act back. */
+function latestLines(place) {
+  const found = new Set();
+  for (let act = place; act > 0 && act > place - MOST_LOOKED_AT && found.size < MOST_LINES; act--) {
+    const line = course.acts[act - 1];
+    if (isAccess(line)) found.add(course.memory.lineOf(line.addr));
+  }
+  for (const [address] of course.opening.memory) {
+    if (found.size < MOST_LINES) found.add(course.memory.lineOf(address));
+  }
+  return [...found].sort((one, two) => one - two);
+}
+
+function memoryRow(address, place, line) {
+  const word = course.memory.at(address, place);
+  if (!word) return "";
+  const own = course.memory.lineOf(address);
+  const isHit = line && isAccess(line) && course.memory.lineOf(line.addr) === own;
+  const isIt = isHit && address === line.addr - (line.addr % 4);
+  const said = isIt ? `${line.asks}s` : word.isNew ? "undone" : isHit ? "the same line" : "";
+  const digits = [...word.bytes].reverse().map((byte) => (
+    byte === null ? ".." : byte.toString(16).padStart(2, "0"))).join("");
+  const value = word.bytes.includes(null) ? "" : parseInt(digits, 16);
+  return `<tr class="${isHit ? "hit" : ""}" data-address="${address}"><td>${own}</td>`
+    + `<td class="digits">${hex(address)}</td><td class="digits">${digits}</td><td>${value}</td><td>${said}</td></tr>`;
+}
+
+function showMemory(place, line) {
+  const body = latestLines(place).flatMap((chosen) => course.memory.lines.get(chosen) ?? [])
+    .map((address) => memoryRow(address, place, line)).join("");
+  show(at("memory").tBodies[0], body);
+  at("touched").textContent = body ? `The words of the ${MOST_LINES} lines touched last at most; `
+    + "bytes that no task has touched are told as two dots" : "No data was touched.";
+}
+
+// ---- the listing
+
+const places = new Map();
+let marked = [];
+function buildListing(listing) {
+  places.clear();
+  marked = [];
+  at("source").hidden = !listing.length;
+  at("listing").innerHTML = listing.map(([address, text]) => (
+    `<div${address === null ? "" : ` data-address="${address}"`}><span></span>${escaped(text) || " "}</div>`)).join("");
+  for (const row of at("listing").children) {
+    if (row.dataset.address) places.set(Number(row.dataset.address), row);
+  }
+}
+
+function showListing(machine, line) {
+  for (const row of marked) {
+    row.className = row.firstChild.textContent = "";
+    row.removeAttribute("aria-current");
+  }
+  marked = [];
+  for (const id of machine.cores.flat()) {
+    const task = machine.tasks.get(id);
+    if (task) markPlace(task.pc, machine.label(task), id === machine.act.own);
+  }
+  if (line && "pc" in line && !machine.cores.flat().includes(line.task)) {
+    markPlace(line.pc, machine.tasks.has(line.task) ? machine.label(machine.tasks.get(line.task)) : "", true);
+  }
+}
+
+function markPlace(address, label, isOwn) {
+  const row = places.get(address);
+  if (!row) return;
+  row.firstChild.textContent += `${isOwn ? "*" : ""}${label} `;
+  marked.push(row);
+  if (!isOwn) return;
+  row.className = "hit";
+  row.setAttribute("aria-current", "true");
+  at("listing").scrollTop = row.offsetTop - at("listing").clientHeight / 2;
+}
+
+// ---- the curves
+
+const TASK_CURVES = [["idle", "one"], ["running", "two"], ["finished", "three"], ["spilled", "four"]];
+const WORK_CURVES = [["useful", "three"], ["wasted", "four"]];
+const CURVE_NAMES = {running: "running or trapped", useful: "committed", wasted: "wasted"};
+
+/** A curve in steps: a number holds up to the next act. */
+function curvePath(values, most, className) {
+  const stride = Math.max(1, Math.floor(values.length / MOST_POINTS));
+  const steps = [];
+  for (let place = 0; place < values.length; place += stride) {
+    const across = (place / Math.max(1, values.length - 1)) * 1000;
+    steps.push(`H${across.toFixed(1)}V${(98 - (values[place] / most) * 96).toFixed(1)}`);
+  }
+  return `<path class="${className}" d="M0,98${steps.join("")}"/>`;
+}
+
+function buildCurves() {
+  buildCurve("tasks", TASK_CURVES, "Tasks in all tiles");
+  buildCurve("work", WORK_CURVES, "Instructions executed");
+}
+
+function buildCurve(id, curves, what) {
+  const most = curves.reduce((found, [name]) => course.curves[name].reduce((a, b) => Math.max(a, b), found), 1);
+  at(id).innerHTML = curves.map(([name, style]) => curvePath(course.curves[name], most, style)).join("");
+  const samples = curves.map(([name, style]) => (
+    `<svg class="sample" aria-hidden="true" viewBox="0 0 44 10"><path class="${style}" d="M0,5L44,5"/></svg> `
+    + (CURVE_NAMES[name] ?? name)));
+  at(`${id}-caption`).innerHTML = `${what}, from 0 to ${most.toLocaleString("en")}: ${samples.join(", ")}`;
+}
+
+function showCurves(place) {
+  // The mark stands over the curves, which needn't be painted anew then.
+  const across = place / Math.max(1, course.length);
+  for (const mark of document.querySelectorAll(".mark"))
+    mark.style.transform = `translateX(${(across * 100).toFixed(3)}%)`;
+  const [idle, running, finished, spilled, useful, wasted] = CURVES.map((name) => course.curves[name][place]);
+  at("counts").textContent = `Behind this act: ${plural(idle, "task")} idle, ${running} running or trapped, `
+    + `${finished} finished, ${spilled} spilled; ${plural(useful, "instruction")} executed by tasks that committed, `
+    + `${wasted.toLocaleString("en")} wasted by tasks that were taken back.`;
+}
+
+// ---- going from act to act
+
+let current = 0, lastShown = null;
+
+/** The machine before an act and behind it. One act further than what was shown last is one act more to follow. */
+function machinesAt(place) {
+  const isNext = lastShown?.course === course && lastShown.place === place - 1;
+  const before = place === 0 ? null : isNext ? lastShown.machine : course.at(place - 1);
+  const machine = place === 0 ? course.at(0) : before.copy();
+  if (place) machine.follow(course.acts[place - 1]);
+  lastShown = {course, place, machine};
+  return {before, machine};
+}
+
+function go(wanted) {
+  current = Math.max(0, Math.min(course.length, wanted));
+  const line = course.acts[current - 1];
+  const {before, machine} = machinesAt(current);
+  at("said").textContent = saying(current, before, machine);
+  document.body.dataset.at = machine.at;
+  document.body.dataset.n = machine.events;
+  showTiles(machine, line);
+  showJournal(machine, current);
+  showMemory(current, line);
+  showListing(machine, line);
+  showCurves(current);
+  showPlace(machine.at);
+}
+
+// What else is to follow where another act is shown, by its number.
+let onPlace = () => {};
+
+function showPlace(number) {
+  const last = (course.acts.at(-1) ?? course.opening).at;
+  const told = `act ${number.toLocaleString("en")} of ${last.toLocaleString("en")}`;
+  at("slider").max = course.length;
+  at("slider").value = current;
+  at("slider").setAttribute("aria-valuetext", told);
+  at("where").textContent = told;
+  onPlace(number);
+}
+
+const tookBack = (line) => line.aborted > 0;
+const committed = (line) => line.do === "commit" && line.reply === "ok";
+function next(isWanted) {
+  const found = course.acts.findIndex((line, place) => place >= current && isWanted(line));
+  if (found >= 0) go(found + 1);
+  else at("where").textContent = "no further one";
+}
+
+/** Goes to an act by its number, or else to the last one before it. */
+function goToNumber(number) {
+  const after = course.acts.findIndex((line) => line.at > number);
+  go(after < 0 ? course.length : after);
+}
+
+const KEYS = {
+  ArrowRight: () => go(current + 1), ArrowLeft: () => go(current - 1), PageDown: () => go(current + PAGE_OF_ACTS),
+  PageUp: () => go(current - PAGE_OF_ACTS), Home: () => go(0), End: () => go(course.length),
+  a: () => next(tookBack), c: () => next(committed),
+};
+const BUTTONS = {
+  first: KEYS.Home, before: KEYS.ArrowLeft, after: KEYS.ArrowRight, last: KEYS.End, taking: KEYS.a, committing: KEYS.c,
+};
+
+function onKey(event) {
+  const isScrolling = event.target.closest?.(".scrolls") && event.key.length > 1;
+  const isTyping = event.target.closest?.("textarea, select, input:not([type=range])");
+  if (event.ctrlKey || event.altKey || event.metaKey || isScrolling || isTyping || !Object.hasOwn(KEYS, event.key))
+    return;
+  event.preventDefault();
+  KEYS[event.key]();
+}
+
+function settingsTold(head) {
+  const rounds = head.course === "lockstep" ? ` of ${plural(head.rounds, "round")}, seed ${head.seed}` : "";
+  return `${head.course}${rounds}: ${plural(head.tiles, "tile")} of ${plural(head.cores, "core")}`
+    + `, task queues of ${head.task_queue}, commit queues of ${head.commit_queue}, lines of ${head.line} bytes, `
+    + `quantum ${head.quantum}, phase ${head.phase}`;
+}
+
+/** Shows a course: what doesn't change from act to act. */
+function build(listing) {
+  shown.clear();
+  at("settings").textContent = settingsTold(course.head);
+  buildTiles(course.head.tiles);
+  buildListing(listing);
+  buildCurves();
+}
+
+function listen() {
+  at("slider").addEventListener("input", () => go(Number(at("slider").value)));
+  for (const [id, action] of Object.entries(BUTTONS)) at(id).addEventListener("click", action);
+  document.addEventListener("keydown", onKey);
+}

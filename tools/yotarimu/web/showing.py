@@ -1,0 +1,37 @@
+"""What the page has to show: the project's examples, schedules and exercises, with their listings and scripts."""
+from __future__ import annotations
+
+import base64
+import pathlib
+from typing import Any, Dict, List
+
+# Which folders, under which title; those that are opened first stand first.
+GROUPS = (("Schedules to play", "schedules"), ("Exercises", "exercises"), ("In assembly", "."), ("In C", "c"))
+NAMED_FIRST = ("conflict", "hello")
+IMAGE = "image.bin"
+# A larger image isn't in the page.
+MOST_BYTES = 100_000
+
+
+def examples_in(root: pathlib.Path) -> List[Dict[str, Any]]:
+    """The examples of the folder that has them all."""
+    return [example for title, folder in GROUPS for example in group_of(root, title, folder)]
+
+
+def group_of(root: pathlib.Path, title: str, folder: str) -> List[Dict[str, Any]]:
+    places = sorted(place for place in (root / folder).iterdir() if (place / IMAGE).is_file())
+    places.sort(key=lambda place: place.name not in NAMED_FIRST)
+    small = (place for place in places if (place / IMAGE).stat().st_size <= MOST_BYTES)
+    return [{"group": title, **example_of(root, place)} for place in small]
+
+
+def example_of(root: pathlib.Path, place: pathlib.Path) -> Dict[str, Any]:
+    image = base64.b64encode((place / IMAGE).read_bytes()).decode("ascii")
+    return {"name": place.relative_to(root).as_posix(), "title": place.name.replace("_", " "), "image": image,
+            "script": text_of(place / "script"),
+            "listing": text_of(place / "listing"), "source": text_of(place / "task.s"),
+            "words": text_of(place / "words").split() or ["least"]}
+
+
+def text_of(path: pathlib.Path) -> str:
+    return path.read_text(encoding="utf-8") if path.is_file() else ""
