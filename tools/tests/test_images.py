@@ -73,9 +73,9 @@ class Instructions(unittest.TestCase):
 
     def test_shifts_and_comparisons(self) -> None:
         arithmetic, less, less_unsigned = 5, 2, 3
-        self.assertEqual(computed(arithmetic, 0x80000000, 31, 1), -1)
-        self.assertEqual(computed(arithmetic, 0x80000000, 31, 0), 1)
-        self.assertEqual((computed(less, 0xFFFFFFFF, 0, 0), computed(less_unsigned, 0xFFFFFFFF, 0, 0)), (True, False))
+        self.assertEqual(computed(arithmetic, 0x80000000, 31, True), -1)
+        self.assertEqual(computed(arithmetic, 0x80000000, 31, False), 1)
+        self.assertEqual((computed(less, 0xFFFFFFFF, 0, False), computed(less_unsigned, 0xFFFFFFFF, 0, False)), (True, False))
 
     def test_branches(self) -> None:
         equal, unequal, less, less_unsigned = 0, 1, 4, 6

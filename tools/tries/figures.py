@@ -217,7 +217,7 @@ def told_schedules_are_figured(place: Place) -> None:
             expect(told == ["3", "2", "1", "1", "1"], "the reader, its child and the writer", rows)
 
 
-def long_runs_are_replayed(place):
+def long_runs_are_replayed(place: Place) -> None:
     """each leg of long runs is that of the image's text, and another image or a word of text more is refused"""
     place.needs_second_program()
     for kind, size, words in (("walk", "60", ("least",)), ("nest", "30", ("lockstep", "9000", "7", "--phase", "1")),
@@ -241,7 +241,7 @@ def long_runs_are_replayed(place):
     ])
 
 
-def addresses_have_labels(place):
+def addresses_have_labels(place: Place) -> None:
     """with a listing, lines and addresses where tasks were taken back are told with their labels"""
     lines = written(place, "lines", shared_words().end())
     listing = place.root / "listing"

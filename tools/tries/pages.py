@@ -20,7 +20,7 @@ from tries.told_lines import Told
 from yotarimu.lines.replay import Machine, Task
 
 # What a page has to show behind an act, and the bytes of memory that it may show, by address.
-Standing = tuple[list[Any], dict[int, Optional[int]]]
+Standing = tuple[list[Any], dict[int, int]]
 BROWSERS = ("chromium", "chromium-browser", "google-chrome")
 # The browser ends once the page has been at work for so long, by the page's own clock.
 MOST_MILLISECONDS = "60000"

@@ -174,8 +174,8 @@ def courses() -> Iterator[Tuple[str, List[str]]]:
         yield name, words
         yield name, ["lockstep", "50", "7", *words[1:]]
     for name in EXAMPLES:
-        for options in ([], ["--tiles", "2", "--task-queue", "4", "--commit-queue", "1"],
-                        ["--tiles", "1", "--task-queue", "4", "--budget", "20"]):
+        for options in ((), ("--tiles", "2", "--task-queue", "4", "--commit-queue", "1"),
+                        ("--tiles", "1", "--task-queue", "4", "--budget", "20")):
             yield name, ["least", *options]
             yield name, ["lockstep", "60", "5", *options]
 
@@ -203,7 +203,7 @@ def told_by_tools(text: bytes, listing: Listing) -> Tuple[List[str], str, Machin
         with open_watched(lines.name) as watched:
             told = [opening_told(watched.head)]
             told += [sentence_of(it, watched.machine, listing) for it in watched if it.is_act()]
-        return told, end_told(watched.end, listing), watched.machine
+        return told, end_told(watched.end or {}, listing), watched.machine
 
 
 # ---- the assembler and the disassembler

@@ -7,35 +7,44 @@ from __future__ import annotations
 import json
 import pathlib
 import re
+from typing import Any, Callable, NamedTuple
 
-from yotarimu.common.files import read_bytes, read_written
+from yotarimu.common.files import FilePath, read_bytes, read_written
 from yotarimu.common.outcome import Refused
 from yotarimu.common.places import EXAMPLES_FOLDER
 from yotarimu.common.sentences import filled
+from yotarimu.courses.schedules import Act, Said
 from yotarimu.courses.scripts import acts_in, asked, options_beside, play, read_lines
 from yotarimu.images.compiler import GCC
 from yotarimu.images.folder import build
-from yotarimu.images.image import read_image
+from yotarimu.images.image import Image, read_image
 from yotarimu.programs.table import Table
-from yotarimu.reports.report import read_report
+from yotarimu.reports.report import Report, read_report
 
 FOLDER = EXAMPLES_FOLDER / "exercises"
-SAID = json.loads(pathlib.Path(__file__).with_suffix(".json").read_text(encoding="utf-8"))
+SAID: dict[str, Any] = json.loads(pathlib.Path(__file__).with_suffix(".json").read_text(encoding="utf-8"))
 FIELDS = SAID["journal"]["fields"]
 WORD = SAID["order"]["word"].encode()
 MOST_SHOWN = 40
+
+
+class PlayedAct(NamedTuple):
+    """An act of a script with its line, and what it was answered."""
+    line: int
+    act: Act
+    said: Said
 
 
 class Wrong(Exception):
     """The answer isn't right; the text says why."""
 
 
-def hold(is_so, template, **values):
+def hold(is_so: object, template: str, **values: object) -> None:
     if not is_so:
         raise Wrong(filled(template, **values))
 
 
-def run_of(image):
+def run_of(image: FilePath) -> Report:
     """The report of the run of an image."""
     return read_report(asked(["run"], image)[1], str(image))
 
@@ -43,10 +52,10 @@ def run_of(image):
 # ---- 1, the journal
 
 
-def judge_journal(path):
+def judge_journal(path: str) -> str:
     said = SAID["journal"]
-    given = [line.partition("#")[0].split() for line in read_written(path).split("\n")]
-    given = [(number, fields) for number, fields in enumerate(given, 1) if fields]
+    lines = [line.partition("#")[0].split() for line in read_written(path).split("\n")]
+    given = [(number, fields) for number, fields in enumerate(lines, 1) if fields]
     for number, fields in given:
         if len(fields) != len(FIELDS):
             raise Refused(f"{path}:{number}: {filled(said['misshapen'], text=' '.join(fields)[:MOST_SHOWN])}.")
@@ -63,27 +72,27 @@ def judge_journal(path):
 # ---- 2 and 3, scripts
 
 
-def played_of(name, path):
+def played_of(name: str, path: str) -> tuple[list[PlayedAct], str]:
     """The lines' numbers and what was said to each act, of a script that brings a run to its end."""
     folder, table = FOLDER / name, Table()
     options = options_beside(folder, table)
     acts = acts_in(read_lines(path), path, options, table)
     hold(acts, SAID["script"]["none"])
     _, _, played = play(folder / "image.bin", acts, options, str(path))
-    return [(number, act, said) for (number, _), (act, said) in zip(acts, played.pairs())], played.report.end
+    return [PlayedAct(number, act, said) for (number, _), (act, said) in zip(acts, played.pairs())], played.report.end
 
 
-def judge_abort(path):
+def judge_abort(path: str) -> str:
     (played, end), said = played_of("abort", path), SAID["abort"]
-    back = [(number, act, it) for number, act, it in played if it.taken_back]
+    back = [it for it in played if it.said.taken_back]
     hold(back, said["none"])
-    found = next((it for it in back if it[1].word in ("step", "give", "advance")), None)
-    hold(found, said["by itself"], line=back[0][0], act=back[0][1])
-    hold(end == "normal", said["left"], line=found[0])
-    return filled(said["right"], line=found[0], count=found[2].taken_back)
+    found = next((it for it in back if it.act.word in ("step", "give", "advance")), back[0])
+    hold(found.act.word in ("step", "give", "advance"), said["by itself"], line=found.line, act=found.act)
+    hold(end == "normal", said["left"], line=found.line)
+    return filled(said["right"], line=found.line, count=found.said.taken_back)
 
 
-def judge_stall(path):
+def judge_stall(path: str) -> str:
     (played, end), said = played_of("stall", path), SAID["stall"]
     found = next((number for number, _, it in played if it.reply == "stall"), None)
     hold(found, said["none"])
@@ -94,7 +103,7 @@ def judge_stall(path):
 # ---- 4 and 5, sources
 
 
-def built(folder):
+def built(folder: str) -> tuple[pathlib.Path, Image]:
     """The image that the source of a folder makes."""
     place = pathlib.Path(folder)
     if not folder or not place.is_dir():
@@ -104,7 +113,7 @@ def built(folder):
     return path, read_image(read_bytes(path), path)
 
 
-def judge_false_conflict(folder):
+def judge_false_conflict(folder: str) -> str:
     path, _ = built(folder)
     table, own, said = Table(), FOLDER / "false_conflict", SAID["false_conflict"]
     options = options_beside(own, table)
@@ -115,10 +124,10 @@ def judge_false_conflict(folder):
     hold(seen == wanted, said["changed"], output=before.output.decode())
     back = next((number for (number, _), it in zip(acts, played.said) if it.taken_back), None)
     hold(back is None, said["taken"], line=back)
-    return said["right"]
+    return str(said["right"])
 
 
-def judge_order(folder):
+def judge_order(folder: str) -> str:
     (path, image), said = built(folder), SAID["order"]
     own = read_image(read_bytes(FOLDER / "order" / "image.bin"), "order")
     hold(image.text == own.text, said["text"])
@@ -132,5 +141,6 @@ def judge_order(folder):
     return filled(said["right"], output=WORD.decode())
 
 
-JUDGES = {"journal": judge_journal, "abort": judge_abort, "stall": judge_stall, "false_conflict": judge_false_conflict,
-          "order": judge_order}
+JUDGES: dict[str, Callable[[str], str]] = {
+    "journal": judge_journal, "abort": judge_abort, "stall": judge_stall, "false_conflict": judge_false_conflict,
+    "order": judge_order}

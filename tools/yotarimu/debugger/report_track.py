@@ -7,7 +7,7 @@ from __future__ import annotations
 
 import bisect
 import dataclasses
-from typing import Iterator, Optional, Sequence, Union
+from typing import Iterable, Iterator, Optional, Union
 
 from yotarimu.common.outcome import Refused
 from yotarimu.debugger import goals
@@ -58,7 +58,7 @@ class Turns(machine.Machine):
     def run_of(self, task: machine.Task) -> Turn:
         return Turn(self.track, task)
 
-    def add(self, name: Name, entry: int, timestamp: int, arguments: Sequence[int], domain: machine.Domain) -> None:
+    def add(self, name: Name, entry: int, timestamp: int, arguments: Iterable[int], domain: machine.Domain) -> None:
         if self.is_first:
             super().add(name, entry, timestamp, arguments, domain)
             if name.creator:

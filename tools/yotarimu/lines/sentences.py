@@ -6,22 +6,31 @@ them. A listing gives labels to addresses. Until the creator of a task commits, 
 """
 from __future__ import annotations
 
+from collections.abc import Iterable, Sequence
+from typing import Callable, Optional, TypeVar
+
 from yotarimu.common.sentences import SENTENCES, filled
 from yotarimu.common.text import counted, printable
-from yotarimu.images.image import DATA
-from yotarimu.images.listing import NO_LISTING
-from yotarimu.lines.causes import Telling, causes_of
+from yotarimu.images.image import DATA, Limits
+from yotarimu.images.listing import NO_LISTING, Listing
+from yotarimu.lines.causes import Cause, Telling, causes_of
+from yotarimu.lines.fields import Line
+from yotarimu.lines.replay import Machine, Task, Told
 from yotarimu.reports.meanings import ENDS, cause_told
 
+Thing = TypeVar("Thing")
 # So many tasks are named in one sentence; of more than that it says how many more they are.
 MOST_NAMED = 12
 # So many places among children stand in one label; of more the first and the last do.
 MOST_PLACES = 6
 DONE, REQUESTS, REFUSALS, WISHES = (SENTENCES[key] for key in ("done", "requests", "refusals", "wishes"))
 DOMAINS = SENTENCES["domains"]
+# What a sentence names, beside the fields of its line.
+Values = dict[str, object]
+Naming = Callable[[Told, Machine, Listing, Optional[Limits]], Values]
 
 
-def sentence_of(told, machine, listing=NO_LISTING, limits=None):
+def sentence_of(told: Told, machine: Machine, listing: Listing = NO_LISTING, limits: Optional[Limits] = None) -> str:
     """What an act's line says, by the machine behind it; `limits` are those of the image's version, if known."""
     if told.line["reply"] != "ok":
         return refused_told(told, machine)
@@ -30,16 +39,16 @@ def sentence_of(told, machine, listing=NO_LISTING, limits=None):
     return f"{filled(DONE[word], **{**told.line, **values})}.{back_told(told, machine, listing)}{spilled_told(told)}"
 
 
-def opening_told(head):
+def opening_told(head: Line) -> str:
     """What stands before the first act."""
     count = head["tasks"]
     return filled(SENTENCES["opening"], tasks=counted(count, "task"), are=is_or_are(count))
 
 
-def end_told(end, listing=NO_LISTING, limits=None):
+def end_told(end: Line, listing: Listing = NO_LISTING, limits: Optional[Limits] = None) -> str:
     """What the last line says."""
     if end["end"] != "trap":
-        return ENDS[end["end"]]
+        return str(ENDS[end["end"]])
     return filled(SENTENCES["ends"]["trap"], name=name_told(end["name"]), place=listing.labelled(end["pc"]),
                   trap=trap_told(end, limits))
 
@@ -47,100 +56,108 @@ def end_told(end, listing=NO_LISTING, limits=None):
 # ---- names
 
 
-def name_told(name):
+def name_told(name: Iterable[int]) -> str:
     return ".".join(map(str, name))
 
 
-def label_of(task):
+def label_of(task: Task) -> str:
     """A task's name, or its places among children behind the name of the first creator that has one."""
     places = []
-    while task.name is None:
-        places.append(f"+{task.index}")
-        task = task.creator
+    named: Optional[Task] = task
+    while named is not None and named.name is None:
+        places.append(f"+{named.index}")
+        named = named.creator
     if len(places) > MOST_PLACES:
         places = [places[0], "+..", places[-1]]
-    return name_told(task.name) + "".join(reversed(places))
+    return name_told(named.name if named and named.name else ()) + "".join(reversed(places))
 
 
-def listed(parts):
+def listed(parts: Sequence[str]) -> str:
     if len(parts) > MOST_NAMED:
         more = filled(SENTENCES["more"], count=f"{len(parts) - MOST_NAMED:,}")
         parts = [*parts[:MOST_NAMED], more]
     return ", ".join(parts)
 
 
-def is_or_are(count):
+def is_or_are(count: int) -> str:
     return "is" if count == 1 else "are"
 
 
 # ---- what the sentence on an act names, beside the fields of its line
 
 
-def of_its_task(told, _machine, _listing, _limits):
-    return {"task": label_of(told.task)}
+def its(found: Optional[Thing]) -> Thing:
+    """What the line of an act is known to have, since the machine followed it."""
+    assert found is not None
+    return found
 
 
-def of_step(told, machine, listing, limits):
+def of_its_task(told: Told, _machine: Machine, _listing: Listing, _limits: Optional[Limits]) -> Values:
+    return {"task": label_of(its(told.task))}
+
+
+def of_step(told: Told, machine: Machine, listing: Listing, limits: Optional[Limits]) -> Values:
     return {"leg": leg_told(told), "request": request_told(told, machine, listing, limits)}
 
 
-def of_take(told, machine, _listing, _limits):
-    return {"task": label_of(machine.tasks[machine.cores[told.line["tile"]][told.line["core"]]])}
+def of_take(told: Told, machine: Machine, _listing: Listing, _limits: Optional[Limits]) -> Values:
+    return {"task": label_of(machine.tasks[its(machine.cores[told.line["tile"]][told.line["core"]])])}
 
 
-def of_commit(told, machine, _listing, _limits):
+def of_commit(told: Told, machine: Machine, _listing: Listing, _limits: Optional[Limits]) -> Values:
     line, texts = told.line, SENTENCES["commit"]
     output = filled(texts["output"], text=printable(bytes.fromhex(line["output"]))) if "output" in line else ""
     return {"name": name_told(line["name"]), "turn": machine.commits, "output": output,
-            "children": children_named(len(told.committed.children), machine.commits)}
+            "children": children_named(len(its(told.committed).children), machine.commits)}
 
 
-def children_named(count, turn):
+def children_named(count: int, turn: int) -> str:
     """What the children of a task that committed are named from then on."""
     if not count:
         return ""
     return filled(SENTENCES["commit"]["child" if count == 1 else "children"], turn=turn, count=count, last=count - 1)
 
 
-def of_split(told, _machine, _listing, _limits):
+def of_split(told: Told, _machine: Machine, _listing: Listing, _limits: Optional[Limits]) -> Values:
     return {"name": name_told(told.line["name"])}
 
 
-VALUES = {"dispatch": of_its_task, "step": of_step, "take": of_take, "abort": of_its_task, "commit": of_commit,
-          "split": of_split}
+VALUES: dict[str, Naming] = {
+    "dispatch": of_its_task, "step": of_step, "take": of_take, "abort": of_its_task, "commit": of_commit,
+    "split": of_split}
 
 
 # ---- a leg, and what the task asks for at its end
 
 
-def leg_told(told):
+def leg_told(told: Told) -> str:
     line, texts = told.line, SENTENCES["leg"]
-    who = filled(texts["who"], **{**line, "task": label_of(told.task)})
+    who = filled(texts["who"], **{**line, "task": label_of(its(told.task))})
     if not line["leg"]:
         return who
     return filled(texts["plain"], who=who, instructions=counted(line["leg"], "plain instruction"))
 
 
-def request_told(told, machine, listing, limits):
+def request_told(told: Told, machine: Machine, listing: Listing, limits: Optional[Limits]) -> str:
     """What the task did at the end of its leg."""
     line = told.line
     values = REQUESTED[line["asks"]](told, machine, listing, limits) if line["asks"] in REQUESTED else {}
     return filled(REQUESTS[line["asks"]], **{**line, **values})
 
 
-def of_go(told, _machine, listing, _limits):
+def of_go(told: Told, _machine: Machine, listing: Listing, _limits: Optional[Limits]) -> Values:
     return {"place": listing.labelled(told.line["pc"])}
 
 
-def of_load(told, machine, listing, _limits):
+def of_load(told: Told, machine: Machine, listing: Listing, _limits: Optional[Limits]) -> Values:
     return {"access": access_told(told.line, machine, listing)}
 
 
-def of_store(told, machine, listing, _limits):
-    return {"value": told.access.value, "access": access_told(told.line, machine, listing)}
+def of_store(told: Told, machine: Machine, listing: Listing, _limits: Optional[Limits]) -> Values:
+    return {"value": its(told.access).value, "access": access_told(told.line, machine, listing)}
 
 
-def access_told(line, machine, listing):
+def access_told(line: Line, machine: Machine, listing: Listing) -> str:
     address = line["addr"]
     label = listing.label(address)
     place = filled(SENTENCES["labelled"], address=f"{address:08x}", label=label) if label else f"{address:08x}"
@@ -148,31 +165,32 @@ def access_told(line, machine, listing):
                   line=(address - DATA) // machine.head["line"])
 
 
-def of_enqueue(told, _machine, listing, _limits):
-    line, child = told.line, told.arrived
+def of_enqueue(told: Told, _machine: Machine, listing: Listing, _limits: Optional[Limits]) -> Values:
+    line, child = told.line, its(told.arrived)
     return {"index": child.index, "domain": DOMAINS[line["to"]], "child": label_of(child),
             "words": listing.task_words(line["entry"], line["args"])}
 
 
-def of_emit(told, _machine, _listing, _limits):
+def of_emit(told: Told, _machine: Machine, _listing: Listing, _limits: Optional[Limits]) -> Values:
     return {"text": printable(bytes([told.line["byte"]]))}
 
 
-def of_trap(told, _machine, listing, limits):
+def of_trap(told: Told, _machine: Machine, listing: Listing, limits: Optional[Limits]) -> Values:
     return {"place": listing.labelled(told.line["pc"]), "trap": trap_told(told.line, limits)}
 
 
-REQUESTED = {"go": of_go, "load": of_load, "store": of_store, "enqueue": of_enqueue, "emit": of_emit, "trap": of_trap}
+REQUESTED: dict[str, Naming] = {
+    "go": of_go, "load": of_load, "store": of_store, "enqueue": of_enqueue, "emit": of_emit, "trap": of_trap}
 
 
-def trap_told(line, limits):
+def trap_told(line: Line, limits: Optional[Limits]) -> str:
     return filled(SENTENCES["trap"], cause=line["cause"], meaning=cause_told(line["cause"], limits)[0])
 
 
 # ---- what was taken back, and what moved
 
 
-def back_told(told, machine, listing):
+def back_told(told: Told, machine: Machine, listing: Listing) -> str:
     """Which tasks were taken back, the least first, why, and which of them are gone."""
     count = len(told.taken)
     if not count:
@@ -184,7 +202,7 @@ def back_told(told, machine, listing):
                   list="".join(taken_told(cause, telling) for cause in causes[:MOST_NAMED]))
 
 
-def taken_told(cause, telling):
+def taken_told(cause: Cause, telling: Telling) -> str:
     """A task that was taken back, with the work that this undid, and why."""
     texts, taken = SENTENCES["taken"], cause.taken
     return filled(texts["worked" if taken.work else "idle"], task=label_of(taken.task), cause=telling.sentence(cause),
@@ -192,7 +210,7 @@ def taken_told(cause, telling):
                   discarded=texts["discarded"] if taken.is_gone else "")
 
 
-def spilled_told(told):
+def spilled_told(told: Told) -> str:
     """Which tasks moved to a block."""
     count = len(told.spilled)
     if not count:
@@ -204,12 +222,12 @@ def spilled_told(told):
 # ---- what was refused
 
 
-def refused_told(told, machine):
+def refused_told(told: Told, machine: Machine) -> str:
     """What an act was to do that came to nothing, and why."""
     return filled(SENTENCES["refused"], wish=wish_told(told), reply=told.line["reply"], why=why_refused(told, machine))
 
 
-def wish_told(told):
+def wish_told(told: Told) -> str:
     line = told.line
     asks = line.get("asks")
     if asks in ("enqueue", "end"):
@@ -219,20 +237,20 @@ def wish_told(told):
     return filled(WISHES[line["do"]], **line)
 
 
-def why_refused(told, machine):
+def why_refused(told: Told, machine: Machine) -> str:
     line = told.line
     if line["reply"] == "ended":
-        return REFUSALS["ended"]
+        return str(REFUSALS["ended"])
     if line["reply"] == "stale" and line["do"] != "give":
         return why_stale(told, machine)
-    return REFUSALS[f"{line.get('asks', line['do'])} {line['reply']}"]
+    return str(REFUSALS[f"{line.get('asks', line['do'])} {line['reply']}"])
 
 
-def why_stale(told, machine):
+def why_stale(told: Told, machine: Machine) -> str:
     """Why no leg is taken on a core, or none is run there."""
     if told.task is not None:
-        return REFUSALS["stale leg"]
+        return str(REFUSALS["stale leg"])
     holder = machine.cores[told.line["tile"]][told.line["core"]]
     if holder is None:
-        return REFUSALS["stale free"]
+        return str(REFUSALS["stale free"])
     return filled(REFUSALS["stale trapped"], task=label_of(machine.tasks[holder]))

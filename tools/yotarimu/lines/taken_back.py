@@ -57,7 +57,7 @@ def taken_back(path: str, image: Image, listing: Listing, run: Run) -> Iterator[
             if told.taken:
                 for cause in causes_of(told, line_size):
                     yield row_of(cause, told.line["n"], telling)
-        run.end = watched.end
+        run.end = watched.end or {}
 
 
 def row_of(cause: Cause, event: int, telling: Telling) -> TakenBack:

@@ -10,12 +10,15 @@ import html
 import json
 import pathlib
 import re
+from typing import Optional
 
-from yotarimu.common.files import read_written
+from yotarimu.common.files import FilePath, read_written
 from yotarimu.common.outcome import Refused
 from yotarimu.images.image import DATA, TEXT
-from yotarimu.images.listing import NO_LISTING, read_listing
+from yotarimu.images.listing import NO_LISTING, Listing, read_listing
+from yotarimu.lines.fields import Line
 from yotarimu.lines.reader import open_watched
+from yotarimu.lines.replay import Access, Machine, Task, Told
 from yotarimu.lines.sentences import end_told, name_told, opening_told, sentence_of
 from yotarimu.web.bundling import recorded_page, within
 
@@ -28,11 +31,11 @@ CUT = "Here the text breaks off."
 class Passed:
     """What was counted so far: the work of committed tasks and of those taken back, the journal, and the output."""
 
-    def __init__(self):
+    def __init__(self) -> None:
         self.useful = self.wasted = self.emitted = 0
-        self.entries = collections.deque(maxlen=MOST_ENTRIES)
+        self.entries: collections.deque[list[object]] = collections.deque(maxlen=MOST_ENTRIES)
 
-    def follow(self, told):
+    def follow(self, told: Told) -> None:
         self.wasted += sum(taken.work for taken in told.taken)
         if told.committed is not None:
             line = told.line
@@ -44,12 +47,15 @@ class Passed:
 class Excerpt:
     """The acts that a page shows, each with its sentence, from the opening or from behind an act."""
 
-    def __init__(self, name, head, first, last):
+    def __init__(self, name: FilePath, head: Line, first: int, last: float) -> None:
         self.name, self.head, self.first, self.last = name, head, first, last
-        self.passed, self.opening = Passed(), None
-        self.lines, self.sentences = [], []
+        self.passed = Passed()
+        # The machine where the page begins, once it was found.
+        self.opening: Optional[str] = None
+        self.lines: list[str] = []
+        self.sentences: list[str] = []
 
-    def follow(self, told, machine, listing):
+    def follow(self, told: Told, machine: Machine, listing: Listing) -> None:
         """Takes a line that was read: it is passed, or the page begins behind it, or it is one of the page's acts."""
         if not told.is_act():
             if self.first == 0 and machine.placed == self.head["tasks"] and self.opening is None:
@@ -61,19 +67,19 @@ class Excerpt:
         elif machine.acts <= self.last:
             self.take(told, machine, listing)
 
-    def begin(self, machine, sentence):
+    def begin(self, machine: Machine, sentence: str) -> None:
         # The machine's own lists go on changing, so it is written down at once.
         self.opening = within(opening_of(machine, self.passed))
         self.sentences.append(sentence)
 
-    def take(self, told, machine, listing):
+    def take(self, told: Told, machine: Machine, listing: Listing) -> None:
         if len(self.lines) == MOST_ACTS:
             raise Refused(f"{self.name}: these are more than {MOST_ACTS:,} acts, which no page shows; --from ACT and "
                           "--to ACT choose some of them.")
         self.lines.append(json.dumps(told.line, separators=(",", ":")))
         self.sentences.append(sentence_of(told, machine, listing))
 
-    def close(self, machine, end, listing):
+    def close(self, machine: Machine, end: Optional[Line], listing: Listing) -> None:
         """What is said behind the page's last act, where the text ends there too."""
         if self.opening is None and self.first:
             raise Refused(f"{self.name}: its last act is {machine.acts:,}, so no page begins behind {self.first:,}.")
@@ -86,7 +92,7 @@ class Excerpt:
 # ---- the machine before the page's first act
 
 
-def opening_of(machine, passed):
+def opening_of(machine: Machine, passed: Passed) -> dict[str, object]:
     """The machine as the page takes it."""
     tasks = list(machine.tasks.values())
     stores = ((task.id, [store_of(access) for access in task.accesses if access.is_store]) for task in tasks)
@@ -97,19 +103,20 @@ def opening_of(machine, passed):
             "memory": words_of(machine), "stores": [pair for pair in stores if pair[1]]}
 
 
-def task_of(task):
+def task_of(task: Task) -> dict[str, object]:
+    creator = task.creator.id if task.name is None and task.creator else None
     return {"id": task.id, "tile": task.tile, "state": task.state, "core": task.core, "name": task.name,
-            "creator": task.creator.id if task.name is None else None, "index": task.index, "ts": task.timestamp,
+            "creator": creator, "index": task.index, "ts": task.timestamp,
             "entry": task.entry, "pc": task.pc, "number": task.number, "work": task.work,
             "made": len(task.children),
             "children": [child.id for child in task.children if child.creator is task and child.id is not None]}
 
 
-def store_of(access):
+def store_of(access: Access) -> list[int]:
     return [access.address, access.bytes, access.old, access.event]
 
 
-def words_of(machine):
+def words_of(machine: Machine) -> list[list[object]]:
     """The words that were touched, by rising address, each with its bytes; those that nobody touched are None."""
     memory = machine.memory
     return [[address, [memory.byte(address + place) for place in range(4)]] for address, _ in memory.words()]
@@ -118,7 +125,7 @@ def words_of(machine):
 # ---- the listing
 
 
-def read_rows(path, head):
+def read_rows(path: Optional[FilePath], head: Line) -> tuple[Listing, list[list[object]]]:
     """A listing, and its lines as the page shows them: the address of an instruction, or None, and the text."""
     if path is None:
         return NO_LISTING, []
@@ -132,7 +139,7 @@ def read_rows(path, head):
     return listing, [[row_address(line), line] for line in text.splitlines()]
 
 
-def row_address(line):
+def row_address(line: str) -> Optional[int]:
     found = re.match("([0-9a-f]{8})  [0-9a-f]{8}  ", line)
     return int(found[1], 16) if found else None
 
@@ -140,7 +147,8 @@ def row_address(line):
 # ---- the page
 
 
-def page_of(path, listing_path, first=0, last=float("inf"), is_cut_allowed=False):
+def page_of(path: FilePath, listing_path: Optional[FilePath], first: int = 0, last: float = float("inf"),
+            is_cut_allowed: bool = False) -> str:
     """The page of a text's acts: those behind the act `first`, up to the act `last`."""
     with open_watched(path, is_cut_allowed) as watched:
         listing, rows = read_rows(listing_path, watched.head)
@@ -151,10 +159,10 @@ def page_of(path, listing_path, first=0, last=float("inf"), is_cut_allowed=False
     head = json.dumps(watched.head, separators=(",", ":"))
     title = "A run, act by act" if str(path) == "-" else f"{pathlib.Path(path).name}, act by act"
     return recorded_page(in_page(title), {
-        "lines": f"[{','.join([head, *excerpt.lines])}]", "opening": excerpt.opening,
+        "lines": f"[{','.join([head, *excerpt.lines])}]", "opening": excerpt.opening or "",
         "sentences": within(excerpt.sentences), "listing": within(rows)})
 
 
-def in_page(text):
+def in_page(text: str) -> str:
     """A text as it stands in a page, in whatever encoding that is written."""
     return html.escape(text).encode("ascii", "xmlcharrefreplace").decode()
