@@ -75,7 +75,7 @@ class Instructions(unittest.TestCase):
         arithmetic, less, less_unsigned = 5, 2, 3
         self.assertEqual(computed(arithmetic, 0x80000000, 31, True), -1)
         self.assertEqual(computed(arithmetic, 0x80000000, 31, False), 1)
-        self.assertEqual((computed(less, 0xFFFFFFFF, 0, False), computed(less_unsigned, 0xFFFFFFFF, 0, False)), (True, False))
+        self.assertEqual([computed(kind, 0xFFFFFFFF, 0, False) for kind in (less, less_unsigned)], [True, False])
 
     def test_branches(self) -> None:
         equal, unequal, less, less_unsigned = 0, 1, 4, 6

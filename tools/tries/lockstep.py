@@ -2,7 +2,7 @@
 from __future__ import annotations
 
 import json
-from typing import Any, Dict, List
+from typing import Any, Dict, List, Sequence
 
 from tries.place import Place, expect, one_sentence_each
 from tries.schedules import written
@@ -13,9 +13,9 @@ ROUNDS = 4_000
 Line = Dict[str, Any]
 
 
-def told(place: Place, image: bytes, *words: str) -> List[Line]:
+def told(place: Place, image: bytes, *words: str, settings: Sequence[str] = SETTINGS) -> List[Line]:
     """What the second program tells, without the head."""
-    answer = place.call("fractal", "watch", *words, *SETTINGS, stdin=image)
+    answer = place.call("fractal", "watch", *words, *settings, stdin=image)
     return [json.loads(line) for line in answer.output.splitlines()][1:]
 
 
@@ -73,4 +73,20 @@ def runs_have_scripts(place: Place) -> None:
     ])
 
 
-TRIES = (one_shuffle, runs_have_scripts)
+def livelocks_end(place: Place) -> None:
+    """the rounds of the schedule `livelock` come to one state again and again; brought on, its tasks all commit"""
+    place.needs_second_program()
+    folder = place.clone / "examples" / "schedules" / "livelock"
+    image, script = (folder / "image.bin").read_bytes(), (folder / "script").read_bytes()
+    settings = (folder / "words").read_text().split()[1:]
+    expect(place.call("fractal lockstep", "2", "1", "30").output == script, "the script of thirty rounds")
+    lines = told(place, image + script, "views", "8", "steps", settings=settings)
+    views = [line["tiles"] for line in lines if "view" in line]
+    expect(len(views) == 30 and views[3] != views[4] and all(view == views[4] for view in views[4:]),
+           "one view behind each round from the fifth on", views)
+    for words, end, journal in (((), "normal", 7), (("barren", "30"), "open", 1)):
+        last = told(place, image, "lockstep", "30", "0", *words, settings=settings)[-1]
+        expect((last["end"], last["journal"]) == (end, journal), f"the end of rounds {words}", last)
+
+
+TRIES = (one_shuffle, runs_have_scripts, livelocks_end)

@@ -12,7 +12,7 @@ EXAMPLES = ("hello", "fork_join", "pipeline", "reduction", "nested", "trap", "re
     f"c/{name}" for name in ("shortest_paths", "breadth_first", "tree_of_sums", "quicksort", "bank", "wrong_total"))
 SCHEDULES = tuple(f"schedules/{name}" for name in (
     "conflict", "by_hand", "stale_leg", "kept_trap", "commit_queue", "commit_wait", "stall", "four_cores", "two_lines",
-    "two_lines_apart", "one_word", "domains_by_hand", "rounds_by_hand"))
+    "two_lines_apart", "livelock", "one_word", "domains_by_hand", "rounds_by_hand"))
 
 
 def words_of(schedule: str) -> list[str]:
