@@ -95,7 +95,7 @@ def worked_lines_are_held(place: Place) -> None:
                          (worked[:worked.rindex(b"{")], named.format(21) + "tells nothing")):
         (place.root / "told").write_bytes(text)
         answer = place.call("fractal test", "answers")
-        told = [line for line in answer.output.decode().splitlines() if "by_hand, told" in line]
+        told = [line for line in answer.output.decode().splitlines() if "/by_hand, told" in line]
         expect(answer.status == 1 and len(told) == (wanted is not None), f"{wanted or 'no fault of by_hand'}", answer)
         expect(wanted is None or told[0].startswith(wanted), f"{wanted}", told)
 
