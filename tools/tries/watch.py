@@ -76,7 +76,7 @@ SENTENCES = {
     "commit_queue": ("1 task is taken back. 0.1 after", ": 0.0 ends, and the commit queue is full."),
     "commit_wait": ("asks to end, and the reply is stall: the commit queue is full, and holds no later task.",),
     "stall": ("stall: the task queue for it is full", "firm: that one is the least task, which is never taken back.",
-              "busy: each of its cores holds a task", "3 tasks are spilled to the block of tile 0: 2.0, 2.1, 2.2."),
+              "busy: each of its cores holds a task", "3 tasks are spilled to the block of tile 0: 2.2, 2.1, 2.0."),
     "four_cores": ("0.3 with nothing done: 0.0 needs room in a full task queue.",
                    "stall: its task queue is full, and the first task of its block isn't the least task."),
 }
