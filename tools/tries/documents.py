@@ -25,6 +25,8 @@ LEFT_OUT = {
     "cd crates/bench_placers": "it proves a crate",
     "./fractal sweep image.bin --budget": "K stands for a number",
     "./fractal sweep IMAGE": "IMAGE stands for a file",
+    "./fractal study chain/image.bin": "chain and tree stand for images of one's own",
+    "./fractal applications table": "it takes minutes; one application is tried with the tool",
     ". <(": "it is for a shell at a terminal",
     "./fractal large roads /tmp/roads": "it takes minutes; smaller ones are tried with the tool",
 }
