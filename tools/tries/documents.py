@@ -25,6 +25,7 @@ LEFT_OUT = {
     "cd crates/bench_placers": "it proves a crate",
     "./fractal sweep image.bin --budget": "K stands for a number",
     "./fractal sweep IMAGE": "IMAGE stands for a file",
+    "./fractal study image.bin --tiles 1..16": "K stands for a number",
     "./fractal study chain/image.bin": "chain and tree stand for images of one's own",
     "./fractal applications table": "it takes minutes; one application is tried with the tool",
     ". <(": "it is for a shell at a terminal",
