@@ -119,7 +119,7 @@ class Address:
         return starts[self.part]
 
 
-def laid_out(parts: Sequence[Words]) -> tuple[list[int], list[int]]:
+def lay_out(parts: Sequence[Words]) -> tuple[list[int], list[int]]:
     """The words of the parts, one behind the other, and the address at which each begins."""
     starts: list[int] = []
     address = TEXT

@@ -10,7 +10,7 @@ import pathlib
 from collections.abc import Iterator, Mapping
 
 from yotarimu.common.files import FilePath, need_writable, read_written, write_whole
-from yotarimu.common.outcome import Refused
+from yotarimu.common.outcome import Refusal
 from yotarimu.common.tables import table
 
 HEAD = ["table", "case", "figure", "value"]
@@ -75,7 +75,7 @@ def rows_in(path: FilePath) -> Iterator[list[str]]:
     try:
         yield from rows
     except csv.Error as error:
-        raise Refused(f"{path}:{rows.line_num}: this is no row of CSV: {error}.") from None
+        raise Refusal(f"{path}:{rows.line_num}: this is no row of CSV: {error}.") from None
 
 
 def read(path: FilePath) -> dict[Key, float]:
@@ -83,7 +83,7 @@ def read(path: FilePath) -> dict[Key, float]:
     values: dict[Key, float] = {}
     for number, row in enumerate(rows_in(path), 1):
         if number == 1 and row != HEAD:
-            raise Refused(f"{path}: these are no figures: the first line isn't `{','.join(HEAD)}`.")
+            raise Refusal(f"{path}: these are no figures: the first line isn't `{','.join(HEAD)}`.")
         if number == 1:
             continue
         try:
@@ -92,13 +92,13 @@ def read(path: FilePath) -> dict[Key, float]:
             if not math.isfinite(value):
                 raise ValueError
         except ValueError:
-            raise Refused(f"{path}:{number}: this is no figure: a table, a case, a figure and a number are "
+            raise Refusal(f"{path}:{number}: this is no figure: a table, a case, a figure and a number are "
                           "wanted.") from None
         if Key(name, case, figure) in values:
-            raise Refused(f"{path}:{number}: `{case}: {figure}` stands twice.")
+            raise Refusal(f"{path}:{number}: `{case}: {figure}` stands twice.")
         values[Key(name, case, figure)] = value
     if not values:
-        raise Refused(f"{path}: there are no figures in it.")
+        raise Refusal(f"{path}: there are no figures in it.")
     return values
 
 
@@ -136,7 +136,7 @@ def compare(old_path: FilePath, new_path: FilePath) -> tuple[list[str], bool]:
     old, new = read(old_path), read(new_path)
     both = [key for key in old if key in new and key.table != MACHINE]
     if not both:
-        raise Refused(f"{old_path} and {new_path} have no figure in common.")
+        raise Refusal(f"{old_path} and {new_path} have no figure in common.")
     worse = {key: key.worse(old[key], new[key]) for key in both}
     slower = sorted((key for key in both if worse[key] > 1 + tolerance(key)), key=lambda key: -worse[key])
     faster = [key for key in both if worse[key] < 1 / (1 + tolerance(key))]

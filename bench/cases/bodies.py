@@ -62,20 +62,20 @@ def address(chance: Chance, shape: Shape, width: int) -> tuple[list[int], int, i
     return number(T1, DATA + offset - shift), T1, shift
 
 
-def loading(chance: Chance, shape: Shape) -> Words:
+def load_words(chance: Chance, shape: Shape) -> Words:
     kind = chance.pick(tuple(LOADS))
     before, one, offset = address(chance, shape, LOADS[kind])
     return [*before, load(kind, chance.pick(FREE), one, offset)]
 
 
-def storing(chance: Chance, shape: Shape) -> Words:
+def store_words(chance: Chance, shape: Shape) -> Words:
     kind = chance.below(3)
     before, one, offset = address(chance, shape, 1 << kind)
     two = chance.pick((*FREE, S3, S0, S2))
     return [*before, store(kind, one, two, offset)]
 
 
-def adding(chance: Chance, shape: Shape) -> Words:
+def add_words(chance: Chance, shape: Shape) -> Words:
     """A word that is loaded, changed and stored."""
     before, one, offset = address(chance, shape, 4)
     change = register(chance.pick((ADD, XOR, OR)), T2, T2, chance.pick((S3, S2, T3)))
@@ -109,7 +109,7 @@ def stack(chance: Chance, shape: Shape) -> Words:
 def loop(chance: Chance, shape: Shape) -> Words:
     """A few rounds, and now and then many of computations alone."""
     rounds = chance.between(1, 6)
-    kinds: tuple[Fragment, ...] = (plain, plain, loading, storing, stack)
+    kinds: tuple[Fragment, ...] = (plain, plain, load_words, store_words, stack)
     inside = [word for _ in range(chance.between(1, 3)) for word in chance.pick(kinds)(chance, shape)]
     if chance.is_one_of(4):
         inside, rounds = [*plain(chance, shape), *stack(chance, shape)], chance.between(20, 120)
@@ -119,7 +119,7 @@ def loop(chance: Chance, shape: Shape) -> Words:
 
 def skip(chance: Chance, shape: Shape) -> Words:
     """A branch over some instructions."""
-    kinds: tuple[Fragment, ...] = (plain, loading, storing, emit)
+    kinds: tuple[Fragment, ...] = (plain, load_words, store_words, emit)
     inside = [word for _ in range(chance.between(1, 2)) for word in chance.pick(kinds)(chance, shape)]
     return [branch(chance.pick(BRANCHES), chance.below(32), chance.below(32), 4 * len(inside) + 4), *inside]
 
@@ -213,7 +213,7 @@ def soup(chance: Chance) -> int:
 
 
 FRAGMENTS: dict[str, Fragment] = {
-    "plain": plain, "load": loading, "store": storing, "add": adding, "text": text_load, "stack": stack,
+    "plain": plain, "load": load_words, "store": store_words, "add": add_words, "text": text_load, "stack": stack,
     "loop": loop, "skip": skip, "jump": jump, "function": function, "fence": fence, "emit": emit,
     "pointer": pointer, "fold": fold}
 END = [addi(A7, ZERO, 0), ECALL]

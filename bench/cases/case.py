@@ -64,7 +64,7 @@ def calls_of(seed: int, number: int) -> Calls:
     theme, chance = theme_of(number), Chance(seed << 32 | number)
     special: dict[str, Callable[[Chance], Calls]] = {
         "malformed image": malformed_images, "malformed script": malformed_scripts, "load": loads,
-        "words": bad_words, "workers": with_workers, "saved": saved, "renumbering": renumbering, "crowd": crowd,
+        "words": bad_words, "workers": with_workers, "saved": saved_run, "renumbering": renumbered_run, "crowd": crowd,
         "long load": long_load}
     yield from special[theme](chance) if theme in special else whole(chance, theme)
 
@@ -164,7 +164,7 @@ def with_workers(chance: Chance) -> Calls:
         yield Call(("run", *options, f"--workers={workers}"), image_bytes(image))
 
 
-def saved(chance: Chance) -> Calls:
+def saved_run(chance: Chance) -> Calls:
     """A run that is cut, and that goes on from there."""
     theme = chance.pick(("mixed", "conflicts", "wide", "deep", "deep", "chain", "trap 17", "trap 8"))
     image, options, _ = settle(chance, theme)
@@ -176,9 +176,9 @@ def saved(chance: Chance) -> Calls:
     yield Call(("save", *options), image_bytes(image))
 
 
-def renumbering(chance: Chance) -> Calls:
+def renumbered_run(chance: Chance) -> Calls:
     """All dispatch numbers are given, and the state goes on."""
-    acts = scripts.renumbering(DISPATCHES)
+    acts = scripts.renumbering_acts(DISPATCHES)
     yield Call(("steps", "--tiles=1", f"--cores={chance.between(2, 4)}"),
                image_bytes(images.two_tasks()) + script_text(acts).encode())
 

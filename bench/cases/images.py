@@ -8,8 +8,8 @@ from yotarimu.images.image import (
     DATA_BYTES, INITIAL_TASKS, TEXT, TEXT_WORDS, WINDOW_WORDS, Image, InitialTask, image_bytes)
 
 from assembly import (
-    A0, A7, ECALL, LW, S2, S3, S4, SW, ZERO, Address, Words, addi, branch, laid_out, load, lui, store)
-from cases import bodies, trapping
+    A0, A7, ECALL, LW, S2, S3, S4, SW, ZERO, Address, Words, addi, branch, lay_out, load, lui, store)
+from cases import bodies, traps
 from cases.chance import Chance
 from cases.shape import Shape
 
@@ -26,13 +26,13 @@ def text_of(chance: Chance, shape: Shape) -> tuple[list[int], list[int]]:
     if shape.trap:
         parts[1] = with_trap(chance, shape, shape.trap, parts[1])
     parts.append(bodies.functions(chance, shape))
-    words, starts = laid_out(parts)
+    words, starts = lay_out(parts)
     return words, starts[1:-1]
 
 
 def with_trap(chance: Chance, shape: Shape, cause: int, words: Words) -> Words:
     """The task with a piece that traps, at its end or at its front. Now and then only some tasks come to it."""
-    piece = trapping.PIECES[cause](chance, shape)
+    piece = traps.PIECES[cause](chance, shape)
     front = len(bodies.prologue(chance))
     if cause != TOO_DEEP and chance.is_one_of(3):
         over = branch(chance.pick(bodies.BRANCHES), S3, chance.pick((S2, ZERO)), 4 * len(piece) + 4)

@@ -5,10 +5,10 @@ from __future__ import annotations
 import collections
 import re
 
-from yotarimu.common.outcome import Refused
+from yotarimu.common.outcome import Refusal
 from yotarimu.courses.schedules import read_replies
 from yotarimu.images.image import image_bytes, read_image
-from yotarimu.images.serial_machine import CALL, Machine, Run, Task, Trapped
+from yotarimu.images.serial_machine import CALL, Machine, Run, Task, TaskTrap
 from yotarimu.reports.report import read_report
 
 from cases.case import Call
@@ -65,7 +65,7 @@ def empty() -> Counts:
     return {title: collections.Counter(dict.fromkeys((*names, *RARE.get(title, ())), 0)) for title, names in TABLES}
 
 
-def missing(counts: Counts) -> list[str]:
+def missing_kinds(counts: Counts) -> list[str]:
     """The kinds that never came."""
     return [f"{title}: {name}" for title, names in TABLES for name in names if not counts[title][name]]
 
@@ -78,7 +78,7 @@ def count(counts: Counts, call: Call, said: bytes) -> None:
         counts["Options"][f"--{name}"] += call.option(name) is not None
     try:
         count_answer(counts, call, said)
-    except (Refused, LookupError, ValueError):
+    except (Refusal, LookupError, ValueError):
         counts["Other answers"]["an answer of no known form"] += 1
 
 
@@ -125,7 +125,7 @@ def count_executed(counts: Counts, data: bytes, text: str) -> None:
     """Runs the tasks of a report again, as ./fractal explain does, and counts what they execute."""
     try:
         image, report = read_image(data, "image"), read_report(text, "report")
-    except Refused:
+    except Refusal:
         return
     for entry in report.entries:
         counts["Images"][f"depth {entry.depth}"] += entry.depth in (8, 16)
@@ -138,7 +138,7 @@ def count_executed(counts: Counts, data: bytes, text: str) -> None:
         task.turn = entry.turn
         try:
             NotedRun(machine, task, seen).go()
-        except Trapped:
+        except TaskTrap:
             break
     for (word, place), times in seen.items():
         add_executed(counts["Executed instructions"], word, place, times)

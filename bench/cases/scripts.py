@@ -68,7 +68,7 @@ def bad_text(chance: Chance, acts: Sequence[Act]) -> str:
     return "\n".join(lines)
 
 
-def renumbering(times: int) -> list[Act]:
+def renumbering_acts(times: int) -> list[Act]:
     """The second task is dispatched and taken back until all dispatch numbers were given, and more."""
     again = [Act("dispatch", 0), Act("abort", 0)] * times
     return [Act("dispatch", 0), *again, Act("dispatch", 0), *[Act("step", 0, core) for core in (0, 1)] * 6,

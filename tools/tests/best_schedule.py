@@ -11,7 +11,7 @@ import itertools
 from collections.abc import Iterator
 from typing import NamedTuple, Optional
 
-from yotarimu.figures.limits import Call, CommittedTask, Manner, Point, Reading, Unit, Window
+from yotarimu.figures.limits import Call, CommittedTask, Manner, Point, WindowKind, Unit, Window
 
 State = tuple[int, ...]
 
@@ -43,7 +43,7 @@ class Text:
         stores = [Source(*place) for *place, mark in self.marks() if mark == name and place[0] < task]
         return stores[-1] if stores else None
 
-    def committed(self) -> list[CommittedTask]:
+    def committed_tasks(self) -> list[CommittedTask]:
         """The text as limits are told of it."""
         return [committed_task(number, task) for number, task in enumerate(self.written.split(" "))]
 
@@ -75,10 +75,10 @@ class Best:
     def time(self) -> int:
         states, time = {(0,) * len(self.ends)}, 0
         while self.ends not in states:
-            states, time = {later for state in states for later in self.following(state)}, time + 1
+            states, time = {later for state in states for later in self.next_states(state)}, time + 1
         return time
 
-    def following(self, state: State) -> Iterator[State]:
+    def next_states(self, state: State) -> Iterator[State]:
         """The states that one unit of time may lead to."""
         unfinished = [task for task, end in enumerate(self.ends) if state[task] < end]
         # Within a round one unit comes after another; within a moment none sees another.
@@ -86,11 +86,11 @@ class Best:
             unfinished = [task for task in unfinished if self.may_go(task, state)]
         for count in range(1, len(unfinished) + 1):
             for chosen in itertools.combinations(unfinished, count):
-                later = self.made(state, chosen)
+                later = self.state_after(state, chosen)
                 if later is not None:
                     yield later
 
-    def made(self, state: State, chosen: tuple[int, ...]) -> Optional[State]:
+    def state_after(self, state: State, chosen: tuple[int, ...]) -> Optional[State]:
         later = list(state)
         for task in chosen:
             if self.text.unit is Unit.STEP and not self.may_go(task, tuple(later)):
@@ -123,7 +123,7 @@ class Best:
         most = self.window.tasks
         if most is None:
             return True
-        if self.window.reading is Reading.ORDER:
+        if self.window.kind is WindowKind.ORDER:
             return all(state[it] == self.ends[it] for it in range(task - most + 1))
         return sum(state[it] < self.ends[it] for it in range(task)) < most
 

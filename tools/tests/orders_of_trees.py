@@ -64,7 +64,7 @@ def turns(done: list[Task], stack: list[Domain], pending: dict[int, list[Task]])
             yield from turns([*done, task], [*stack, *inner], left)
 
 
-def written(order: list[Task]) -> Text:
+def text_of(order: list[Task]) -> Text:
     """The tasks in an order, as a tiny text."""
     numbers = {id(task): str(number) for number, task in enumerate(order, 1)}
     return Text(" ".join("".join(numbers[id(unit)] if isinstance(unit, Task) else unit for unit in task.units)

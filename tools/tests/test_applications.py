@@ -11,7 +11,7 @@ from yotarimu.applications.chance import Chance
 from yotarimu.applications.circuits import BITS, Circuit, Kind
 from yotarimu.applications.graphs import Network, mesh, network, random_graph, rmat
 from yotarimu.applications.inputs import words
-from yotarimu.applications.memory import Memory, Place, Wrong
+from yotarimu.applications.memory import Memory, Place, WrongMemory
 from yotarimu.applications.ways import FAR, need_shortest
 
 
@@ -97,27 +97,27 @@ class WaysTest(unittest.TestCase):
     def test_shortest_ways(self) -> None:
         need_shortest("way", self.ROADS, self.RIGHT)
         for wrong in self.WRONG:
-            with self.assertRaises(Wrong):
+            with self.assertRaises(WrongMemory):
                 need_shortest("way", self.ROADS, wrong)
 
     def test_sssp(self) -> None:
         given = Network([(0, 0)] * 4, self.ROADS)
         self.assertIn("3 are reached", sssp.check(given, memory_of({"distance": words(self.RIGHT)})))
-        with self.assertRaises(Wrong):
+        with self.assertRaises(WrongMemory):
             sssp.check(given, memory_of({"distance": words(self.WRONG[0])}))
 
     def test_astar_may_leave_nodes_out(self) -> None:
         given = Network([(0, 0)] * 4, self.ROADS)
         self.assertIn("way of 1 ", astar.check(given, 2, memory_of({"distance": words([0, FAR, 1, FAR])})))
         for wrong in ([0, 4, 1, FAR], [0, FAR, 2, FAR], [0, 3, FAR, FAR]):
-            with self.assertRaises(Wrong):
+            with self.assertRaises(WrongMemory):
                 astar.check(given, 2, memory_of({"distance": words(wrong)}))
 
     def test_bfs(self) -> None:
         neighbours = [[1, 2], [0, 2, 3], [0, 1], [1]]
         self.assertIn("greatest is 2", bfs.check(neighbours, memory_of({"level": words([0, 1, 1, 2])})))
         for wrong in ([0, 1, 2, 2], [0, 1, 1, 1], [0, 1, 1, FAR]):
-            with self.assertRaises(Wrong):
+            with self.assertRaises(WrongMemory):
                 bfs.check(neighbours, memory_of({"level": words(wrong)}))
 
 
@@ -131,7 +131,7 @@ class GraphsTest(unittest.TestCase):
         for taken in (b"\1\1\0\1\0", b"\1\1\0\0\1"):
             self.assertIn("weighs 7", msf.check(4, self.EDGES, memory_of({"is_taken": taken})))
         for taken in (b"\1\1\1\0\0", b"\1\1\1\1\0", b"\1\0\1\1\0", b"\1\1\0\0\0"):
-            with self.assertRaises(Wrong):
+            with self.assertRaises(WrongMemory):
                 msf.check(4, self.EDGES, memory_of({"is_taken": taken}))
 
     def test_msf_of_two_trees(self) -> None:
@@ -142,14 +142,14 @@ class GraphsTest(unittest.TestCase):
         order = [0, 2, 1, 3]
         self.assertIn("3 colours", color.check(self.NEIGHBOURS, order, memory_of({"colour": words([1, 3, 2, 3])})))
         for wrong in ([1, 3, 2, 4], [1, 2, 2, 3], [2, 3, 1, 3], [1, 3, 2, 0]):
-            with self.assertRaises(Wrong):
+            with self.assertRaises(WrongMemory):
                 color.check(self.NEIGHBOURS, order, memory_of({"colour": words(wrong)}))
 
     def test_mis(self) -> None:
         for right in (b"\1\2\2\2", b"\2\1\2\1"):
             mis.check(self.NEIGHBOURS, memory_of({"state": right}))
         for wrong in (b"\2\1\2\2", b"\1\1\2\2", b"\2\1\2\0", b"\2\2\2\2"):
-            with self.assertRaises(Wrong):
+            with self.assertRaises(WrongMemory):
                 mis.check(self.NEIGHBOURS, memory_of({"state": wrong}))
 
 
@@ -182,7 +182,7 @@ class FlowTest(unittest.TestCase):
     def test_other_flows(self) -> None:
         for flows, excess in (([2, 1, 2, 1], [0, 0, 0, 3]), ([3, 2, 2, 1], [0, 1, 1, 3]), ([3, 2, 2, 2], [0, 0, 0, 4]),
                               ([3, 2, 2, 2], [0, 1, 0, 5])):
-            with self.assertRaises(Wrong):
+            with self.assertRaises(WrongMemory):
                 maxflow.check(self.net(), self.memory(flows, excess))
 
 
@@ -199,7 +199,7 @@ class LabyrinthTest(unittest.TestCase):
         labyrinth.check(given, self.memory([1, 1, 2, 2, 1, 1, 0, 0], [4, 2]))
         for owners, laid in (([1, 1, 0, 0, 0, 0, 0, 0], [2, 0]), ([1, 1, 2, 0, 0, 0, 0, 2], [2, 2]),
                              ([1, 1, 2, 2, 0, 0, 0, 0], [2, 3]), ([0, 1, 2, 2, 0, 0, 0, 0], [1, 2])):
-            with self.assertRaises(Wrong):
+            with self.assertRaises(WrongMemory):
                 labyrinth.check(given, self.memory(owners, laid))
 
     def test_a_wire_without_a_way(self) -> None:
@@ -216,7 +216,7 @@ class SumsTest(unittest.TestCase):
         states = struct.pack("<2BH2BH", 3, 1, 7, 0, 0, 5)
         right = memory_of({"sums": words([3, 0, 7, 11]), "states": states})
         self.assertIn("toggled 12 times", des.check(numbers, right))
-        with self.assertRaises(Wrong):
+        with self.assertRaises(WrongMemory):
             des.check(numbers, memory_of({"sums": words([3, 1, 7, 11]), "states": states}))
 
 
@@ -231,13 +231,13 @@ class DatabaseTest(unittest.TestCase):
              "customers": [2 ** 32 - 50, 50, 1, 0, 0, 0, 0, 0], "payments": [0, 0, 0, 50],
              "stocks": [87, 4, 1, 0, 0, 0, 0, 0, 90, 1, 1, 0]}
 
-    def told(self, tables: Mapping[str, list[int]]) -> str:
+    def answer(self, tables: Mapping[str, list[int]]) -> str:
         """What the check says of some tables."""
         memory = memory_of({name: words(numbers) for name, numbers in tables.items()})
         return database.check(self.SIZES, self.TRANSACTIONS, self.PRICES, True, memory)
 
     def test_tables(self) -> None:
-        self.assertIn("2 transactions, 1 of them orders of 2 lines", self.told(self.RIGHT))
+        self.assertIn("2 transactions, 1 of them orders of 2 lines", self.answer(self.RIGHT))
 
     def test_each_number_counts(self) -> None:
         for name, numbers in self.RIGHT.items():
@@ -245,8 +245,8 @@ class DatabaseTest(unittest.TestCase):
                 is_told = number != 0 or name in ("stocks", "payments")
                 wrong = {**self.RIGHT, name: [*numbers[:place], number + 1, *numbers[place + 1:]]}
                 if is_told and not (name == "stocks" and place % 4 == 3 and number):
-                    with self.assertRaises(Wrong, msg=f"{name} {place}"):
-                        self.told(wrong)
+                    with self.assertRaises(WrongMemory, msg=f"{name} {place}"):
+                        self.answer(wrong)
 
     def test_payments_are_half_of_the_transactions(self) -> None:
         made = silo.problem(True, 2000, Chance(1)).input

@@ -7,8 +7,8 @@ import unittest
 from typing import Any, Optional
 
 from yotarimu.images.image import DATA
-from yotarimu.lines.causes import Kind, Sharing, Telling, causes_of
-from yotarimu.lines.replay import Access, Taken
+from yotarimu.lines.causes import Kind, Sharing, CauseSentences, causes_of
+from yotarimu.lines.replay import Access, TakenTask
 from yotarimu.lines.times import UNDISPATCHED, root
 
 LINE = 16
@@ -29,12 +29,12 @@ def store(address: int, value: int = 1, event: int = 1) -> Access:
     return Access(True, DATA + address, 4, 0, value, 0, event, pc=0x10004, step=0)
 
 
-def taken(it: Any, timestamp: int, dispatch: float, *accesses: Access, is_gone: bool = False) -> Taken:
+def member(it: Any, timestamp: int, dispatch: float, *accesses: Access, is_gone: bool = False) -> TakenTask:
     time = root(True).time(timestamp, dispatch)
-    return Taken(it, time, len(accesses), list(accesses), [], "running", 0, is_gone)
+    return TakenTask(it, time, len(accesses), list(accesses), [], "running", 0, is_gone)
 
 
-def event(members: list[Taken], asker: Any = None, access: Optional[Access] = None, **line: Any) -> Any:
+def event(members: list[TakenTask], asker: Any = None, access: Optional[Access] = None, **line: Any) -> Any:
     if access is not None:
         line["asks"] = "store" if access.is_store else "load"
     return types.SimpleNamespace(line={"do": "step", **line}, taken=members, task=asker, access=access)
@@ -49,7 +49,7 @@ def told_of(told: Any) -> Any:
 class Causes(unittest.TestCase):
     def test_a_store_meets_the_same_byte_the_line_or_the_bit(self) -> None:
         writer, one, two, three = task("w"), task("1"), task("2"), task("3")
-        told = event([taken(one, 2, 1, load(0)), taken(two, 3, 2, load(4)), taken(three, 4, 3, load(ALIAS))], writer,
+        told = event([member(one, 2, 1, load(0)), member(two, 3, 2, load(4)), member(three, 4, 3, load(ALIAS))], writer,
                      store(0))
         self.assertEqual(told_of(told), [("1", Kind.ACCESS, Sharing.TRUE, "w", "1"),
                                          ("2", Kind.ACCESS, Sharing.LINE, "w", "2"),
@@ -57,20 +57,21 @@ class Causes(unittest.TestCase):
 
     def test_a_load_meets_stores_alone(self) -> None:
         # It loaded the very word too, but what takes it back is its store to the same line.
-        told = event([taken(task("1"), 2, 1, load(0), store(8))], task("r"), load(0))
+        told = event([member(task("1"), 2, 1, load(0), store(8))], task("r"), load(0))
         self.assertEqual(told_of(told), [("1", Kind.ACCESS, Sharing.LINE, "r", "1")])
 
     def test_a_child_has_the_root_of_its_creator(self) -> None:
         creator = task("1")
         child = task("1+0", creator)
-        told = event([taken(child, 2, UNDISPATCHED, is_gone=True), taken(creator, 2, 1, load(4))], task("w"), store(0))
+        told = event([member(child, 2, UNDISPATCHED, is_gone=True), member(creator, 2, 1, load(4))],
+                     task("w"), store(0))
         self.assertEqual(told_of(told), [("1", Kind.ACCESS, Sharing.LINE, "w", "1"),
                                          ("1+0", Kind.CHILD, Sharing.LINE, "1", "1")])
 
     def test_what_touched_the_line_of_a_store_goes_with_it(self) -> None:
         one, two, three = task("1"), task("2"), task("3")
-        told = event([taken(one, 2, 1, load(0), store(64, event=2)), taken(two, 3, 2, load(64)),
-                      taken(three, 4, 3, load(68))], task("w"), store(0))
+        told = event([member(one, 2, 1, load(0), store(64, event=2)), member(two, 3, 2, load(64)),
+                      member(three, 4, 3, load(68))], task("w"), store(0))
         self.assertEqual(told_of(told), [("1", Kind.ACCESS, Sharing.TRUE, "w", "1"),
                                          ("2", Kind.TOUCHED, Sharing.TRUE, "1", "1"),
                                          ("3", Kind.TOUCHED, Sharing.LINE, "1", "1")])
@@ -78,54 +79,54 @@ class Causes(unittest.TestCase):
     def test_the_way_that_shares_the_most_counts(self) -> None:
         # The second shares a line with the store, and a byte with what the first wrote.
         one, two = task("1"), task("2")
-        told = event([taken(one, 2, 1, load(0), store(64)), taken(two, 3, 2, load(8), load(64))], task("w"), store(0))
+        told = event([member(one, 2, 1, load(0), store(64)), member(two, 3, 2, load(8), load(64))], task("w"), store(0))
         self.assertEqual(told_of(told)[1], ("2", Kind.TOUCHED, Sharing.TRUE, "1", "1"))
 
     def test_a_way_is_as_wide_as_its_widest_step(self) -> None:
         # The first shares a line alone, so the second does too, although it loaded the first one's very bytes.
         one, two = task("1"), task("2")
-        told = event([taken(one, 2, 1, load(4), store(64)), taken(two, 3, 2, load(64))], task("w"), store(0))
+        told = event([member(one, 2, 1, load(4), store(64)), member(two, 3, 2, load(64))], task("w"), store(0))
         self.assertEqual(told_of(told)[1], ("2", Kind.TOUCHED, Sharing.LINE, "1", "1"))
 
     def test_an_earlier_task_goes_with_none(self) -> None:
         # The later one wrote what the earlier one had loaded: each meets the store by itself.
         one, two = task("1"), task("2")
-        told = event([taken(two, 3, 2, load(0), store(64, event=5)), taken(one, 2, 1, load(0), load(64, event=4))],
+        told = event([member(two, 3, 2, load(0), store(64, event=5)), member(one, 2, 1, load(0), load(64, event=4))],
                      task("w"), store(0))
         self.assertEqual([it[1] for it in told_of(told)], [Kind.ACCESS, Kind.ACCESS])
 
     def test_room_takes_the_least_member(self) -> None:
         one, two = task("1"), task("2")
-        told = event([taken(two, 3, 2, load(64)), taken(one, 2, 1, store(64))], task("a"), asks="end")
+        told = event([member(two, 3, 2, load(64)), member(one, 2, 1, store(64))], task("a"), asks="end")
         self.assertEqual(told_of(told), [("1", Kind.ROOM, Sharing.TRUE, "a", "1"),
                                          ("2", Kind.TOUCHED, Sharing.TRUE, "1", "1")])
         self.assertEqual({it.event for it in causes_of(told, LINE)}, {"commit queue"})
 
     def test_a_script_may_ask_for_it(self) -> None:
-        told = event([taken(task("1"), 2, 1)], task("1"), do="abort")
+        told = event([member(task("1"), 2, 1)], task("1"), do="abort")
         self.assertEqual(told_of(told), [("1", Kind.ABORT, Sharing.TRUE, None, "1")])
 
 
-class Telling_(unittest.TestCase):
+class SentencesTest(unittest.TestCase):
     def setUp(self) -> None:
-        self.telling = Telling(lambda it: str(it.name), LINE)
+        self.sentences = CauseSentences(lambda it: str(it.name), LINE)
 
-    def said(self, told: Any) -> list[str]:
-        return [self.telling.sentence(cause) for cause in causes_of(told, LINE)]
+    def sentences_of(self, told: Any) -> list[str]:
+        return [self.sentences.sentence(cause) for cause in causes_of(told, LINE)]
 
     def test_sentences(self) -> None:
         one = task("0.0")
-        told = event([taken(one, 2, 1, load(0, 5), store(64, 6)), taken(task("0.2"), 3, 2, load(68)),
-                      taken(task("0.0+0", one), 2, UNDISPATCHED, is_gone=True)], task("0.1"), store(0))
-        self.assertEqual(self.said(told), [
+        told = event([member(one, 2, 1, load(0, 5), store(64, 6)), member(task("0.2"), 3, 2, load(68)),
+                      member(task("0.0+0", one), 2, UNDISPATCHED, is_gone=True)], task("0.1"), store(0))
+        self.assertEqual(self.sentences_of(told), [
             "it loaded 5 from 10000000, and 0.1 stores there",
             "0.0, which made it, was taken back",
             "it loaded 0 from 10000044, and 0.0, which was taken back, had stored at 10000040; they share the line of "
             "16 bytes and no byte"])
 
     def test_a_bit_is_told_with_both_lines(self) -> None:
-        told = event([taken(task("0.0"), 2, 1, store(ALIAS))], task("0.1"), load(0))
-        self.assertEqual(self.said(told), [
+        told = event([member(task("0.0"), 2, 1, store(ALIAS))], task("0.1"), load(0))
+        self.assertEqual(self.sentences_of(told), [
             "it stored 1 to 10004000, and 0.1 loads at 10000000; they share a bit of the filter and no byte, since it "
             "has one for the lines 1,024 and 0"])
 
@@ -135,9 +136,9 @@ class Telling_(unittest.TestCase):
             ({"asks": "enqueue"}, "0.1 needs room in a full task queue"),
             ({"do": "dispatch"}, "0.1 is dispatched, and each core holds a task"))
         for line, part in cases:
-            self.assertEqual(self.said(event([taken(task("0.0"), 2, 1)], task("0.1"), **line)), [part])
-        splitter = event([taken(task("0.0"), 2, 1)], None, do="split")
-        self.assertEqual(self.said(splitter), ["the splitter of the tile needs room in a full task queue"])
+            self.assertEqual(self.sentences_of(event([member(task("0.0"), 2, 1)], task("0.1"), **line)), [part])
+        splitter = event([member(task("0.0"), 2, 1)], None, do="split")
+        self.assertEqual(self.sentences_of(splitter), ["the splitter of the tile needs room in a full task queue"])
 
 
 if __name__ == "__main__":

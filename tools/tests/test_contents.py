@@ -5,11 +5,11 @@ import pathlib
 import tempfile
 import unittest
 
-from yotarimu.common.outcome import Refused
-from yotarimu.images.contents import numbers_of, spliced
+from yotarimu.common.outcome import Refusal
+from yotarimu.images.contents import numbers_of, splice
 from yotarimu.images.image import DATA, Image
 from yotarimu.images.listing import Listing
-from yotarimu.images.values import Piece, piece_of, told, variables
+from yotarimu.images.values import Piece, piece_of, piece_lines, variables
 
 
 class NumbersTest(unittest.TestCase):
@@ -32,14 +32,14 @@ class NumbersTest(unittest.TestCase):
     def test_others_are_refused(self) -> None:
         for text, width, place in (("one", 4, ":1: "), ("1\n2,-", 4, ":2: "), ("256", 1, ":1: "), ("-129", 1, ":1: "),
                                    ("1.5", 4, ":1: "), ("\n\n4294967296", 4, ":3: "), ("--1", 4, ":1: ")):
-            with self.assertRaisesRegex(Refused, place):
+            with self.assertRaisesRegex(Refusal, place):
                 self.bytes_of(text, width)
 
     def test_bytes_take_the_place_of_others(self) -> None:
-        self.assertEqual(spliced(b"abcd", 1, b"XY"), b"aXYd")
-        self.assertEqual(spliced(b"abcd", 3, b"XY"), b"abcXY")
-        self.assertEqual(spliced(b"ab", 4, b"XY"), b"ab\0\0XY")
-        self.assertEqual(spliced(b"ab", 1, b""), b"ab")
+        self.assertEqual(splice(b"abcd", 1, b"XY"), b"aXYd")
+        self.assertEqual(splice(b"abcd", 3, b"XY"), b"abcXY")
+        self.assertEqual(splice(b"ab", 4, b"XY"), b"ab\0\0XY")
+        self.assertEqual(splice(b"ab", 1, b""), b"ab")
 
 
 class ValuesTest(unittest.TestCase):
@@ -57,14 +57,14 @@ class ValuesTest(unittest.TestCase):
         self.assertEqual(piece_of("one[1]", known, 4), Piece("one", 0, 1, 2, 4))
         self.assertEqual(piece_of("two[1..3]", known, 1), Piece("two", 8, 1, 4, 1))
         for word in ("three", "one[2]", "one[1..2]", "one[1..0]", "one[-1]", "one[]", ""):
-            with self.assertRaises(Refused, msg=word):
+            with self.assertRaises(Refusal, msg=word):
                 piece_of(word, known, 4)
 
     def test_lines(self) -> None:
         known = variables(self.LISTING, self.IMAGE)
-        self.assertEqual(list(told(piece_of("one", known, 4), self.DATA, False)),
+        self.assertEqual(list(piece_lines(piece_of("one", known, 4), self.DATA, False)),
                          ["one: 2 numbers of 4 bytes from 10000000 on", "       0: 1 65535"])
-        self.assertEqual(list(told(piece_of("two[3]", known, 1), self.DATA, True)),
+        self.assertEqual(list(piece_lines(piece_of("two[3]", known, 1), self.DATA, True)),
                          ["two: 1 number of 1 byte from 1000000b on", "       3: 04"])
 
 

@@ -37,7 +37,7 @@ class FeedersTest(unittest.TestCase):
         longest, limits = longest_of(chain_of(8))
         self.assertEqual(longest, Chain(8, 80))
         # The last task begins behind all eight feeders, and each of the others shares its word with one before it.
-        told = sentence(longest, limits.told())
+        told = sentence(longest, limits.all_limits())
         assert told is not None
         self.assertIn("8 tasks that do nothing but make others", told)
         self.assertIn("80 of the 85 instructions", told)
@@ -45,7 +45,7 @@ class FeedersTest(unittest.TestCase):
     def test_a_short_chain_is_not_told(self) -> None:
         longest, limits = longest_of(chain_of(5))
         self.assertEqual(longest, Chain(5, 50))
-        self.assertIsNone(sentence(longest, limits.told()))
+        self.assertIsNone(sentence(longest, limits.all_limits()))
 
     def test_a_tree_has_short_chains(self) -> None:
         nodes = ["", *(path for depth in range(1, 4) for path in paths(depth))]
@@ -60,7 +60,7 @@ class FeedersTest(unittest.TestCase):
     def test_other_work_may_be_longer(self) -> None:
         longest, limits = longest_of([*chain_of(8), task("long", 1_000, [], True)])
         self.assertEqual(longest, Chain(8, 80))
-        self.assertIsNone(sentence(longest, limits.told()))
+        self.assertIsNone(sentence(longest, limits.all_limits()))
 
 
 def paths(depth: int) -> list[str]:

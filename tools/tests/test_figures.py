@@ -3,7 +3,7 @@ from __future__ import annotations
 
 import unittest
 
-from yotarimu.common.outcome import Refused
+from yotarimu.common.outcome import Refusal
 from yotarimu.courses.schedules import Shuffle, lockstep, round_of
 from yotarimu.figures.occupancy import PLACES, RATES, Curve, Occupancy
 from yotarimu.figures.spread import Spread
@@ -71,7 +71,7 @@ class Means(unittest.TestCase):
 class Shuffles(unittest.TestCase):
     def test_a_round_is_shuffled_as_by_hand(self) -> None:
         """The first round of examples/schedules/rounds_by_hand."""
-        acts = Shuffle(360).shuffled(round_of(2, 1))
+        acts = Shuffle(360).shuffle(round_of(2, 1))
         self.assertEqual(list(map(str, acts)), ["dispatch 0", "split 1", "dispatch 1", "commit", "commit", "step 0 0",
                                                 "split 0", "step 1 0"])
 
@@ -82,15 +82,15 @@ class Shuffles(unittest.TestCase):
 class Pictures(unittest.TestCase):
     def test_axes_are_linear_unless_asked_for(self) -> None:
         points = {"": [(1.0, 1.0), (100_000.0, 7.0)]}
-        self.assertNotIn("logarithmic", plot.drawn(points, "events", "tasks"))
-        self.assertEqual(plot.drawn(points, "events", "tasks", "xy").count("(logarithmic)"), 2)
+        self.assertNotIn("logarithmic", plot.draw(points, "events", "tasks"))
+        self.assertEqual(plot.draw(points, "events", "tasks", "xy").count("(logarithmic)"), 2)
 
     def test_a_logarithmic_axis_has_no_zero(self) -> None:
-        with self.assertRaisesRegex(Refused, "no place for 0"):
-            plot.drawn({"": [(0.0, 1.0), (2.0, 3.0)]}, "events", "tasks", "x")
+        with self.assertRaisesRegex(Refusal, "no place for 0"):
+            plot.draw({"": [(0.0, 1.0), (2.0, 3.0)]}, "events", "tasks", "x")
 
     def test_a_histogram_has_a_bar_for_each_stretch(self) -> None:
-        drawn = histogram.drawn([(1, 2, 5), (3, 4, 0), (5, 6, 2)], "loads of a task", "tasks")
+        drawn = histogram.draw([(1, 2, 5), (3, 4, 0), (5, 6, 2)], "loads of a task", "tasks")
         self.assertEqual(drawn.count("<title>"), 3)
         self.assertIn("1 to 2: 5", drawn)
 

@@ -6,7 +6,7 @@ import tempfile
 import unittest
 
 from yotarimu.common.files import is_same_file, need_outputs, read_written, write_whole
-from yotarimu.common.outcome import Refused
+from yotarimu.common.outcome import Refusal
 
 
 class Files(unittest.TestCase):
@@ -20,7 +20,7 @@ class Files(unittest.TestCase):
     def test_all_or_nothing_is_written(self) -> None:
         first = self.folder / "first"
         first.write_bytes(b"old")
-        with self.assertRaisesRegex(Refused, "no such folder"):
+        with self.assertRaisesRegex(Refusal, "no such folder"):
             write_whole({first: b"new", self.folder / "none" / "second": b"x"})
         self.assertEqual([path.name for path in self.folder.iterdir()], ["first"])
         self.assertEqual(first.read_bytes(), b"old")
@@ -39,9 +39,9 @@ class Files(unittest.TestCase):
     def test_outputs_are_no_inputs(self) -> None:
         path = self.folder / "file"
         path.write_bytes(b"")
-        with self.assertRaisesRegex(Refused, "this is read, so it isn't written too"):
+        with self.assertRaisesRegex(Refusal, "this is read, so it isn't written too"):
             need_outputs([path], [str(path)])
-        with self.assertRaisesRegex(Refused, "two outputs can't be one file"):
+        with self.assertRaisesRegex(Refusal, "two outputs can't be one file"):
             need_outputs([self.folder / "new", f"{self.folder}/./new"], [])
         need_outputs([None, self.folder / "new"], [path, None])
 

@@ -8,13 +8,13 @@ import struct
 import tempfile
 import unittest
 
-from yotarimu.common.outcome import Refused
+from yotarimu.common.outcome import Refusal
 from yotarimu.images.elf import read_elf
 from yotarimu.images.folder import build
 from yotarimu.images.image import DATA, TEXT, Image, InitialTask, image_bytes, read_image
 from yotarimu.images.listing import read_listing
-from yotarimu.images.loads import generated
-from yotarimu.images.serial_machine import Machine, branch_offset, computed, is_met, jump_offset, signed
+from yotarimu.images.loads import generate
+from yotarimu.images.serial_machine import Machine, branch_offset, compute, is_met, jump_offset, signed_number
 from yotarimu.reports.report import Entry, Name
 
 # li a7, 0; ecall.
@@ -43,7 +43,7 @@ class Images(unittest.TestCase):
 
     def test_what_is_none_is_refused(self) -> None:
         for data in (b"", IMAGE[:31], b"G" + IMAGE[1:], IMAGE[:-1], IMAGE[:4] + b"\x03" + IMAGE[5:]):
-            with self.assertRaisesRegex(Refused, "^here: this "):
+            with self.assertRaisesRegex(Refusal, "^here: this "):
                 read_image(data, "here")
 
     def test_words_of_the_text_have_addresses(self) -> None:
@@ -56,7 +56,7 @@ class Images(unittest.TestCase):
         self.assertEqual((image.limits.children, image.limits.depth, image.limits.stack), (64, 8, 0))
 
     def test_a_generated_walk_of_one_node_has_three_edges(self) -> None:
-        image = generated("walk", 7, 1)
+        image = generate("walk", 7, 1)
         # No children, and an edge to itself; its distance is the window.
         self.assertEqual(struct.unpack("<3I", image.initial), (0xFFFFFFFF, 0xFFFFFFFF, 0))
         self.assertEqual((image.size, image.window_offset, image.window_words), (16, 12, 1))
@@ -69,13 +69,14 @@ class Instructions(unittest.TestCase):
         self.assertEqual([jump_offset(0xFF9FF06F), jump_offset(0x0010006F)], [-8, 2048])
 
     def test_numbers_are_twos_complement(self) -> None:
-        self.assertEqual([signed(0xFFF, 12), signed(0x7FF, 12), signed(0x80000000, 32)], [-1, 2047, -2 ** 31])
+        self.assertEqual([signed_number(0xFFF, 12), signed_number(0x7FF, 12), signed_number(0x80000000, 32)],
+                         [-1, 2047, -2 ** 31])
 
     def test_shifts_and_comparisons(self) -> None:
         arithmetic, less, less_unsigned = 5, 2, 3
-        self.assertEqual(computed(arithmetic, 0x80000000, 31, True), -1)
-        self.assertEqual(computed(arithmetic, 0x80000000, 31, False), 1)
-        self.assertEqual([computed(kind, 0xFFFFFFFF, 0, False) for kind in (less, less_unsigned)], [True, False])
+        self.assertEqual(compute(arithmetic, 0x80000000, 31, True), -1)
+        self.assertEqual(compute(arithmetic, 0x80000000, 31, False), 1)
+        self.assertEqual([compute(kind, 0xFFFFFFFF, 0, False) for kind in (less, less_unsigned)], [True, False])
 
     def test_branches(self) -> None:
         equal, unequal, less, less_unsigned = 0, 1, 4, 6
@@ -139,7 +140,7 @@ class Sources(unittest.TestCase):
                          (END, [InitialTask(TEXT, 5, (1, 2, 3))], 4, 1, 8))
         self.assertEqual(image.initial.rstrip(b"\0"), b"\x2a")
         self.assertEqual((listing.label(TEXT + 4), listing.place(TEXT + 4)), ("main+4", "task.s:6: ecall"))
-        self.assertEqual([label.address for label in assembled.named("more")], [DATA + 4])
+        self.assertEqual([label.address for label in assembled.labels_named("more")], [DATA + 4])
 
 
 if __name__ == "__main__":

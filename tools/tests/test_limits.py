@@ -8,15 +8,15 @@ from typing import Optional
 
 from yotarimu.common.places import HOME
 from yotarimu.figures.limits import (
-    UNBOUNDED, Cells, CommittedTask, Limit, Limits, Manner, Point, Reading, Unit, Window)
+    UNBOUNDED, Cells, CommittedTask, Limit, Limits, Manner, Point, WindowKind, Unit, Window)
 from yotarimu.figures.orders import Bounds
 
 from tests.best_schedule import Best, Text
-from tests.orders_of_trees import random_tree, written
+from tests.orders_of_trees import random_tree, text_of
 
 PAGE = HOME / "docs" / "machine" / "FIGURES.md"
-TWO, TWO_SLOTS = Window(2), Window(2, Reading.SLOTS)
-WINDOWS = (Window(1), TWO, TWO_SLOTS, Window(3), Window(3, Reading.SLOTS), UNBOUNDED)
+TWO, TWO_SLOTS = Window(2), Window(2, WindowKind.SLOTS)
+WINDOWS = (Window(1), TWO, TWO_SLOTS, Window(3), Window(3, WindowKind.SLOTS), UNBOUNDED)
 # The columns of the page's table behind that of the text.
 COLUMNS = ((Manner.WHOLE, Unit.INSTRUCTION, UNBOUNDED), (Manner.RENAMED, Unit.INSTRUCTION, UNBOUNDED),
            (Manner.ONE, Unit.INSTRUCTION, UNBOUNDED), (Manner.RENAMED, Unit.INSTRUCTION, TWO),
@@ -25,9 +25,9 @@ COLUMNS = ((Manner.WHOLE, Unit.INSTRUCTION, UNBOUNDED), (Manner.RENAMED, Unit.IN
 
 def limits_of(text: Text) -> list[Limit]:
     limits = Limits(Cells(), WINDOWS)
-    for task in text.committed():
+    for task in text.committed_tasks():
         limits.commit(task)
-    return limits.told()
+    return limits.all_limits()
 
 
 def best(written_text: str, limit: Limit) -> int:
@@ -72,12 +72,12 @@ class AnyOrders(unittest.TestCase):
             for seed in range(count):
                 tree = random_tree(random.Random(f"{most_tasks} {seed}"), most_tasks, most_units)
                 orders = list(tree.orders())
-                texts = [written(order) for order in orders]
+                texts = [text_of(order) for order in orders]
                 limits = [limit for text in texts for limit in limits_of(text)
                           if (limit.unit, limit.window) == (Unit.INSTRUCTION, UNBOUNDED)]
                 for order, text in zip(orders, texts):
                     bounds = Bounds(Cells())
-                    for task, done in zip(order, text.committed()):
+                    for task, done in zip(order, text.committed_tasks()):
                         bounds.commit(done, tree.epoch(task))
                     for manner, bound in bounds.by_manner.items():
                         with self.subTest(text=text.written, manner=manner):
@@ -92,9 +92,9 @@ class AnyOrders(unittest.TestCase):
                                if (it.manner, it.window) == (Manner.RENAMED, UNBOUNDED))
                 self.assertEqual(renamed.time, time)
                 bounds = Bounds(Cells())
-                for task in Text(order).committed():
+                for task in Text(order).committed_tasks():
                     bounds.commit(task, 0)
-                self.assertEqual(bounds.told()[Manner.RENAMED], 2.0)
+                self.assertEqual(bounds.at_once()[Manner.RENAMED], 2.0)
 
 
 def points_of(accesses: list[tuple[bool, int, int]], cells: Optional[Cells]) -> list[Point]:
@@ -120,8 +120,8 @@ class WordsAndBytes(unittest.TestCase):
                     limits.commit(done)
                     bounds.commit(done, number // 3)
             with self.subTest(seed=seed):
-                self.assertEqual(by_word[0].told(), by_byte[0].told())
-                self.assertEqual(by_word[1].told(), by_byte[1].told())
+                self.assertEqual(by_word[0].all_limits(), by_byte[0].all_limits())
+                self.assertEqual(by_word[1].at_once(), by_byte[1].at_once())
 
 
 if __name__ == "__main__":

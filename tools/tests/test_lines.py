@@ -6,11 +6,11 @@ import json
 import unittest
 from typing import Any, Callable, Optional
 
-from yotarimu.common.outcome import Refused
+from yotarimu.common.outcome import Refusal
 from yotarimu.common.places import EXAMPLES_FOLDER
 from yotarimu.images.image import Image, read_image
 from yotarimu.lines.dispatch_numbers import DISPATCH_NUMBERS, DispatchNumbers
-from yotarimu.lines.reader import Watched
+from yotarimu.lines.reader import Reader
 from yotarimu.lines.times import UNDISPATCHED, Domain, Time, root
 
 SCHEDULES = EXAMPLES_FOLDER / "schedules"
@@ -19,7 +19,7 @@ WORKED = {"by_hand": "by_hand", "domains_by_hand": "domains_by_hand", "rounds_by
 Line = dict[str, Any]
 
 
-def worked(name: str) -> tuple[list[Line], Image]:
+def worked_text(name: str) -> tuple[list[Line], Image]:
     path = SCHEDULES / WORKED[name] / "image.bin"
     lines = [json.loads(line) for line in (SCHEDULES / name / "worked").read_text().splitlines()]
     return lines, read_image(path.read_bytes(), str(path))
@@ -29,9 +29,9 @@ def fault(lines: list[Line], image: Optional[Image] = None) -> Optional[str]:
     """Why a text is refused; None where it isn't."""
     text = "".join(json.dumps(line, separators=(",", ":")) + "\n" for line in lines)
     try:
-        for _ in Watched(io.BytesIO(text.encode()), "text", image=image):
+        for _ in Reader(io.BytesIO(text.encode()), "text", image=image):
             pass
-    except Refused as refused:
+    except Refusal as refused:
         return str(refused)
     return None
 
@@ -39,17 +39,17 @@ def fault(lines: list[Line], image: Optional[Image] = None) -> Optional[str]:
 class WorkedTexts(unittest.TestCase):
     def test_the_image_has_each_leg(self) -> None:
         for name in WORKED:
-            lines, image = worked(name)
+            lines, image = worked_text(name)
             with self.subTest(name=name):
                 self.assertIsNone(fault(lines, image))
 
     def test_other_images_are_refused(self) -> None:
-        lines, _ = worked("by_hand")
-        _, image = worked("domains_by_hand")
+        lines, _ = worked_text("by_hand")
+        _, image = worked_text("domains_by_hand")
         self.assertIn("text:1: `text` is 16", fault(lines, image) or "")
 
 
-def changed(number: int, field: str, value: Any) -> Callable[[list[Line]], None]:
+def field_change(number: int, field: str, value: Any) -> Callable[[list[Line]], None]:
     def change(lines: list[Line]) -> None:
         assert field in lines[number - 1]
         lines[number - 1][field] = value
@@ -60,7 +60,7 @@ class Refusals(unittest.TestCase):
     """One change of a text that was worked out by hand, the line that is refused for it, and a part of why."""
 
     def refuse(self, name: str, change: Callable[[list[Line]], None], line: int, part: str, by_image: bool) -> None:
-        lines, image = worked(name)
+        lines, image = worked_text(name)
         change(lines)
         found = fault(lines, image if by_image else None) or ""
         with self.subTest(name=name, part=part):
@@ -79,7 +79,7 @@ class Refusals(unittest.TestCase):
                 ("rounds_by_hand", 11, "old", 0, 11, "finds the byte 0, and 7"),
                 ("domains_by_hand", 11, "next", 2, 11, "the next dispatch number is 1"),
                 ("domains_by_hand", 17, "to", "sub", 17, "a subdomain that isn't there")):
-            self.refuse(name, changed(line, field, value), where, part, False)
+            self.refuse(name, field_change(line, field, value), where, part, False)
 
     def test_what_the_image_holds_beside(self) -> None:
         for name, line, field, value, part in (
@@ -88,16 +88,16 @@ class Refusals(unittest.TestCase):
                 ("domains_by_hand", 16, "byte", 73, "`byte` is 73"), ("domains_by_hand", 9, "hint", 1, "`hint` is 1"),
                 ("domains_by_hand", 22, "cause", 7, "`cause` is 7"),
                 ("domains_by_hand", 15, "old", 3, "finds the byte 3, and 2")):
-            self.refuse(name, changed(line, field, value), line, part, True)
+            self.refuse(name, field_change(line, field, value), line, part, True)
 
     def test_the_head_and_the_tasks_are_those_of_the_image(self) -> None:
         for line, field, value, part in ((1, "data", 12, "`data` is 12"), (1, "window", [0, 1], "`window`"),
                                          (1, "root", "unordered", "`root`"), (3, "ts", 3, "another one"),
                                          (2, "entry", 65_540, "another one"), (2, "args", [1, 0, 0], "another one")):
-            self.refuse("by_hand", changed(line, field, value), line, part, True)
+            self.refuse("by_hand", field_change(line, field, value), line, part, True)
 
 
-class Numbered:
+class NumberedTask:
     """A task as numbers see it."""
 
     def __init__(self, domain: Domain, number: Optional[int], dispatch: float) -> None:
@@ -114,7 +114,7 @@ class Numbers(unittest.TestCase):
         numbers = DispatchNumbers()
         numbers.path, numbers.next = ((1, 7),), DISPATCH_NUMBERS
         inner = root(True).inner(((2, 9),), False)
-        running, idle = Numbered(inner, 65_530, 12), Numbered(inner, None, UNDISPATCHED)
+        running, idle = NumberedTask(inner, 65_530, 12), NumberedTask(inner, None, UNDISPATCHED)
         self.assertEqual(numbers.give([running, idle]), 3)  # type: ignore[list-item]
         self.assertEqual((running.number, idle.number, numbers.next), (2, None, 4))
 

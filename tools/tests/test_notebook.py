@@ -7,7 +7,7 @@ import unittest
 from unittest import mock
 
 from yotarimu import notebook
-from yotarimu.common.outcome import Refused
+from yotarimu.common.outcome import Refusal
 from yotarimu.images.image import TEXT, Image, InitialTask
 
 IMAGE = Image(True, b"\x93\x08\x00\x00\x73\x00\x00\x00", b"", 0, 0, 0, [InitialTask(TEXT, 5, (0, 0, 0))])
@@ -35,12 +35,12 @@ class Notebook(unittest.TestCase):
 
     def test_a_fault_is_refused(self) -> None:
         with self.answer("echo fault usage; exit 1"):
-            with self.assertRaisesRegex(Refused, "^`run --tiles=99` ended with status 1: fault usage.$"):
+            with self.assertRaisesRegex(Refusal, "^`run --tiles=99` ended with status 1: fault usage.$"):
                 notebook.run(IMAGE, tiles=99)
 
     def test_a_missing_program_is_refused(self) -> None:
         with mock.patch.object(notebook, "PROGRAM", pathlib.Path("nowhere")):
-            with self.assertRaisesRegex(Refused, "isn't built"):
+            with self.assertRaisesRegex(Refusal, "isn't built"):
                 notebook.run(IMAGE)
 
     def test_rows_are_rows_without_pandas(self) -> None:

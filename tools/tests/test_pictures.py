@@ -33,13 +33,13 @@ class Plots(unittest.TestCase):
         self.assertEqual(plot.decades(3, 400), [1, 10, 100, 1000])
 
     def test_each_point_is_drawn(self) -> None:
-        picture = plot.drawn({"one": [(1, 2), (2, 3)], "other": [(1, 5)]}, "tiles", "rounds")
+        picture = plot.draw({"one": [(1, 2), (2, 3)], "other": [(1, 5)]}, "tiles", "rounds")
         # A circle for each point, and one for each name.
         self.assertEqual(len(elements(picture, "circle")), 3 + 2)
         self.assertTrue({"one", "other", "tiles", "rounds"} <= set(texts(picture)))
 
     def test_odd_names_are_escaped(self) -> None:
-        picture = plot.drawn({"a<b\x01": [(1, 1)]}, "x & y", "z")
+        picture = plot.draw({"a<b\x01": [(1, 1)]}, "x & y", "z")
         self.assertTrue({"a<b\\x01", "x & y"} <= set(texts(picture)))
 
 
@@ -47,7 +47,7 @@ class Pictures(unittest.TestCase):
     def test_each_act_of_a_schedule_has_a_mark(self) -> None:
         acts = read_script("dispatch 0\nstep 0 0\ncommit\n", "here")
         report = "fractal 1\n1 0.0 1 5\noutput -\nend normal\n"
-        picture = lanes.drawn(read_played(acts, f"ok 0\nok 0\nok 0\n{report}", "here"))
+        picture = lanes.draw(read_played(acts, f"ok 0\nok 0\nok 0\n{report}", "here"))
         self.assertEqual([it.text for it in elements(picture, "title")],
                          ["1: dispatch 0: ok", "2: step 0 0: ok", "3: commit: ok, commit 1: 0.0"])
         self.assertIn("3 acts; 1 commit; 0 tasks taken back; end normal", texts(picture))
@@ -57,7 +57,7 @@ class Pictures(unittest.TestCase):
         report = read_report("fractal 1\n1 0.0 1 5\noutput -\nend normal\n", "here")
         machine = Machine(image)
         machine.follow(report.entries)
-        picture = tree.drawn(tree.nodes_of(report, machine, NO_LISTING), len(report.entries))
+        picture = tree.draw(tree.nodes_of(report, machine, NO_LISTING), len(report.entries))
         self.assertTrue({"1: 0.0", "00010000 7", "depth 1", "ordered"} <= set(texts(picture)))
 
 

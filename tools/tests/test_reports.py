@@ -3,8 +3,8 @@ from __future__ import annotations
 
 import unittest
 
-from yotarimu.common.outcome import Refused
-from yotarimu.courses.schedules import Act, Said, is_commit, read_played, read_script
+from yotarimu.common.outcome import Refusal
+from yotarimu.courses.schedules import Act, ActAnswer, is_commit, read_played, read_script
 from yotarimu.programs.program import end_of
 from yotarimu.reports.refusals import line_of, report_fault, script_fault
 from yotarimu.reports.report import Entry, Name, Trap, read_report
@@ -26,7 +26,7 @@ class Reports(unittest.TestCase):
     def test_a_refusal_names_the_line(self) -> None:
         for text, line in (("fractal 2\n", 1), ("fractal 1\n2 0.0 1 0\n", 2), ("fractal 1\noutput A\n", 2),
                            ("fractal 1\noutput -\nend\n", 3), (REPORT + "more\n", 7)):
-            with self.assertRaisesRegex(Refused, rf"^here:{line}: this is no report"):
+            with self.assertRaisesRegex(Refusal, rf"^here:{line}: this is no report"):
                 read_report(text, "here")
 
     def test_the_end_is_a_word(self) -> None:
@@ -42,7 +42,7 @@ class Scripts(unittest.TestCase):
         acts = read_script("advance\ncommit\n", "here")
         played = read_played(acts, "committed 0\nempty 0\nfractal 1\n1 0.0 1 0\noutput -\nend open\n", "here")
         self.assertEqual([is_commit(act, said) for act, said in played.pairs()], [True, False])
-        self.assertEqual(played.said, [Said("committed", 0), Said("empty", 0)])
+        self.assertEqual(played.said, [ActAnswer("committed", 0), ActAnswer("empty", 0)])
 
 
 class Refusals(unittest.TestCase):

@@ -4,7 +4,7 @@ from __future__ import annotations
 import unittest
 from typing import Any, Dict
 
-from yotarimu.lines.fields import Wrong
+from yotarimu.lines.fields import WrongLine
 from yotarimu.lines.rounds import Rounds
 
 
@@ -40,11 +40,11 @@ class BroughtOn(unittest.TestCase):
     def test_what_stands_elsewhere_is_refused(self) -> None:
         of = rounds(5, 2)
         of.need(line(1, "dispatch"))
-        with self.assertRaisesRegex(Wrong, "act 9 brings the least task on"):
+        with self.assertRaisesRegex(WrongLine, "act 9 brings the least task on"):
             of.need(line(10, "step"))
-        with self.assertRaisesRegex(Wrong, "act 2 of these rounds"):
+        with self.assertRaisesRegex(WrongLine, "act 2 of these rounds"):
             rounds(5, 2).need(line(2, "commit"))
-        with self.assertRaisesRegex(Wrong, "of no round"):
+        with self.assertRaisesRegex(WrongLine, "of no round"):
             rounds(1, 2).need(line(5, "dispatch"))
 
 

@@ -77,7 +77,7 @@ class Client:
                 self.left = self.left[end + 3:]
                 assert told == b"%02x" % (sum(data) & 0xFF), "a sum"
                 self.raw(b"+")
-                return unescaped(data).decode("latin-1")
+                return unescape(data).decode("latin-1")
             more = self.own.recv(65536)
             if not more:
                 return None
@@ -92,7 +92,7 @@ class Client:
         self.thread.join(20)
 
 
-def unescaped(data: bytes) -> bytes:
+def unescape(data: bytes) -> bytes:
     out, rest = bytearray(), iter(data)
     for byte in rest:
         out.append(next(rest) ^ 0x20 if byte == 0x7D else byte)

@@ -12,7 +12,7 @@ from yotarimu.images.listing import NO_LISTING
 from yotarimu.programs.examples import EXAMPLES
 from yotarimu.reports.report import read_report
 
-from tries.both_ways import goes_both_ways
+from tries.tracks import goes_both_ways
 
 
 def report_track(name: str) -> ReportTrack:
@@ -57,7 +57,7 @@ class Tracks(unittest.TestCase):
         tasks = [InitialTask(TEXT, 0, (7, 0, 0)), InitialTask(TEXT, 0, (0, 0, 0)), InitialTask(TEXT + 8, 0, (0, 0, 0))]
         machine = Machine(Image(False, text, b"", 0, 0, 0, tasks))
         self.assertIsNone(machine.follow([Entry(1, Name(0, 0), 1, 0), Entry(2, Name(0, 1), 1, 0)]))
-        self.assertIsNotNone(machine.trapped(Trap(8, TEXT + 20, Name(0, 2))))
+        self.assertIsNotNone(machine.run_at_trap(Trap(8, TEXT + 20, Name(0, 2))))
         self.assertEqual(machine.tasks[Name(0, 0)].arguments, (7, 0, 0))
         self.assertIn(Name(3, 0), machine.tasks)
 

@@ -7,15 +7,15 @@ import pathlib
 import tempfile
 import unittest
 
-from yotarimu.common.outcome import Refused
+from yotarimu.common.outcome import Refusal
 from yotarimu.common.places import EXAMPLES_FOLDER
-from yotarimu.common.sentences import SENTENCES, filled
-from yotarimu.web.bundling import constant, filled as template_filled, packed, recorded_page
-from yotarimu.web.keeping import Crates
-from yotarimu.web.making import told_version
-from yotarimu.web.narrowing import narrowed, number, number_at
-from yotarimu.web.retargeting import KNOWN_LAYOUT, KNOWN_TRIPLE, LAYOUT, TARGET, retargeted
-from yotarimu.web.showing import examples_in
+from yotarimu.common.sentences import SENTENCES, fill
+from yotarimu.web.bundle import constant, fill as template_filled, pack, recorded_page
+from yotarimu.web.toolchain import Crates
+from yotarimu.web.modules import told_version
+from yotarimu.web.wasm_tables import narrow, number, number_at
+from yotarimu.web.llvm_text import KNOWN_LAYOUT, KNOWN_TRIPLE, LAYOUT, TARGET, retarget
+from yotarimu.web.examples import examples_in
 
 MODULE = f"""; ModuleID = 'module'
 target datalayout = "{KNOWN_LAYOUT}"
@@ -35,41 +35,41 @@ def with_body(line: str) -> str:
     return MODULE.replace("  ret i32 0", f"  {line}\n  ret i32 0")
 
 
-class Retargeting(unittest.TestCase):
+class LlvmTextTest(unittest.TestCase):
     def test_names_the_other_machine(self) -> None:
-        text = retargeted(MODULE, "m")
+        text = retarget(MODULE, "m")
         self.assertIn(f'target datalayout = "{LAYOUT}"', text)
         self.assertIn(f'target triple = "{TARGET}"', text)
         self.assertNotIn("x86", text)
         self.assertIn('attributes #0 = { nounwind "frame-pointer"="all" }', text)
 
-    def refused(self, text: str, part: str) -> None:
-        with self.assertRaisesRegex(Refused, part):
-            retargeted(text, "m")
+    def refuse(self, text: str, part: str) -> None:
+        with self.assertRaisesRegex(Refusal, part):
+            retarget(text, "m")
 
     def test_refuses_another_layout(self) -> None:
-        self.refused(MODULE.replace("e-m:e", "e-m:o"), "datalayout")
+        self.refuse(MODULE.replace("e-m:e", "e-m:o"), "datalayout")
 
     def test_refuses_another_triple(self) -> None:
-        self.refused(MODULE.replace(KNOWN_TRIPLE, "aarch64-unknown-linux-gnu"), "triple")
+        self.refuse(MODULE.replace(KNOWN_TRIPLE, "aarch64-unknown-linux-gnu"), "triple")
 
     def test_refuses_an_unknown_function(self) -> None:
-        self.refused(f"{MODULE}declare i32 @fork()\n", "fork")
+        self.refuse(f"{MODULE}declare i32 @fork()\n", "fork")
 
     def test_refuses_an_intrinsic_of_the_processor(self) -> None:
-        self.refused(f"{MODULE}declare i64 @llvm.x86.rdtsc()\n", "llvm.x86.rdtsc")
+        self.refuse(f"{MODULE}declare i64 @llvm.x86.rdtsc()\n", "llvm.x86.rdtsc")
 
     def test_refuses_inline_assembly(self) -> None:
-        self.refused(with_body('call void asm sideeffect "cpuid", ""()'), "cpuid")
+        self.refuse(with_body('call void asm sideeffect "cpuid", ""()'), "cpuid")
 
     def test_refuses_assembly_of_the_module(self) -> None:
-        self.refused(MODULE.replace("define", '\nmodule asm "nop"\ndefine', 1), "assembly")
+        self.refuse(MODULE.replace("define", '\nmodule asm "nop"\ndefine', 1), "assembly")
 
     def test_refuses_a_float_of_80_bits(self) -> None:
-        self.refused(with_body("%x = fpext double 0.0 to x86_fp80"), "x86_fp80")
+        self.refuse(with_body("%x = fpext double 0.0 to x86_fp80"), "x86_fp80")
 
 
-class Narrowing(unittest.TestCase):
+class WasmTablesTest(unittest.TestCase):
     def test_numbers_come_back(self) -> None:
         for value in (0, 127, 128, 300, 2 ** 32 - 1):
             self.assertEqual(number_at(number(value), 0), (value, len(number(value))))
@@ -77,22 +77,22 @@ class Narrowing(unittest.TestCase):
     def test_a_table_of_64_bits_becomes_one_of_32(self) -> None:
         # magic, version; the section of tables: one of functions, from 3 to 3 places, with places of 64 bits
         module = b"\0asm\1\0\0\0" + bytes([4, 5, 1, 0x70, 5, 3, 3])
-        self.assertEqual(narrowed(module), b"\0asm\1\0\0\0" + bytes([4, 5, 1, 0x70, 1, 3, 3]))
+        self.assertEqual(narrow(module), b"\0asm\1\0\0\0" + bytes([4, 5, 1, 0x70, 1, 3, 3]))
 
     def test_an_indirect_call_wraps_its_place(self) -> None:
         # one function without locals: i64.const 1; call_indirect type 0, table 0; end
         module = b"\0asm\1\0\0\0" + bytes([10, 9, 1, 7, 0, 0x42, 1, 0x11, 0, 0, 0x0B])
-        self.assertEqual(narrowed(module), b"\0asm\1\0\0\0" + bytes([10, 10, 1, 8, 0, 0x42, 1, 0xA7, 0x11, 0, 0, 0x0B]))
+        self.assertEqual(narrow(module), b"\0asm\1\0\0\0" + bytes([10, 10, 1, 8, 0, 0x42, 1, 0xA7, 0x11, 0, 0, 0x0B]))
 
     def test_an_unknown_instruction_is_refused(self) -> None:
-        with self.assertRaisesRegex(Refused, "0xfd"):
-            narrowed(b"\0asm\1\0\0\0" + bytes([10, 6, 1, 4, 0, 0xFD, 0, 0x0B]))
+        with self.assertRaisesRegex(Refusal, "0xfd"):
+            narrow(b"\0asm\1\0\0\0" + bytes([10, 6, 1, 4, 0, 0xFD, 0, 0x0B]))
 
 
-class Bundling(unittest.TestCase):
+class BundleTest(unittest.TestCase):
     def test_a_module_is_packed_the_same_each_time(self) -> None:
-        self.assertEqual(gzip.decompress(base64.b64decode(packed(b"module"))), b"module")
-        self.assertEqual(packed(b"module"), packed(b"module"))
+        self.assertEqual(gzip.decompress(base64.b64decode(pack(b"module"))), b"module")
+        self.assertEqual(pack(b"module"), pack(b"module"))
 
     def test_nothing_in_a_constant_ends_its_script(self) -> None:
         self.assertNotIn("</script>", constant("text", "</script>"))
@@ -109,21 +109,21 @@ class Bundling(unittest.TestCase):
         self.assertEqual(told_version("no page"), "")
 
 
-class Showing(unittest.TestCase):
+class ExamplesTest(unittest.TestCase):
     def test_each_example_has_an_image(self) -> None:
         examples = examples_in(EXAMPLES_FOLDER)
         self.assertEqual(examples[0]["name"], "schedules/conflict")
         self.assertTrue(all(base64.b64decode(it["image"]).startswith(b"FRAC") for it in examples))
 
 
-class ReadingCrates(unittest.TestCase):
+class CratesTest(unittest.TestCase):
     def test_crates_come_behind_those_below(self) -> None:
         with tempfile.TemporaryDirectory() as folder:
             home = pathlib.Path(folder)
             (home / "crates.txt").write_text("low: byteorder\nhigh may_wait=1: middle low\nmiddle: low # a comment\n")
             crates = Crates(home)
             self.assertEqual(crates.all_below("high"), ["low", "middle"])
-            with self.assertRaisesRegex(Refused, "prove"):
+            with self.assertRaisesRegex(Refusal, "prove"):
                 crates.library("low")
 
 
@@ -133,7 +133,7 @@ class Sentences(unittest.TestCase):
         self.assertEqual(set(SENTENCES["requests"]), asked)
 
     def test_a_text_is_filled(self) -> None:
-        self.assertEqual(filled("{in} and {text}", **{"in": 1, "text": 2}), "1 and 2")
+        self.assertEqual(fill("{in} and {text}", **{"in": 1, "text": 2}), "1 and 2")
 
 
 if __name__ == "__main__":

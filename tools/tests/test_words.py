@@ -3,13 +3,13 @@ from __future__ import annotations
 
 import unittest
 
-from yotarimu.common.outcome import Refused
+from yotarimu.common.outcome import Refusal
 from yotarimu.common.words import Words, need_number, need_words, number_in, take_option
 
 WORDS = Words("sweep", ["csv", "jobs"], ["check"])
 
 
-class Reading(unittest.TestCase):
+class WordsTest(unittest.TestCase):
     def test_values_stand_behind_or_after_an_equals_sign(self) -> None:
         for words in (["a", "--csv", "x", "b"], ["--csv=x", "a", "b"], ["a", "b", "--csv=x"]):
             given = WORDS.read(words)
@@ -35,19 +35,19 @@ class Reading(unittest.TestCase):
                 # No word is cut short.
                 (["--cs", "x"], "`--cs` isn't known; ./fractal sweep --help tells the words."),
                 (["--"], "`--` isn't known; ./fractal sweep --help tells the words.")):
-            with self.assertRaises(Refused) as refused:
+            with self.assertRaises(Refusal) as refused:
                 WORDS.read(words)
             self.assertEqual(str(refused.exception), told)
 
     def test_a_count_of_words_is_held(self) -> None:
         self.assertEqual(WORDS.read(["a", "b"]).need("two", 2), ["a", "b"])
         self.assertEqual(WORDS.read(["a"]).need("one or two", 1, 2), ["a"])
-        with self.assertRaisesRegex(Refused, r"^it wants a SCRIPT; ./fractal sweep --help tells more\.$"):
+        with self.assertRaisesRegex(Refusal, r"^it wants a SCRIPT; ./fractal sweep --help tells more\.$"):
             WORDS.read(["a", "b"]).need("a SCRIPT", 1)
 
     def test_one_option_is_taken_and_the_rest_is_left(self) -> None:
         self.assertEqual(take_option(["--a", "1", "b", "--c", "2"], "--a"), ("1", ["b", "--c", "2"]))
-        with self.assertRaisesRegex(Refused, "--c"):
+        with self.assertRaisesRegex(Refusal, "--c"):
             need_words(["b", "--c"], 1, "draw", "one")
 
 
@@ -60,7 +60,7 @@ class Numbers(unittest.TestCase):
             self.assertIsNone(number_in(word, 0, 255), word)
 
     def test_a_refusal_tells_the_range(self) -> None:
-        with self.assertRaisesRegex(Refused, "^--jobs takes a number from 1 to 9, and not `0`.$"):
+        with self.assertRaisesRegex(Refusal, "^--jobs takes a number from 1 to 9, and not `0`.$"):
             need_number("--jobs", "0", 1, 9)
 
 

@@ -155,7 +155,7 @@ def interrupted_applications_leave_nothing(place: Place) -> None:
     stubs = written_tree(place.root) - before
     for number in (signal.SIGINT, signal.SIGTERM):
         mark.unlink(missing_ok=True)
-        answer = place.interrupted(CALL, "make", "mis", "made", cwd=place.root, ready=mark.exists, number=number)
+        answer = place.interrupt(CALL, "make", "mis", "made", cwd=place.root, ready=mark.exists, number=number)
         answer.sentence("interrupted", status=128 + number)
         mark.unlink()
         expect(written_tree(place.root) - stubs == before, "no folder", written_tree(place.root) - before)

@@ -306,7 +306,7 @@ def interrupts_leave_nothing(place: Place) -> None:
     place.stub_tool("riscv64-linux-gnu-objdump", "")
     for number in (signal.SIGINT, signal.SIGTERM):
         mark.unlink(missing_ok=True)
-        answer = place.interrupted("fractal build", str(folder), ready=mark.exists, number=number)
+        answer = place.interrupt("fractal build", str(folder), ready=mark.exists, number=number)
         answer.sentence("interrupted", status=128 + number)
         nothing_is_written(folder)
         place.is_clean()

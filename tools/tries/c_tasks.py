@@ -196,7 +196,7 @@ def same_but_for_addresses(report: bytes) -> bytes:
     return re.sub(rb"(?m)^window [0-9a-f]{8} ", b"window ", report)
 
 
-def built(place: Place, name: str, text: str, words: Sequence[str] = ()) -> tuple[pathlib.Path, Answer]:
+def build_source(place: Place, name: str, text: str, words: Sequence[str] = ()) -> tuple[pathlib.Path, Answer]:
     """A folder with an image of this source, and the answer of the call that made it."""
     folder = folder_in_c(place, name, text)
     answer = place.call("fractal build", *words, str(folder))
@@ -248,7 +248,7 @@ def what_needs_no_stack_runs_in_version_1(place: Place) -> None:
         text = text.replace("// image: root", "// image: version 1\n// image: root")
         wanted = same_but_for_addresses((place.clone / "examples" / name / "report").read_bytes())
         for words in COMPILERS:
-            folder, _ = built(place, "-".join([*words, name.replace("/", "-")]), text, words)
+            folder, _ = build_source(place, "-".join([*words, name.replace("/", "-")]), text, words)
             expect((folder / "image.bin").read_bytes()[4] == 1, "an image of version 1")
             report = same_but_for_addresses(run_of(place, folder))
             expect(report == wanted, f"the report of {name}", report)
@@ -282,7 +282,7 @@ def calls_keep_arguments_apart(place: Place) -> None:
     """products, quotients and calls as arguments of a child come out as they are, by both compilers"""
     place.needs_program()
     for words in COMPILERS:
-        folder, _ = built(place, "-".join(["arguments", *words]), """#include "task.h"
+        folder, _ = build_source(place, "-".join(["arguments", *words]), """#include "task.h"
 // image: task start ts 3 args 12 7 100
 // image: window seen
 uint32_t seen[8], place;
@@ -320,7 +320,7 @@ def doubts_in_c_are_noted(place: Place) -> None:
     """what may be wrong is told in a note, and built all the same"""
     for words in COMPILERS:
         for name, (text, *parts) in NOTED.items():
-            _, answer = built(place, "-".join([name, *words]), FIRST_LINES + text, words)
+            _, answer = build_source(place, "-".join([name, *words]), FIRST_LINES + text, words)
             answer.tells("note: ", *parts)
 
 
@@ -329,7 +329,7 @@ def traps_in_c_are_explained(place: Place) -> None:
     place.needs_program()
     for words in COMPILERS:
         for name, (text, *parts) in TRAPS.items():
-            folder, _ = built(place, "-".join([name, *words]), FIRST_LINES + text, words)
+            folder, _ = build_source(place, "-".join([name, *words]), FIRST_LINES + text, words)
             report = run_of(place, folder)
             answer = place.call("fractal explain", str(folder / "image.bin"), "-", stdin=report)
             for part in ("The run ended in a trap of the task", "task.c:", "  registers ", *parts):
@@ -341,7 +341,7 @@ def silent_mistakes_are_silent(place: Place) -> None:
     place.needs_program()
     for words in COMPILERS:
         for name, (text, output, word) in SILENT.items():
-            folder, answer = built(place, "-".join([name, *words]), FIRST_LINES + text, words)
+            folder, answer = build_source(place, "-".join([name, *words]), FIRST_LINES + text, words)
             report = run_of(place, folder)
             expect(report.endswith(b"end normal\n"), f"a normal end of {name}", report)
             wanted = f"output {output.encode().hex() or '-'}\n".encode()
@@ -354,7 +354,7 @@ def ties_come_in_any_order(place: Place) -> None:
     """a join at the timestamp of what it joins is accepted in each order, and leaves other sums by other settings"""
     place.needs_program()
     text = (place.clone / "examples" / "c" / "tree_of_sums" / "task.c").read_text()
-    folder, _ = built(place, "ties", text.replace("enqueue_sub(join, 1,", "enqueue_sub(join, 0,"))
+    folder, _ = build_source(place, "ties", text.replace("enqueue_sub(join, 1,", "enqueue_sub(join, 0,"))
     reports = [run_of(place, folder, "--tiles", str(tiles)) for tiles in range(1, 8)]
     sums = {found[1] for report in reports if (found := re.search(rb"window \w+ (\w+)", report))}
     expect(len(sums) > 1, "more than one sum", sums)
@@ -369,7 +369,7 @@ def scratch_of_all_conflicts(place: Place) -> None:
     shared = text.replace("    volatile uint32_t scratch", "    static volatile uint32_t scratch")
     results = []
     for name, source, is_taken_back in (("own", text, False), ("shared", shared, True)):
-        folder, _ = built(place, name, source)
+        folder, _ = build_source(place, name, source)
         results.append(re.findall(rb"window \w+ (\w+)", run_of(place, folder)))
         answer = place.call("fractal study", str(folder / "image.bin"), "--tiles", "4", "--cores", "2")
         head, _, row = (line.strip("| ").split(" | ") for line in answer.output.decode().splitlines())
@@ -389,14 +389,14 @@ uint32_t seen;
 TASK(start) { seen = ((volatile struct odd *)&odd)->word; }
 """
     for words in COMPILERS:
-        folder, _ = built(place, "-".join(["packed", *words]), source, words)
+        folder, _ = build_source(place, "-".join(["packed", *words]), source, words)
         expect(b" 12345678\n" in run_of(place, folder), "the word")
 
 
 def traps_are_explained_from_sources(place: Place) -> None:
     """a trap in C is explained from the listing, the folder and the source alike"""
     place.needs_program()
-    folder, _ = built(place, "a trap", FIRST_LINES + "TASK(start)\n{\n    require(0);\n}\n")
+    folder, _ = build_source(place, "a trap", FIRST_LINES + "TASK(start)\n{\n    require(0);\n}\n")
     report = run_of(place, folder)
     for source in ((), (folder,), (folder / "task.c",), (folder / "listing",)):
         answer = place.call("fractal explain", str(folder / "image.bin"), "-", *source, stdin=report)

@@ -13,13 +13,13 @@ import threading
 from typing import Any, Dict, Iterator, List, Optional
 
 from yotarimu.debugger.lines_track import LinesTrack
-from yotarimu.debugger.serving import GDBS
+from yotarimu.debugger.connections import GDBS
 from yotarimu.images.image import read_image
 from yotarimu.images.listing import NO_LISTING
 from yotarimu.programs.examples import EXAMPLES, SCHEDULES
 
-from tries.both_ways import goes_both_ways
-from tries.place import Answer, LeftOut, Place, expect, one_sentence_each
+from tries.tracks import goes_both_ways
+from tries.place import Answer, Omission, Place, expect, one_sentence_each
 
 # gdb tells its version in the first line; the debug adapter came with this one.
 FIRST_ADAPTER = 14
@@ -37,7 +37,7 @@ def gdbs() -> List[str]:
     """The gdbs for RISC-V that are installed, each once."""
     found = [path for name in GDBS if (path := shutil.which(name))]
     if not found:
-        raise LeftOut("it wants a gdb for RISC-V, such as gdb-multiarch")
+        raise Omission("it wants a gdb for RISC-V, such as gdb-multiarch")
     return list(dict.fromkeys(found))
 
 
@@ -47,7 +47,7 @@ def version_of(gdb: str) -> int:
     return int(found[1]) if found else 0
 
 
-def played(place: Place, gdb: str, image: str, other: Optional[str], typed: str) -> str:
+def play_in_gdb(place: Place, gdb: str, image: str, other: Optional[str], typed: str) -> str:
     """What gdb shows of the commands that are typed; paths of the clone are cut off."""
     # gdb writes what the server says to standard error.
     answer = place.call("/bin/sh", "-c", 'exec "$0" "$@" 2>&1', str(place.clone / "fractal"), "debug", image,
@@ -177,8 +177,8 @@ print e
 writes distance[3]
 """
     for gdb in gdbs():
-        shown = played(place, gdb, example(place, "c/shortest_paths", "image.bin"),
-                       example(place, "c/shortest_paths", "report"), typed)
+        shown = play_in_gdb(place, gdb, example(place, "c/shortest_paths", "image.bin"),
+                            example(place, "c/shortest_paths", "report"), typed)
         # Node 3 is first reached from node 1, at 5, by the edge of length 3: its distance is 8.
         in_order(shown, 'Thread 7 "3.0 visit ts 8" hit Breakpoint 1, visit_body (node=3, ts=8)', "task.c:19",
                  "#1  0x", "in visit ()", "node = 3", "distance[node] = ts;", "if (distance[node] != FAR)",
@@ -207,7 +207,7 @@ bt
     folder = place.root / "conflict"
     shutil.copytree(place.clone / "examples" / "schedules" / "conflict", folder)
     for gdb in gdbs():
-        shown = played(place, gdb, str(folder / "image.bin"), str(folder / "lines"), typed)
+        shown = play_in_gdb(place, gdb, str(folder / "image.bin"), str(folder / "lines"), typed)
         in_order(shown, '"0.0 reader ts 2, attempt 2" (isn\'t dispatched yet)', "hit Breakpoint 1", "$1 = 0",
                  "0.0 reader ts 2 is about to be taken back (event 6): it loaded 0 from first at task.s:",
                  "0.1 writer stores there at task.s:", "received signal SIGUSR1",
@@ -221,12 +221,12 @@ bt
 def gdb_stops_at_traps(place: Place) -> None:
     """a trap is a signal, with its meaning, and gdb goes back from it; each frame of a recursion is told"""
     for gdb in gdbs():
-        shown = played(place, gdb, example(place, "trap", "image.bin"), example(place, "trap", "report"),
-                       "continue\nreverse-stepi\nmonitor tasks\n")
+        shown = play_in_gdb(place, gdb, example(place, "trap", "image.bin"), example(place, "trap", "report"),
+                            "continue\nreverse-stepi\nmonitor tasks\n")
         in_order(shown, "Trap 10: a timestamp in the past", "received signal SIGSYS", "trap 10 stands here",
                  "li   a7, 1", "no turn  0.1")
-        shown = played(place, gdb, example(place, "recursion", "image.bin"), example(place, "recursion", "report"),
-                       "break move if $a0 == 1\ncontinue\nbt\nfinish\n")
+        shown = play_in_gdb(place, gdb, example(place, "recursion", "image.bin"), example(place, "recursion", "report"),
+                            "break move if $a0 == 1\ncontinue\nbt\nfinish\n")
         in_order(shown, "#0  move ()", "#1  0x", "#2  0x", "#3  0x", "in towers ()", "Run till exit", "move ()")
         expect("frame did not save the PC" not in shown and "?? ()" not in shown, "backtraces that end well", shown)
 
@@ -243,7 +243,7 @@ def debug_images_have_all_variables(place: Place) -> None:
     image = str(folder / "debug" / "image.bin")
     typed = "break sort_here if end - first >= 3\ncontinue\nbt\ninfo args\n"
     for gdb in gdbs():
-        in_order(played(place, gdb, image, None, typed), "hit Breakpoint 1, sort_here (first=", "#1  0x",
+        in_order(play_in_gdb(place, gdb, image, None, typed), "hit Breakpoint 1, sort_here (first=", "#1  0x",
                  "in sort_body (first=", "first = ", "end = ")
 
 
@@ -395,7 +395,7 @@ def the_debug_adapter_is_served(place: Place) -> None:
     """a client of the debug adapter protocol, as editors have one, breaks, sees frames and variables, and goes back"""
     newer = [gdb for gdb in gdbs() if version_of(gdb) >= FIRST_ADAPTER]
     if not newer:
-        raise LeftOut(f"it wants a gdb of version {FIRST_ADAPTER} or a newer one")
+        raise Omission(f"it wants a gdb of version {FIRST_ADAPTER} or a newer one")
     words = [example(place, "c/shortest_paths", it) for it in ("image.bin", "report")]
     command = " ".join(f"'{it}'" for it in (place.clone / "fractal", "debug", *words, "--pipe", "--elf", "a.elf"))
     debug(place, *words, "--pipe", "--elf", "a.elf")

@@ -9,14 +9,14 @@ from yotarimu.programs.examples import SCHEDULES
 
 from tries.files import picture_in
 from tries.place import Answer, Place, expect, one_sentence_each
-from tries.schedules import written
-from tries.told_lines import Told
+from tries.schedules import write_file
+from tries.lines_text import LinesText
 
 
-def shared_words() -> Told:
+def shared_words() -> LinesText:
     """A task that comes first and stores twice, and three later ones that have run ahead: the first store takes all
     three and a child back, each for another reason, and the second one two, one of them in a cascade."""
-    told = Told([1, 5, 6, 7, 8], [0, 0, 1, 1, 0])
+    told = LinesText([1, 5, 6, 7, 8], [0, 0, 1, 1, 0])
     for number, (task, tile, core) in enumerate(((0, 0, 0), (1, 0, 1), (2, 1, 0), (3, 1, 1))):
         told.dispatch(task, tile, core, number)
     told.load(1, 0, 1, 2, 0)                    # 3 of task 1: the very word
@@ -42,7 +42,7 @@ def shared_words() -> Told:
 
 def rows_of(place: Place, text: bytes, *words: str) -> tuple[dict[tuple[str, str], str], str]:
     """The rows of CSV, by figure and what it is of."""
-    path = written(place, "lines", text)
+    path = write_file(place, "lines", text)
     answer = place.call("fractal figures", path, "--csv", "rows.csv", *words)
     expect((answer.status, answer.errors) == (0, ""), "figures", answer)
     rows = csv.DictReader((place.root / "rows.csv").read_text().splitlines())
@@ -98,8 +98,8 @@ def work_is_summed_up(place: Place) -> None:
 
 def runs_stand_side_by_side(place: Place) -> None:
     """several texts are columns of one table; standard input is one of them"""
-    one = written(place, "one", shared_words().end())
-    answer = place.call("fractal figures", one, "-", stdin=Told([1], [0]).end())
+    one = write_file(place, "one", shared_words().end())
+    answer = place.call("fractal figures", one, "-", stdin=LinesText([1], [0]).end())
     text = answer.output.decode()
     for line in ("| Commits | 1 | 0 |", "| Dispatches a commit | 7.00 | - |", "| End | open | open |"):
         expect((answer.status, line in text) == (0, True), f"`{line}`", answer)
@@ -152,7 +152,7 @@ def other_lines_are_refused(place: Place) -> None:
 def odd_acts_are_refused(place: Place) -> None:
     """acts that no machine tells, and numbers that are too long, are refused by figures and by the page"""
     def odd(word: str, change: Optional[dict[str, Any]] = None, reply: str = "ok", **fields: Any) -> bytes:
-        told = Told([1], [0])
+        told = LinesText([1], [0])
         if word == "step":
             told.dispatch(0, 0, 0, 0)
         told.act(word, change, reply, **fields)
@@ -179,7 +179,7 @@ def odd_acts_are_refused(place: Place) -> None:
 def no_text_is_lost(place: Place) -> None:
     """a text that is read isn't replaced, nor are two written to one file; a name that is no text is told in both"""
     data = shared_words().end()
-    text = written(place, "lines", data)
+    text = write_file(place, "lines", data)
     (place.root / "link").symlink_to("lines")
     figures = "fractal figures"
     one_sentence_each([
@@ -222,15 +222,15 @@ def long_runs_are_replayed(place: Place) -> None:
     place.needs_second_program()
     for kind, size, words in (("walk", "60", ("least",)), ("nest", "30", ("lockstep", "9000", "7", "--phase", "1")),
                               ("walk", "60", ("lockstep", "9000", "0", "--tiles", "2", "--quantum", "3"))):
-        image = written(place, "image", place.call("fractal generate", kind, "7", size).output)
+        image = write_file(place, "image", place.call("fractal generate", kind, "7", size).output)
         lines = place.call("fractal", "watch", *words, stdin=(place.root / "image").read_bytes()).output
         rows, _ = rows_of(place, lines, "--image", image)
         expect(rows["end", ""] == "normal", f"a whole run of {kind}", rows["end", ""])
-    other = written(place, "other", place.call("fractal generate", "nest", "7", "30").output)
+    other = write_file(place, "other", place.call("fractal generate", "nest", "7", "30").output)
     odd = bytearray((place.root / "image").read_bytes())
     # The first instruction's destination, which is a word of the text behind the header.
     odd[32 + 1] ^= 1
-    changed = written(place, "changed", bytes(odd))
+    changed = write_file(place, "changed", bytes(odd))
     one_sentence_each([
         (place.call("fractal figures", "lines", "--image", other), ["figures: lines:1: `root`"]),
         (place.call("fractal figures", "lines", "--image", changed), ["by the image's text"]),
@@ -243,7 +243,7 @@ def long_runs_are_replayed(place: Place) -> None:
 
 def addresses_have_labels(place: Place) -> None:
     """with a listing, lines and addresses where tasks were taken back are told with their labels"""
-    lines = written(place, "lines", shared_words().end())
+    lines = write_file(place, "lines", shared_words().end())
     listing = place.root / "listing"
     listing.write_text("00010000  00000073  ecall\n10000000 <first>:\n10000020 <other>:\n")
     answer = place.call("fractal figures", lines, "--listing", str(listing))

@@ -57,7 +57,7 @@ def readers_are_interrupted(place: Place) -> None:
                 return False
 
             for number in (signal.SIGINT, signal.SIGTERM):
-                answer = place.interrupted(*words_of(place, words), ready=ready, number=number)
+                answer = place.interrupt(*words_of(place, words), ready=ready, number=number)
                 answer.sentence(f"{words[0]}: interrupted.", status=128 + number)
                 expect(answer.output == b"", "nothing written", answer)
         pipe.unlink()
@@ -70,8 +70,8 @@ def readers_are_interrupted(place: Place) -> None:
         time.sleep(1)
         return mark.exists()
 
-    answer = place.interrupted("/bin/sh", "-c", script, str(place.clone / "fractal"),
-                               str(place.root / "a pipe"), str(mark), ready=has_begun)
+    answer = place.interrupt("/bin/sh", "-c", script, str(place.clone / "fractal"),
+                             str(place.root / "a pipe"), str(mark), ready=has_begun)
     answer.sentence("refusal: interrupted.", status=130)
     (place.root / "a pipe").unlink()
     mark.unlink()
@@ -86,7 +86,7 @@ def callers_are_interrupted(place: Place) -> None:
         place.stub(program, ENDLESS.format(mark))
     before = written_tree(place.root)
     for words in CALLERS:
-        answer = place.interrupted(*words_of(place, words), ready=mark.exists)
+        answer = place.interrupt(*words_of(place, words), ready=mark.exists)
         answer.sentence(f"{words[0]}: interrupted.", status=130)
         mark.unlink()
         pieces = place.root / "pieces"

@@ -5,7 +5,7 @@ import json
 from typing import Any, Dict, List, Sequence
 
 from tries.place import Place, expect, one_sentence_each
-from tries.schedules import written
+from tries.schedules import write_file
 
 # Small queues, so that tasks are spilled and steps stall.
 SETTINGS = ("--tiles", "3", "--cores", "2", "--task-queue", "8", "--commit-queue", "2", "--phase", "2")
@@ -13,7 +13,7 @@ ROUNDS = 4_000
 Line = Dict[str, Any]
 
 
-def told(place: Place, image: bytes, *words: str, settings: Sequence[str] = SETTINGS) -> List[Line]:
+def told_lines(place: Place, image: bytes, *words: str, settings: Sequence[str] = SETTINGS) -> List[Line]:
     """What the second program tells, without the head."""
     answer = place.call("fractal", "watch", *words, *settings, stdin=image)
     return [json.loads(line) for line in answer.output.splitlines()][1:]
@@ -37,8 +37,8 @@ def one_shuffle(place: Place) -> None:
         runs = []
         for seed in ("0", "7", "4294967295"):
             script = place.call("fractal lockstep", "3", "2", str(ROUNDS), "--seed", seed).output
-            rounds = told(place, image, "lockstep", str(ROUNDS), seed)
-            steps = told(place, image + script, "steps")
+            rounds = told_lines(place, image, "lockstep", str(ROUNDS), seed)
+            steps = told_lines(place, image + script, "steps")
             runs.append(without_passed(rounds))
             expect(rounds[-1]["end"] == "normal" and any(line.get("reply") == "stall" for line in rounds),
                    "a run with stalls up to its end", rounds[-1])
@@ -54,16 +54,16 @@ def runs_have_scripts(place: Place) -> None:
     image = place.call("fractal generate", "nest", "7", "12").output
     for course in (("lockstep", str(ROUNDS), "0"), ("lockstep", str(ROUNDS), "7"), ("least",)):
         answer = place.call("fractal", "watch", *course, *SETTINGS, stdin=image)
-        lines = written(place, "lines", answer.output)
+        lines = write_file(place, "lines", answer.output)
         script = place.call("fractal lockstep", "--of", lines).output
-        again = told(place, image + script, "steps")
+        again = told_lines(place, image + script, "steps")
         first = [json.loads(line) for line in answer.output.splitlines()][1:]
         expect(len(script.splitlines()) == sum("reply" in line for line in first), "an act for each line")
         for one, other in zip(first, again):
             expect({**one, "at": 0} == {**other, "at": 0}, f"the same line of {course}", (one, other))
         expect(len(first) == len(again), f"as many lines of {course}", (len(first), len(again)))
-    steps = written(place, "steps", place.call("fractal", "watch", "steps", stdin=image).output)
-    cut = written(place, "cut", (place.root / "lines").read_bytes()[:-1])
+    steps = write_file(place, "steps", place.call("fractal", "watch", "steps", stdin=image).output)
+    cut = write_file(place, "cut", (place.root / "lines").read_bytes()[:-1])
     one_sentence_each([
         (place.call("fractal lockstep", "--of", steps), ["steps: this run was made of a script"]),
         (place.call("fractal lockstep", "--of", cut), ["no newline"]),
@@ -80,12 +80,12 @@ def livelocks_end(place: Place) -> None:
     image, script = (folder / "image.bin").read_bytes(), (folder / "script").read_bytes()
     settings = (folder / "words").read_text().split()[1:]
     expect(place.call("fractal lockstep", "2", "1", "30").output == script, "the script of thirty rounds")
-    lines = told(place, image + script, "views", "8", "steps", settings=settings)
+    lines = told_lines(place, image + script, "views", "8", "steps", settings=settings)
     views = [line["tiles"] for line in lines if "view" in line]
     expect(len(views) == 30 and views[3] != views[4] and all(view == views[4] for view in views[4:]),
            "one view behind each round from the fifth on", views)
     for words, end, journal in (((), "normal", 7), (("barren", "30"), "open", 1)):
-        last = told(place, image, "lockstep", "30", "0", *words, settings=settings)[-1]
+        last = told_lines(place, image, "lockstep", "30", "0", *words, settings=settings)[-1]
         expect((last["end"], last["journal"]) == (end, journal), f"the end of rounds {words}", last)
 
 

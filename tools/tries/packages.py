@@ -132,7 +132,7 @@ def packages_are_of_one_commit(place: Place) -> None:
     place.call("fractal", "package").sentence("can't be written", status=69)
     mark = place.root / "started"
     place.stub_tool("gzip", f"touch '{mark}'; exec sleep 100\n")
-    place.interrupted("fractal", "package", ready=mark.exists).sentence("interrupted", status=130)
+    place.interrupt("fractal", "package", ready=mark.exists).sentence("interrupted", status=130)
     expect(not list(place.root.glob("*fractal-*")) and not list(place.root.glob(".fractal*")), "no archive")
     place.is_clean()
 

@@ -9,18 +9,18 @@ import shutil
 from collections.abc import Sequence
 from typing import Any, Callable, Optional, Union
 
-from yotarimu.lines.reader import open_watched
+from yotarimu.lines.reader import open_lines
 from yotarimu.lines.sentences import label_of
-from yotarimu.pictures.page import Passed
+from yotarimu.pictures.page import Totals
 from yotarimu.programs.examples import SCHEDULES
 
-from tries.place import Failed, LeftOut, Place, expect, one_sentence_each
-from tries.schedules import written
-from tries.told_lines import Told
+from tries.place import Failure, Omission, Place, expect, one_sentence_each
+from tries.schedules import write_file
+from tries.lines_text import LinesText
 from yotarimu.lines.replay import Machine, Task
 
 # What a page has to show behind an act, and the bytes of memory that it may show, by address.
-Standing = tuple[list[Any], dict[int, int]]
+PageState = tuple[list[Any], dict[int, int]]
 BROWSERS = ("chromium", "chromium-browser", "google-chrome")
 # The browser ends once the page has been at work for so long, by the page's own clock.
 MOST_MILLISECONDS = "60000"
@@ -71,10 +71,10 @@ def browser() -> str:
     for name in BROWSERS:
         if (found := shutil.which(name)) is not None:
             return found
-    raise LeftOut(f"it wants a browser: {', '.join(BROWSERS)}")
+    raise Omission(f"it wants a browser: {', '.join(BROWSERS)}")
 
 
-def opened(place: Place, page: Union[str, pathlib.Path], act: object = None) -> dict[str, Optional[str]]:
+def open_page(place: Place, page: Union[str, pathlib.Path], act: object = None) -> dict[str, Optional[str]]:
     """The attributes of a page's body, once a browser has opened it, at an act if one is told."""
     url = pathlib.Path(page).as_uri() + ("" if act is None else f"#{act}")
     # The browser's sandbox isn't for root.
@@ -84,7 +84,7 @@ def opened(place: Place, page: Union[str, pathlib.Path], act: object = None) -> 
     answer = place.call(browser(), *words)
     attributes = Body(answer.output.decode()).attributes
     if answer.status != 0 or not attributes or "data-at" not in attributes:
-        raise Failed(f"expected a page that plays; seen {answer}")
+        raise Failure(f"expected a page that plays; seen {answer}")
     return attributes
 
 
@@ -98,26 +98,26 @@ def page_at(place: Place, name: str, page: bytes, script: str = "") -> pathlib.P
 
 def seen_on(place: Place, page: bytes, script: str) -> Any:
     """What a script notes on a page."""
-    attributes = opened(place, page_at(place, "scripted.html", page, script), 0)
+    attributes = open_page(place, page_at(place, "scripted.html", page, script), 0)
     seen = attributes.get("data-seen")
     expect(seen is not None, "a page that plays each act", attributes)
     return json.loads(seen or "")
 
 
-def walked(place: Place, page: bytes, lines: str, first: int) -> None:
+def walk_page(place: Place, page: bytes, lines: str, first: int) -> None:
     """Holds each act of a page against the reader, on the way forwards and on the way back."""
     forwards, back = seen_on(place, page, WALK)
     compare(lines, first, forwards)
     expect(forwards == back, f"the same of {lines} on the way back")
 
 
-def shown(place: Place, lines: str, *words: str) -> bytes:
+def show_lines(place: Place, lines: str, *words: str) -> bytes:
     answer = place.call("fractal show", lines, *words)
     expect((answer.status, answer.errors) == (0, ""), f"a page of {lines}", answer)
     return answer.output
 
 
-def stored(place: Place, name: str = "conflict") -> tuple[str, str]:
+def stored_page(place: Place, name: str = "conflict") -> tuple[str, str]:
     folder = place.clone / "examples" / "schedules" / name
     return str(folder / "lines"), str(folder / "listing")
 
@@ -125,7 +125,7 @@ def stored(place: Place, name: str = "conflict") -> tuple[str, str]:
 # ---- what the reader of lines knows
 
 
-def standing(machine: Machine, passed: Passed) -> Standing:
+def page_state(machine: Machine, passed: Totals) -> PageState:
     """What a page has to show of the machine behind an act: the act, events, the lanes, what is counted, the commits;
     and the bytes that it may show."""
     def named(number: Optional[int], beside: Callable[[Task], str]) -> Optional[list[object]]:
@@ -146,22 +146,22 @@ def standing(machine: Machine, passed: Passed) -> Standing:
     return [machine.acts, machine.events, tiles, counts, machine.commits], machine.memory.bytes()
 
 
-def standings(lines: str) -> list[Standing]:
+def page_states(lines: str) -> list[PageState]:
     """The same behind the opening and behind each act of a text."""
-    found: list[Standing] = []
-    passed = Passed()
-    with open_watched(lines) as watched:
+    found: list[PageState] = []
+    passed = Totals()
+    with open_lines(lines) as watched:
         for told in watched:
             passed.follow(told)
             if not told.is_act():
                 found.clear()
-            found.append(standing(watched.machine, passed))
+            found.append(page_state(watched.machine, passed))
     return found
 
 
 def compare(lines: str, first: int, seen: Sequence[Any]) -> None:
     """Holds what a browser showed behind each act from the first on against the reader."""
-    wanted = standings(lines)[first:]
+    wanted = page_states(lines)[first:]
     expect(len(seen) == len(wanted), f"{len(wanted)} acts of {lines}", len(seen))
     for (*shown_there, words, entries), ((*told, commits), memory) in zip(seen, wanted):
         act = f"act {told[0]} of {lines}"
@@ -186,17 +186,17 @@ def watched_lines(place: Place, words: Sequence[str], given: bytes, name: str) -
 
 def stored_lines_are_shown(place: Place) -> None:
     """a browser shows the stored lines as the reader of lines has them, alone, at the act that is asked for, by keys"""
-    lines, listing = stored(place)
-    page = shown(place, lines, listing)
+    lines, listing = stored_page(place)
+    page = show_lines(place, lines, listing)
     expect(b"://" not in page, "a page that asks for nothing else")
     plain = page_at(place, "a page.html", page)
     for act, at in ((6, 6), (0, 0), (None, 0), (17, 17), (99, 17), ("x", 0)):
-        attributes = opened(place, plain, act)
+        attributes = open_page(place, plain, act)
         expect((attributes["data-at"], attributes["data-n"]) == (str(at), str(at)), f"act {at}", attributes)
     pressed = seen_on(place, page, PRESS % json.dumps(KEYS))
     expect(pressed == PRESSED, f"the acts {PRESSED}", pressed)
     for first, words in ((0, ()), (5, ("--from", "5")), (8, ("--from=8", "--to=17"))):
-        walked(place, shown(place, lines, *words), lines, first)
+        walk_page(place, show_lines(place, lines, *words), lines, first)
 
 
 def runs_are_shown(place: Place) -> None:
@@ -207,23 +207,24 @@ def runs_are_shown(place: Place) -> None:
         folder = place.clone / "examples" / name
         given = (folder / "image.bin").read_bytes() + (folder / "script").read_bytes()
         lines = watched_lines(place, (folder / "words").read_text().split(), given, "lines")
-        walked(place, shown(place, lines, *map(str, folder.glob("listing"))), lines, 0)
+        walk_page(place, show_lines(place, lines, *map(str, folder.glob("listing"))), lines, 0)
         if name == "schedules/conflict":
-            expect(pathlib.Path(lines).read_bytes() == pathlib.Path(stored(place)[0]).read_bytes(), "the stored lines")
+            own = pathlib.Path(stored_page(place)[0]).read_bytes()
+            expect(pathlib.Path(lines).read_bytes() == own, "the stored lines")
     image = place.call("fractal generate", "nest", "7", "40").output
     words = ("lockstep", "40", "7", "--tiles", "8", "--task-queue", "8", "--commit-queue", "4", "--phase", "1")
     lines = watched_lines(place, words, image, "lines")
     text = pathlib.Path(lines).read_text()
     for part in ('"gone"', '"spilled"', '"split"', '"stall"'):
         expect(part in text, f"{part} in a run with small queues")
-    ats = [at for (at, *_), _ in standings(lines)]
+    ats = [at for (at, *_), _ in page_states(lines)]
     for first in (0, len(ats) // 2):
-        walked(place, shown(place, lines, "--from", str(ats[first])), lines, first)
+        walk_page(place, show_lines(place, lines, "--from", str(ats[first])), lines, first)
 
 
 def children_spilled_before_the_page_count(place: Place) -> None:
     """a page that begins behind spilled children of a task that makes more names all of them as the reader does"""
-    told = Told([0], [0], tiles=1, cores=1, task_queue=4)
+    told = LinesText([0], [0], tiles=1, cores=1, task_queue=4)
     queued: dict[int, int] = {}
     told.dispatch(0, 0, 0, 0)
     for child in range(10):
@@ -235,16 +236,16 @@ def children_spilled_before_the_page_count(place: Place) -> None:
         told.enqueue(0, 0, 0, 1, len(queued), **change)
     told.finish(0, 0, 0, 1)
     told.commit(0, [0, 0], 0)
-    lines = written(place, "lines", told.end())
+    lines = write_file(place, "lines", told.end())
     names = {label_of(task) for task in all_tasks(lines)}
     expect(names == {f"1.{child}" for child in range(10)}, "ten children", names)
     for first in range(12):
-        walked(place, shown(place, lines, "--from", str(first)), lines, first)
+        walk_page(place, show_lines(place, lines, "--from", str(first)), lines, first)
 
 
 def all_tasks(lines: str) -> list[Task]:
     """The uncommitted tasks that a text leaves."""
-    with open_watched(lines) as watched:
+    with open_lines(lines) as watched:
         for _ in watched:
             pass
         return list(watched.machine.all_tasks())
@@ -252,21 +253,21 @@ def all_tasks(lines: str) -> list[Task]:
 
 def long_runs_want_a_range(place: Place) -> None:
     """above 50,000 acts a page wants a range, and a text that was cut is shown where that is asked for"""
-    lines, _ = stored(place)
+    lines, _ = stored_page(place)
     opening = pathlib.Path(lines).read_bytes().splitlines(keepends=True)[:3]
     refused = b'{"at":%d,"do":"abort","tile":0,"reply":"empty","n":0}\n'
     path = place.root / "long"
     path.write_bytes(b"".join([*opening, *(refused % act for act in range(1, 50_002))]))
     place.call("fractal show", "--cut", str(path)).sentence("more than 50,000 acts", "--from ACT")
     place.call("fractal show", str(path), "--to", "50000").sentence("no end", "line 50004")
-    page = shown(place, str(path), "--cut", "--from", "1")
+    page = show_lines(place, str(path), "--cut", "--from", "1")
     expect(page.count(b'"reply":"empty"') == 50_000, "50,000 acts")
 
 
 def other_texts_are_refused(place: Place) -> None:
     """a text that isn't whole lines of the second program, other listings and bad words are told in a sentence"""
     show = "fractal show"
-    lines, listing = stored(place)
+    lines, listing = stored_page(place)
     text = pathlib.Path(lines).read_bytes()
     whole = text.splitlines(keepends=True)
     pipeline = str(place.clone / "examples" / "pipeline" / "listing")

@@ -17,7 +17,7 @@ import time
 from collections.abc import Iterable, Sequence
 from typing import Any, Callable, Optional, Union
 
-from yotarimu.common.outcome import Refused
+from yotarimu.common.outcome import Refusal
 from yotarimu.common.places import HOME
 from yotarimu.programs.program import PROGRAM, SECOND_PROGRAM
 
@@ -32,11 +32,11 @@ MOST_SECONDS = 600
 MOST_SECONDS_OF_ENDING = 60
 
 
-class Failed(Exception):
+class Failure(Exception):
     """A try went otherwise than its sentence says."""
 
 
-class LeftOut(Exception):
+class Omission(Exception):
     """A try wants what isn't there. Its text says what."""
 
 
@@ -63,12 +63,12 @@ class Answer:
 
 def expect(is_so: object, what: str, seen: object = None) -> None:
     if not is_so:
-        raise Failed(f"expected {what}" + (f"; seen {seen}" if seen is not None else ""))
+        raise Failure(f"expected {what}" + (f"; seen {seen}" if seen is not None else ""))
 
 
 def need_built(*programs: pathlib.Path) -> None:
     if not all(program.exists() for program in programs):
-        raise LeftOut("it wants the built program: ./fractal prove")
+        raise Omission("it wants the built program: ./fractal prove")
 
 
 def put_built(program: pathlib.Path, path: pathlib.Path) -> None:
@@ -112,7 +112,7 @@ class Place:
                               stderr=subprocess.PIPE, text=True, errors="replace")
         if done.returncode != 0:
             last = (done.stderr.strip().splitlines() or [f"git ended with status {done.returncode}"])[-1]
-            raise Refused(f"{HOME}: it can't be cloned: {last}")
+            raise Refusal(f"{HOME}: it can't be cloned: {last}")
 
     def remove(self) -> None:
         if self.is_unwritable:
@@ -172,7 +172,7 @@ class Place:
             done = subprocess.run([*self.command(words[0]), *map(str, words[1:])], input=stdin, capture_output=True,
                                   timeout=MOST_SECONDS, cwd=cwd or self.root, env=self.environment, **self.user())
         except subprocess.TimeoutExpired:
-            raise Failed(f"expected an end of {words[0]} within {MOST_SECONDS} seconds") from None
+            raise Failure(f"expected an end of {words[0]} within {MOST_SECONDS} seconds") from None
         return Answer(done.returncode, done.stdout, done.stderr.decode("utf-8", "replace"))
 
     def command(self, word: Word) -> list[str]:
@@ -186,15 +186,15 @@ class Place:
         """Calls a script of the shell, in which `"$0"` is the launcher, and `"$1"` is the first of the words."""
         return self.call("/bin/sh", "-c", script, str(self.clone / "fractal"), *words)
 
-    def interrupted(self, *words: Word, ready: Callable[[], object], number: int = signal.SIGINT,
-                    cwd: Optional[Word] = None) -> Answer:
+    def interrupt(self, *words: Word, ready: Callable[[], object], number: int = signal.SIGINT,
+                  cwd: Optional[Word] = None) -> Answer:
         """Sends a signal to a call and to all that it started, once `ready` holds."""
         process = subprocess.Popen([*self.command(words[0]), *map(str, words[1:])], stdin=subprocess.DEVNULL,
                                    stdout=subprocess.PIPE, stderr=subprocess.PIPE, cwd=cwd or self.root,
                                    env=self.environment, start_new_session=True)
         wait_for(lambda: process.poll() is not None or ready())
         if process.poll() is not None:
-            raise Failed(f"expected {words[0]} to wait; it ended with {process.communicate()}")
+            raise Failure(f"expected {words[0]} to wait; it ended with {process.communicate()}")
         # A signal that comes right before a read is answered only once that read ends.
         time.sleep(0.3)
         os.killpg(process.pid, number)
@@ -203,7 +203,7 @@ class Place:
         except subprocess.TimeoutExpired:
             os.killpg(process.pid, signal.SIGKILL)
             process.communicate()
-            raise Failed(f"expected an end of {words[0]} once it is interrupted") from None
+            raise Failure(f"expected an end of {words[0]} once it is interrupted") from None
         return Answer(process.returncode, output, errors.decode("utf-8", "replace"))
 
     def is_clean(self) -> None:

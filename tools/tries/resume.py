@@ -7,7 +7,7 @@ import signal
 import subprocess
 
 from yotarimu.images.image import image_bytes
-from yotarimu.images.loads import generated
+from yotarimu.images.loads import generate
 
 from tries.place import MOST_SECONDS_OF_ENDING, Place, Word, expect, one_sentence_each, wait_for
 
@@ -20,7 +20,7 @@ def example(place: Place, name: str, file: str = "image.bin") -> pathlib.Path:
 
 def written_walk(place: Place) -> pathlib.Path:
     image = place.root / "walk.bin"
-    image.write_bytes(image_bytes(generated(*WALK)))
+    image.write_bytes(image_bytes(generate(*WALK)))
     return image
 
 
@@ -49,7 +49,7 @@ def interrupted_pieces_go_on(place: Place) -> None:
     place.needs_program()
     image, folder = written_walk(place), place.root / "pieces"
     words = ("fractal resume", image, folder, "--every", "50")
-    answer = place.interrupted(*words, ready=lambda: (folder / "0004.report").exists())
+    answer = place.interrupt(*words, ready=lambda: (folder / "0004.report").exists())
     expect(answer.status == 130, "status 130", answer)
     expect(not (folder / "report").exists(), "no joined report yet")
     first = (folder / "0002.report").stat().st_mtime_ns

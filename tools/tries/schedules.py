@@ -21,7 +21,7 @@ def schedule(place: Place, name: str) -> tuple[str, str]:
     return str(folder / "script"), str(folder / "said")
 
 
-def written(place: Place, name: str, data: bytes) -> str:
+def write_file(place: Place, name: str, data: bytes) -> str:
     path = place.root / name
     path.write_bytes(data)
     return str(path)
@@ -51,14 +51,14 @@ def long_schedules_are_drawn(place: Place) -> None:
         return len([it for it in root.iter() if it.tag.endswith("title")]), " ".join(picture_in(answer.output))
 
     lockstep = ["fractal lockstep", "4", "2"]
-    script = written(place, "script", place.call(*lockstep, "20").output)
+    script = write_file(place, "script", place.call(*lockstep, "20").output)
     titles, text = drawn(script, 400)
     expect(titles == 400 and "400 acts; 0 commits" in text, "a mark for each act", text)
-    script = written(place, "script", place.call(*lockstep, "200").output)
+    script = write_file(place, "script", place.call(*lockstep, "200").output)
     titles, text = drawn(script, 3_400, b"ended 0\n" * 600)
     expect("3,400 acts and 600 after the end; a column is 2 rounds; 0 commits" in text, "rounds", text)
     expect(titles == 4 * 85, "a cell for each tile and two rounds before the end", titles)
-    script = written(place, "script", b"commit\n" * 500 + b"split 1\n")
+    script = write_file(place, "script", b"commit\n" * 500 + b"split 1\n")
     expect("501 acts; a column is 5 acts; " in drawn(script, 501)[1], "acts")
 
 
@@ -74,7 +74,7 @@ def schedules_are_summed_up(place: Place) -> None:
     answer = place.call("fractal tally", script, said, apart, "--plot", "a plot.svg")
     expect("| Tasks taken back | 1 | 0 |" in answer.output.decode(), "both outputs", answer)
     expect("commits" in picture_in((place.root / "a plot.svg").read_bytes()), "the axis's name")
-    script = written(place, "lockstep", place.call("fractal lockstep", "2", "1", "30").output)
+    script = write_file(place, "lockstep", place.call("fractal lockstep", "2", "1", "30").output)
     given = b"empty 0\n" * 236 + b"ended 0\n" * 4 + OPEN_REPORT
     answer = place.call("fractal tally", script, "-", "--csv", "t.csv", stdin=given)
     expect("| Rounds | 30 |" in answer.output.decode(), "rounds of a lockstep schedule", answer)
@@ -144,7 +144,7 @@ def inputs_are_kept(place: Place) -> None:
 def odd_names_are_borne(place: Place) -> None:
     """a name with bytes that are no text, or with controls, stands escaped in tables, CSV and a well-formed plot"""
     script, said = schedule(place, "conflict")
-    other = written(place, "said\udcff\x01", pathlib.Path(said).read_bytes())
+    other = write_file(place, "said\udcff\x01", pathlib.Path(said).read_bytes())
     answer = place.call("fractal tally", script, said, other, "--csv", "t.csv", "--plot", "p.svg")
     expect((answer.status, answer.errors) == (0, ""), "a table", answer)
     shown = "said\\udcff\\x01"
@@ -217,7 +217,7 @@ def images_are_generated(place: Place) -> None:
 def studies_are_made(place: Place) -> None:
     """a study has a line for each choice of options, whose runs end, and the same with several at once"""
     place.needs_second_program()
-    image = written(place, "image", place.call("fractal generate", "walk", "7", "150").output)
+    image = write_file(place, "image", place.call("fractal generate", "walk", "7", "150").output)
     words = ["fractal study", image, "--tiles", "1,2", "--line", "4,64"]
     answer, again = place.call(*words), place.call(*words, "--jobs", "3")
     lines = answer.output.decode().splitlines()
@@ -226,7 +226,7 @@ def studies_are_made(place: Place) -> None:
     expect([re.findall(r"\d+", line)[:2] for line in lines[2:]] == [["1", "4"], ["1", "64"], ["2", "4"], ["2", "64"]],
            "each choice", lines)
     expect("| Rounds | Acts | Commits a round |" in lines[0], "rounds beside acts", lines)
-    other = written(place, "other", place.call("fractal generate", "nest", "0", "3").output)
+    other = write_file(place, "other", place.call("fractal generate", "nest", "0", "3").output)
     answer = place.call("fractal study", image, other, "--columns", "commits,fewer,end")
     rows = [line.split(" | ") for line in answer.output.decode().splitlines()[2:]]
     wanted = [["300", "1.0", "normal |"], ["9", "1.0", "normal |"]]
@@ -244,7 +244,7 @@ def studies_are_made(place: Place) -> None:
         (place.call("fractal study", image, "--csv", image), ["image: this is read"]),
         (place.call("fractal study", image, image), ["stands twice"]),
     ])
-    odd = written(place, os.fsdecode(b"odd \xff"), (place.root / "image").read_bytes())
+    odd = write_file(place, os.fsdecode(b"odd \xff"), (place.root / "image").read_bytes())
     answer = place.call("fractal study", odd, "--csv", "x.csv")
     expect(answer.status == 0 and "odd \\udcff" in (place.root / "x.csv").read_text(), "a name that is no text", answer)
 
@@ -253,13 +253,13 @@ def studies_have_the_acts_of_schedules(place: Place) -> None:
     """a study of a course in lockstep counts what the first program says to the script of the same acts"""
     place.needs_program()
     place.needs_second_program()
-    image = written(place, "image", place.call("fractal generate", "nest", "0", "30").output)
+    image = write_file(place, "image", place.call("fractal generate", "nest", "0", "30").output)
     words = ["--tiles", "3", "--task-queue", "8", "--line", "8"]
     answer = place.call("fractal study", image, *words, "--csv", "study.csv")
     row, = csv.DictReader((place.root / "study.csv").read_text().splitlines())
     script = place.call("fractal lockstep", "3", "2", row["rounds"]).output
     said = place.call("fractal", "steps", *words, stdin=(place.root / "image").read_bytes() + script)
-    words = ["fractal tally", written(place, "script", script), "-", "--csv", "tally.csv"]
+    words = ["fractal tally", write_file(place, "script", script), "-", "--csv", "tally.csv"]
     answer = place.call(*words, stdin=said.output)
     expect(answer.status == 0, "a sum", answer)
     other, = csv.DictReader((place.root / "tally.csv").read_text().splitlines())
@@ -271,7 +271,7 @@ def studies_have_the_acts_of_schedules(place: Place) -> None:
 def endless_choices_are_rows(place: Place) -> None:
     """a choice without an end is a row that says so, with its numbers, and so is one that fails; CSV has numbers"""
     place.needs_second_program()
-    image = written(place, "image", place.call("fractal generate", "walk", "7", "500").output)
+    image = write_file(place, "image", place.call("fractal generate", "walk", "7", "500").output)
     words = ["fractal study", image, "--rounds", "250", "--csv", "study.csv"]
     answer = place.call(*words, "--tiles", "1,16")
     lines = answer.output.decode().splitlines()
@@ -313,7 +313,7 @@ All of it:
 def pages_are_made_again(place: Place) -> None:
     """the tables of a page are held against what its commands tell, and replaced where that is asked for"""
     place.needs_second_program()
-    path = written(place, "page.md", PAGE.encode())
+    path = write_file(place, "page.md", PAGE.encode())
     place.call("fractal study", "--page", path).sentence("1 of 1 tables differ")
     expect((place.root / "page.md").read_text() == PAGE, "the page as it was")
     answer = place.call("fractal study", "--page", path, "--write")
@@ -324,7 +324,7 @@ def pages_are_made_again(place: Place) -> None:
     bad = {"walk.bin --tiles 2,1": "walk.bin --tiles 0", "> walk.bin": "> other.bin",
            "./fractal study walk": "./fractal x", "All of it:\n\n|": "## More\n\n|"}
     for old, new in bad.items():
-        path = written(place, "bad.md", PAGE.replace(old, new).encode())
+        path = write_file(place, "bad.md", PAGE.replace(old, new).encode())
         place.call("fractal study", "--page", path).sentence("study: ")
     one_sentence_each([
         (place.call("fractal study", "--page", "nowhere"), ["nowhere", "no such file"]),
@@ -342,11 +342,11 @@ def odd_pages_are_refused(place: Place) -> None:
                        ("./fractal lockstep 1 1 1 > ../other", "outside"),
                        (f"./fractal lockstep 1 1 1 > '{other}'", "outside"), ("./fractal help", "no block")):
         data = block.format(line).encode()
-        place.call(study, "--page", written(place, "page.md", data), "--write").sentence("study: ", part)
+        place.call(study, "--page", write_file(place, "page.md", data), "--write").sentence("study: ", part)
         expect((place.root / "page.md").read_bytes() == data, "the page as it was")
     one_sentence_each([
         (place.call(study, "--page", "-", "--write", stdin=block.encode()), ["not standard input"]),
-        (place.call(study, "--page", written(place, "page.md", b"```\n./fractal shell\n```\n\xff")), ["UTF-8"]),
+        (place.call(study, "--page", write_file(place, "page.md", b"```\n./fractal shell\n```\n\xff")), ["UTF-8"]),
     ])
     expect(not other.exists() and not (place.root / "-").exists(), "no other file")
     place.is_clean()
@@ -357,7 +357,7 @@ def lines_of_pages_end_as_they_did(place: Place) -> None:
     command = place.clone / "tools" / "yotarimu" / "commands" / "shell.py"
     command.write_text("def main(words):\n    print('| 1 |')\n")
     page = b"```\r\n./fractal shell\r\n```\r\n\r\n| 0 |\r\n"
-    path = written(place, "page.md", page)
+    path = write_file(place, "page.md", page)
     answer = place.call("fractal study", "--page", path, "--write")
     expect((answer.status, (place.root / "page.md").read_bytes()) == (0, page.replace(b"0", b"1")), "the ends", answer)
     command.write_text(f"def main(words):\n    print('| 2 |')\n    open({str(path)!r}, 'a').write('more\\n')\n")
@@ -371,7 +371,7 @@ def study_is_as_it_was(place: Place) -> None:
     study = (place.clone / "docs" / "machine" / "STUDY.md").read_text()
     text = "```\n./fractal generate walk 7 250 > small.bin\n```\n\n"
     text += study[study.index("## Queues"):study.index("## Scratch")]
-    answer = place.call("fractal study", "--page", written(place, "page.md", text.encode()))
+    answer = place.call("fractal study", "--page", write_file(place, "page.md", text.encode()))
     told = [line.rpartition(": ")[2] for line in answer.output.decode().splitlines()]
     expect((answer.status, told) == (0, ["as it was"] * 2), "both tables", answer)
 
@@ -459,7 +459,7 @@ def benches_are_told(place: Place) -> None:
         (place.call("bench/run", "--loads", "--csv"), ["--csv"]),
         (place.call("bench/run", "--compare", old), ["bench/run --help"]),
         (place.call("bench/run", "--compare", old, str(place.clone / "README.md")), ["README.md", "no figures"]),
-        *((place.call("bench/run", "--compare", old, written(place, "odd.csv", head + row)), ["odd.csv:2:", part])
+        *((place.call("bench/run", "--compare", old, write_file(place, "odd.csv", head + row)), ["odd.csv:2:", part])
           for row, part in ((b"a,b,c,nan\n", "no figure"), (b"a,b,c,1e999\n", "no figure"),
                             (b"a," + b"b" * 200_000 + b",c,1\n", "no row of CSV"))),
     ])
@@ -515,7 +515,7 @@ def interrupted_plays_leave_nothing(place: Place) -> None:
                   ["fractal memory", "steps"], ["bench/run", "--workers"],
                   ["bench/same", str(place.program), str(place.program), "9"]):
         mark.unlink(missing_ok=True)
-        place.interrupted(*words, ready=mark.exists).sentence("interrupted", status=130)
+        place.interrupt(*words, ready=mark.exists).sentence("interrupted", status=130)
     place.is_clean()
 
 

@@ -8,7 +8,7 @@ from typing import Dict, List
 
 from tries.files import picture_in
 from tries.place import Place, expect, one_sentence_each
-from tries.schedules import written
+from tries.schedules import write_file
 
 CHOICES = ("--tiles", "1,2,4", "--line", "4,64")
 
@@ -18,7 +18,7 @@ def rows_at(place: Place, name: str) -> List[Dict[str, str]]:
 
 
 def walk_of(place: Place, size: str) -> str:
-    return written(place, "image", place.call("fractal generate", "walk", "7", size).output)
+    return write_file(place, "image", place.call("fractal generate", "walk", "7", size).output)
 
 
 def shards_of_studies_are_joined(place: Place) -> None:
@@ -85,7 +85,7 @@ def ended_studies_keep_their_rows(place: Place) -> None:
                                                  f"exec '{place.second_program}' \"$@\"\n")
     # One at a time, so that two rows are known once the third choice is played.
     words = ("fractal study", image, "--tiles", "1,2,4", "--csv", "rows.csv", "--program", str(program))
-    answer = place.interrupted(*words, ready=mark.exists)
+    answer = place.interrupt(*words, ready=mark.exists)
     expect(answer.status == 130 and "rows.csv has 2 of 3 rows" in answer.errors, "a sentence", answer)
     expect([row["--tiles"] for row in rows_at(place, "rows.csv")] == ["1", "2"], "the rows")
     place.is_clean()

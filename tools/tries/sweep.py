@@ -190,7 +190,7 @@ def interrupted_sweeps_leave_nothing(place: Place) -> None:
     for start, finished in (("", 0), (report, 1)):
         mark.unlink(missing_ok=True)
         place.stub(place.program, f"{start}touch '{mark}'; exec sleep 100\n")
-        answer = place.interrupted(*words, ready=mark.exists)
+        answer = place.interrupt(*words, ready=mark.exists)
         answer.sentence("interrupted", status=130)
         expect(not (place.root / "x.csv").exists(), "no file")
         expect(len(rows_in(answer.output)) == finished, "the rows that were finished", answer)

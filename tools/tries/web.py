@@ -14,28 +14,28 @@ from typing import Any, Dict, Iterator, List, Sequence, Tuple
 
 from yotarimu.common.places import EXAMPLES_FOLDER, HOME
 from yotarimu.images import loads
-from yotarimu.images.description import described
+from yotarimu.images.description import describe
 from yotarimu.images.image import DATA, image_bytes
 from yotarimu.images.listing import NO_LISTING, Listing, read_listing
 from yotarimu.images.source import assemble, source_at, sources_in
-from yotarimu.lines.reader import open_watched
+from yotarimu.lines.reader import open_lines
 from yotarimu.lines.replay import Machine
 from yotarimu.lines.sentences import end_told, label_of, opening_told, sentence_of
 from yotarimu.programs.examples import EXAMPLES, SCHEDULES, words_of
 from yotarimu.programs.program import SECOND_PROGRAM
-from yotarimu.web.bundling import constant, source, table_at
-from yotarimu.web.holding import Asked, engine, stored_calls
-from yotarimu.web.making import (
+from yotarimu.web.bundle import constant, source, table_at
+from yotarimu.web.comparison import Call, engine, stored_calls
+from yotarimu.web.modules import (
     COMMAND, PAGE, PROGRAMS, Modules, command_text, commit_path, module_path, modules, page_text)
-from yotarimu.web.narrowing import HEADER, number, number_at
+from yotarimu.web.wasm_tables import HEADER, number, number_at
 
 from tries.launcher import STUB_BUILD
-from tries.place import LeftOut, Place, expect, need_built, one_sentence_each
+from tries.place import Omission, Place, expect, need_built, one_sentence_each
 
 BROWSER_FOLDER = pathlib.Path(__file__).with_name("browser")
 # What the harnesses for Node are made of, in front of each.
-READER = ("texts.js", "machine.js", "telling.js", "images.js", "causes.js", "sentences.js")
-ASSEMBLER = ("host.js", "texts.js", "machine.js", "images.js", "assembler.js", "assembling.js", "sources.js")
+READER = ("texts.js", "machine.js", "lines.js", "images.js", "causes.js", "sentences.js")
+ASSEMBLER = ("host.js", "texts.js", "machine.js", "images.js", "assembler.js", "sections.js", "sources.js")
 CASES = "40"
 # The section of a module that tells its memory, and so many pages of 64 KiB as are too few for a large run.
 MEMORY, LITTLE = 5, 160
@@ -45,12 +45,12 @@ MOST_SECONDS = 600
 def need_command(*names: str) -> None:
     for name in names:
         if shutil.which(name) is None:
-            raise LeftOut(f"it wants {name}")
+            raise Omission(f"it wants {name}")
 
 
 def need_modules() -> Modules:
     if not all(path(crate).exists() for crate in PROGRAMS.values() for path in (module_path, commit_path)):
-        raise LeftOut("it wants the modules: ./fractal prove --web")
+        raise Omission("it wants the modules: ./fractal prove --web")
     return modules()
 
 
@@ -134,11 +134,11 @@ def web_memory(place: Place) -> None:
     paths = {name: place.root / f"{name}.wasm" for name in found.programs}
     for name, path in paths.items():
         path.write_bytes(with_most_memory(found.programs[name], LITTLE))
-    image = image_bytes(loads.generated("walk", 7, 20_000))
+    image = image_bytes(loads.generate("walk", 7, 20_000))
     with engine(paths) as running:
-        report = running.answer(Asked("sim", ("run",), image))
+        report = running.answer(Call("sim", ("run",), image))
         expect(report == (5, b""), "status 5 and nothing written", report.status)
-        lines = running.answer(Asked("watch", ("least",), image))
+        lines = running.answer(Call("watch", ("least",), image))
         expect(lines.status == 5 and (not lines.output or lines.output.endswith(b"\n")), "whole lines", lines.status)
 
 
@@ -163,7 +163,7 @@ def with_most_memory(module: bytes, pages: int) -> bytes:
 def web_sentences(place: Place) -> None:
     """the page's reader of lines tells each act, and the machine behind them, as the tools do"""
     need_built(SECOND_PROGRAM)
-    with Harness(place, "tellings", READER, constant("sentences", table_at("common/sentences.json"))) as harness:
+    with Harness(place, "sentences", READER, constant("sentences", table_at("common/sentences.json"))) as harness:
         for name, words in courses():
             hold_told(harness, name, words)
 
@@ -200,7 +200,7 @@ def told_by_tools(text: bytes, listing: Listing) -> Tuple[List[str], str, Machin
     with tempfile.NamedTemporaryFile() as lines:
         lines.write(text)
         lines.flush()
-        with open_watched(lines.name) as watched:
+        with open_lines(lines.name) as watched:
             told = [opening_told(watched.head)]
             told += [sentence_of(it, watched.machine, listing) for it in watched if it.is_act()]
         return told, end_told(watched.end or {}, listing), watched.machine
@@ -227,7 +227,7 @@ def texts_of(folder: pathlib.Path) -> List[Dict[str, str]]:
 
 def made_by_tools(folder: pathlib.Path) -> bytes:
     sources = sources_in(folder)
-    return image_bytes(described(sources, assemble(sources)))
+    return image_bytes(describe(sources, assemble(sources)))
 
 
 def hold_listing(harness: Harness, path: pathlib.Path) -> None:
@@ -247,7 +247,7 @@ def web_forms(place: Place) -> None:
     text = (BROWSER_FOLDER / "forms.s").read_text(encoding="utf-8")
     path = place.root / "forms.s"
     path.write_text(text, encoding="utf-8")
-    wanted = image_bytes(described([source_at(path)], assemble([source_at(path)])))
+    wanted = image_bytes(describe([source_at(path)], assemble([source_at(path)])))
     with Harness(place, "assemblies", ASSEMBLER) as harness:
         seen = harness.ask(sources=[{"name": "forms.s", "text": text}])
         made = base64.b64decode(seen.get("image", ""))
@@ -276,10 +276,10 @@ ODD_LINES = (
 # ---- the page in a browser
 
 
-def driven(place: Place, browser: str, *programs: str) -> None:
+def drive_page(place: Place, browser: str, *programs: str) -> None:
     need_command("node")
     if not any(shutil.which(program) for program in programs):
-        raise LeftOut(f"it wants a browser: {programs[0]}")
+        raise Omission(f"it wants a browser: {programs[0]}")
     page = place.root / PAGE
     page.write_text(page_text(need_modules()), encoding="utf-8")
     done = subprocess.run(["node", BROWSER_FOLDER / "drive.mjs", page, EXAMPLES_FOLDER], capture_output=True, text=True,
@@ -292,12 +292,12 @@ def driven(place: Place, browser: str, *programs: str) -> None:
 
 def web_page(place: Place) -> None:
     """the page is driven through its story, buttons, options, exercises, links, files and keys, in Chromium"""
-    driven(place, "chromium", "chromium")
+    drive_page(place, "chromium", "chromium")
 
 
 def web_page_in_firefox(place: Place) -> None:
     """the same in Firefox"""
-    driven(place, "firefox", "firefox-esr")
+    drive_page(place, "firefox", "firefox-esr")
 
 
 TRIES = (web_words, web_wants_a_toolchain, web_holds, web_command, web_memory, web_sentences, web_sources, web_forms,

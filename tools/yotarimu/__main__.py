@@ -6,7 +6,7 @@ import sys
 from typing import List, Optional
 
 from yotarimu import commands
-from yotarimu.common.outcome import Refused, run_script
+from yotarimu.common.outcome import Refusal, run_script
 
 NAME = "yotarimu"
 
@@ -30,7 +30,7 @@ def answer_by(name: str, words: List[str]) -> Optional[int]:
 
 def refuse(words: List[str]) -> int:
     told = f"`{words[0]}` is no command, which is" if words else "it wants a command:"
-    raise Refused(f"{told} {', '.join(commands.names())}.")
+    raise Refusal(f"{told} {', '.join(commands.names())}.")
 
 
 if __name__ == "__main__":

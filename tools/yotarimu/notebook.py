@@ -5,7 +5,7 @@
     lines = watch(image, "least", tiles=2)       # each act of the run, and its figures
     table = rows({"two tiles": lines.figures()}) # a row for each figure
 
-Options are those of the program, with `_` for `-`. What can't be done raises Refused, whose text is a sentence.
+Options are those of the program, with `_` for `-`. What can't be done raises Refusal, whose text is a sentence.
 """
 from __future__ import annotations
 
@@ -16,7 +16,7 @@ from collections.abc import Iterator, Mapping, Sequence
 from typing import Any, NamedTuple, Union
 
 from yotarimu.common.files import FilePath, read_bytes
-from yotarimu.common.outcome import Refused
+from yotarimu.common.outcome import Refusal
 from yotarimu.figures.run import Figures, figures_of
 from yotarimu.figures.tables import plain_rows
 from yotarimu.images.compiler import GCC
@@ -24,7 +24,7 @@ from yotarimu.images.folder import build as build_folder
 from yotarimu.images.image import Image, image_bytes
 from yotarimu.images.image import read_image as read_image_bytes
 from yotarimu.lines.fields import Line, Shapes
-from yotarimu.lines.reader import Watched
+from yotarimu.lines.reader import Reader
 from yotarimu.programs.calls import Calls
 from yotarimu.programs.program import PROGRAM, SECOND_PROGRAM, STATUSES, Answer
 from yotarimu.reports.report import Report
@@ -44,8 +44,8 @@ class Lines(NamedTuple):
         for text in self.data.decode("ascii", "replace").splitlines():
             yield shapes.line_of(text)
 
-    def reader(self) -> Watched:
-        return Watched(io.BytesIO(self.data), "a run")
+    def reader(self) -> Reader:
+        return Reader(io.BytesIO(self.data), "a run")
 
     def figures(self) -> Figures:
         return figures_of(self.reader())
@@ -76,7 +76,7 @@ def ask(program: pathlib.Path, words: Sequence[str], image: Image, options: Mapp
     answer = Calls(program).call([*words, *given], image_bytes(image))
     if answer.status not in STATUSES.values():
         said = answer.written[:200].decode("ascii", "replace").strip()
-        raise Refused(f"`{' '.join((*words, *given))}` ended with status {answer.status}{said and f': {said}'}.")
+        raise Refusal(f"`{' '.join((*words, *given))}` ended with status {answer.status}{said and f': {said}'}.")
     return answer
 
 

@@ -2,7 +2,7 @@
 
 import {createInterface} from "node:readline";
 
-class Refused extends Error {}
+class Refusal extends Error {}
 
 function made({sources, image}) {
   if (image !== undefined) return {listing: disassembled(new Uint8Array(Buffer.from(image, "base64")))};
@@ -10,7 +10,7 @@ function made({sources, image}) {
     const assembly = assembled(...sources);
     return {image: Buffer.from(imageOf(assembly)).toString("base64"), listing: listingOf(assembly)};
   } catch (error) {
-    if (error instanceof Refused) return {refused: error.message};
+    if (error instanceof Refusal) return {refused: error.message};
     throw error;
   }
 }

@@ -19,7 +19,7 @@ function expect(isSo, what, seen) {
 
 const SEEN = `({said: at("said").textContent, call: at("call").textContent, message: at("message").textContent,
   acts: course.length, at: current, script: script.length, course: courseNow().kind, name: subject.name,
-  end: telling.end && telling.end.end, verdict: at("verdict").textContent, report: at("report-said").textContent,
+  end: toldRun.end && toldRun.end.end, verdict: at("verdict").textContent, report: at("report-said").textContent,
   where: at("where").textContent, story: at("story").hidden ? "" : at("story-text").textContent})`;
 
 class Driver {

@@ -6,7 +6,7 @@ import functools
 from yotarimu.applications.application import Application, Problem
 from yotarimu.applications.chance import Chance
 from yotarimu.applications.graphs import Network, network
-from yotarimu.applications.inputs import Input, joined_roads, rows_of_words
+from yotarimu.applications.inputs import Input, join_roads, rows_of_words
 from yotarimu.applications.memory import Memory, need
 from yotarimu.applications.ways import FAR, shortest
 
@@ -17,7 +17,7 @@ def problem(side: int, chance: Chance) -> Problem:
     """A network of so many crossings along each side. The target is in the middle of the row three quarters down."""
     made = network(side, chance)
     target = side * (3 * side // 4) + side // 2
-    first, roads = joined_roads(made.roads)
+    first, roads = join_roads(made.roads)
     places = rows_of_words([(x % WORD, y % WORD) for x, y in made.places])
     given = Input({"NODES": len(made.roads), "ROADS": len(roads) // 8, "TARGET": target},
                   {"first": first, "roads": roads, "places": places})

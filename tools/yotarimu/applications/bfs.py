@@ -6,7 +6,7 @@ import functools
 from yotarimu.applications.application import Application, Problem
 from yotarimu.applications.chance import Chance
 from yotarimu.applications.graphs import Neighbours, mesh
-from yotarimu.applications.inputs import Input, joined, words
+from yotarimu.applications.inputs import Input, join_rows, words
 from yotarimu.applications.memory import Memory
 from yotarimu.applications.ways import need_shortest
 
@@ -14,7 +14,7 @@ from yotarimu.applications.ways import need_shortest
 def problem(side: int, chance: Chance) -> Problem:
     """A mesh of so many nodes along each side, to be searched from a corner."""
     neighbours = mesh(side, chance)
-    first, adjacent = joined(neighbours)
+    first, adjacent = join_rows(neighbours)
     given = Input({"NODES": len(neighbours), "EDGES": len(adjacent)},
                   {"first": words(first), "adjacent": words(adjacent)})
     return Problem(given, functools.partial(check, neighbours))

@@ -22,7 +22,7 @@ class Chance:
         """Whether something happens that does so many times in a hundred."""
         return self.number(1, 100) <= percent
 
-    def shuffled(self, items: Sequence[Item]) -> list[Item]:
+    def permutation(self, items: Sequence[Item]) -> list[Item]:
         """The items in another order, each order as likely."""
         mixed = list(items)
         for last in range(len(mixed) - 1, 0, -1):

@@ -42,11 +42,11 @@ class Circuit:
         made, passed = [self.add(Kind.AND, *bits) for bits in zip(one, other)], list(halves)
         distance = 1
         while distance < len(halves):
-            made, passed = self.carried(made, passed, distance)
+            made, passed = self.carries(made, passed, distance)
             distance *= 2
         return [halves[0], *(self.add(Kind.XOR, half, carry) for half, carry in zip(halves[1:], made))]
 
-    def carried(self, made: list[int], passed: list[int], distance: int) -> tuple[list[int], list[int]]:
+    def carries(self, made: list[int], passed: list[int], distance: int) -> tuple[list[int], list[int]]:
         """Which carries are made and passed over twice as many bits."""
         new_made, new_passed = list(made), list(passed)
         for bit in range(distance, len(made)):

@@ -6,7 +6,7 @@ import functools
 from yotarimu.applications.application import Application, Problem
 from yotarimu.applications.chance import Chance
 from yotarimu.applications.graphs import Neighbours, neighbours_of, rmat
-from yotarimu.applications.inputs import Input, joined, words
+from yotarimu.applications.inputs import Input, join_rows, words
 from yotarimu.applications.memory import Memory, need
 
 EDGES_OF_A_NODE = 6
@@ -16,7 +16,7 @@ def problem(bits: int, chance: Chance) -> Problem:
     """A graph of 2^bits nodes, and the order in which they take their colours."""
     neighbours = neighbours_of(1 << bits, rmat(bits, EDGES_OF_A_NODE, chance))
     order = sorted(range(len(neighbours)), key=lambda node: -len(neighbours[node]))
-    first, adjacent = joined(neighbours)
+    first, adjacent = join_rows(neighbours)
     given = Input({"NODES": len(neighbours), "EDGES": len(adjacent)},
                   {"first": words(first), "adjacent": words(adjacent), "order": words(order)})
     return Problem(given, functools.partial(check, neighbours, order))

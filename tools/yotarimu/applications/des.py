@@ -7,7 +7,7 @@ import struct
 from yotarimu.applications.application import Application, Problem
 from yotarimu.applications.chance import Chance
 from yotarimu.applications.circuits import BITS, DELAYS, Circuit
-from yotarimu.applications.inputs import Input, joined, rows_of_words, words
+from yotarimu.applications.inputs import Input, join_rows, rows_of_words, words
 from yotarimu.applications.memory import Memory, need
 
 PERIODS = 16
@@ -20,7 +20,7 @@ def problem(adders: int, chance: Chance) -> Problem:
     given = [list(range(BITS * word, BITS * word + BITS)) for word in range(2 * adders)]
     outputs = [bit for one, other in zip(given[::2], given[1::2]) for bit in circuit.sum_of(one, other)]
     numbers = [[chance.number(0, WORD - 1) for _ in given] for _ in range(PERIODS)]
-    first, readers = joined(circuit.readers())
+    first, readers = join_rows(circuit.readers())
     sizes = {"GATES": len(circuit.gates), "READERS": len(readers), "SUMS": adders, "WORDS": len(given),
              "PERIODS": PERIODS, "PERIOD": circuit.longest() + 2}
     gates = b"".join(struct.pack("<BB", gate.kind, DELAYS[gate.kind]) for gate in circuit.gates)

@@ -31,7 +31,7 @@ def rows_of_words(rows: Iterable[Sequence[int]]) -> bytes:
     return words([number for row in rows for number in row])
 
 
-def joined(rows: Sequence[Sequence[int]]) -> tuple[list[int], list[int]]:
+def join_rows(rows: Sequence[Sequence[int]]) -> tuple[list[int], list[int]]:
     """Where each row begins in all rows one after another, and where the last ends; and these rows."""
     first: list[int] = [0]
     numbers: list[int] = []
@@ -41,7 +41,7 @@ def joined(rows: Sequence[Sequence[int]]) -> tuple[list[int], list[int]]:
     return first, numbers
 
 
-def joined_roads(roads: Sequence[Sequence[tuple[int, int]]]) -> tuple[bytes, bytes]:
+def join_roads(roads: Sequence[Sequence[tuple[int, int]]]) -> tuple[bytes, bytes]:
     """Where the roads from each node begin, and all roads one after another: where each leads, and its length."""
     first = [0]
     for row in roads:

@@ -40,7 +40,7 @@ class Labyrinth:
             if place + 1 < most:
                 yield cell + step
 
-    def reached(self, start: int, is_open: bytearray) -> bytearray:
+    def reachable_cells(self, start: int, is_open: bytearray) -> bytearray:
         """The open cells that can be reached from an open one."""
         is_reached, waiting = bytearray(self.cells), [start]
         is_reached[start] = 1
@@ -56,7 +56,7 @@ def problem(bits: int, chance: Chance) -> Problem:
     """Layers of 2^bits times 2^bits cells. All ends of wires are in the first one."""
     labyrinth = Labyrinth(1 << bits, [])
     count = min(MOST_WIRES, labyrinth.layer // CELLS_OF_A_WIRE)
-    ends = chance.shuffled(range(labyrinth.layer))
+    ends = chance.permutation(range(labyrinth.layer))
     labyrinth.wires.extend(zip(ends[:count], ends[count:2 * count]))
     sizes = {"WIDTH": labyrinth.width, "LAYER": labyrinth.layer, "CELLS": labyrinth.cells, "WIRES": count}
     return Problem(Input(sizes, {"wires": rows_of_words(labyrinth.wires)}), functools.partial(check, labyrinth))
@@ -69,12 +69,12 @@ def check(labyrinth: Labyrinth, memory: Memory) -> str:
         own = bytearray(owner == wire + 1 for owner in owners)
         need(sum(own) == laid[wire], f"wire {wire} has {sum(own)} cells, and laid[{wire}] is {laid[wire]}")
         if laid[wire]:
-            is_whole = own[start] == own[end] == 1 and labyrinth.reached(start, own) == own
+            is_whole = own[start] == own[end] == 1 and labyrinth.reachable_cells(start, own) == own
             need(is_whole, f"wire {wire} isn't in one piece from end to end")
     is_free = bytearray(owner == 0 for owner in owners)
     for wire, (start, end) in enumerate(labyrinth.wires):
         if not laid[wire] and is_free[start] and is_free[end]:
-            need(not labyrinth.reached(start, is_free)[end], f"wire {wire} isn't laid, and could be")
+            need(not labyrinth.reachable_cells(start, is_free)[end], f"wire {wire} isn't laid, and could be")
     count = sum(cells > 0 for cells in laid)
     return f"{count} of {len(laid)} wires are laid, over {sum(laid):,} cells, and no other could be"
 

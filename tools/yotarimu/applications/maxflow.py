@@ -45,7 +45,7 @@ def frames(side: int, count: int, chance: Chance) -> list[tuple[int, int, int]]:
             arcs += [(base + one, base + other, ROOM[1] * size), (base + other, base + one, ROOM[1] * size)]
         if base + size < count * size:
             arcs += [(base + node, base + size + other, chance.number(*ROOM))
-                     for node, other in enumerate(chance.shuffled(range(size)))]
+                     for node, other in enumerate(chance.permutation(range(size)))]
     return arcs
 
 

@@ -15,7 +15,7 @@ class Place:
     size: int
 
 
-class Wrong(Exception):
+class WrongMemory(Exception):
     """What a run left isn't what it should have. The text says where."""
 
 
@@ -49,4 +49,4 @@ class Memory:
 def need(condition: bool, sentence: str) -> None:
     """Holds that a condition is met."""
     if not condition:
-        raise Wrong(sentence)
+        raise WrongMemory(sentence)

@@ -6,7 +6,7 @@ import functools
 from yotarimu.applications.application import Application, Problem
 from yotarimu.applications.chance import Chance
 from yotarimu.applications.graphs import Neighbours, random_graph
-from yotarimu.applications.inputs import Input, joined, words
+from yotarimu.applications.inputs import Input, join_rows, words
 from yotarimu.applications.memory import Memory, need
 
 EDGES_OF_A_NODE = 4
@@ -16,7 +16,7 @@ TAKEN, EXCLUDED = 1, 2
 def problem(nodes: int, chance: Chance) -> Problem:
     """A graph of so many nodes, each of which has eight neighbours on average."""
     neighbours = random_graph(nodes, EDGES_OF_A_NODE, chance)
-    first, adjacent = joined(neighbours)
+    first, adjacent = join_rows(neighbours)
     given = Input({"NODES": nodes, "EDGES": len(adjacent)}, {"first": words(first), "adjacent": words(adjacent)})
     return Problem(given, functools.partial(check, neighbours))
 

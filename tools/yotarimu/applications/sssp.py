@@ -6,7 +6,7 @@ import functools
 from yotarimu.applications.application import Application, Problem
 from yotarimu.applications.chance import Chance
 from yotarimu.applications.graphs import Network, network
-from yotarimu.applications.inputs import Input, joined_roads
+from yotarimu.applications.inputs import Input, join_roads
 from yotarimu.applications.memory import Memory
 from yotarimu.applications.ways import FAR, need_shortest
 
@@ -14,7 +14,7 @@ from yotarimu.applications.ways import FAR, need_shortest
 def problem(side: int, chance: Chance) -> Problem:
     """A network of so many crossings along each side."""
     made = network(side, chance)
-    first, roads = joined_roads(made.roads)
+    first, roads = join_roads(made.roads)
     given = Input({"NODES": len(made.roads), "ROADS": len(roads) // 8}, {"first": first, "roads": roads})
     return Problem(given, functools.partial(check, made))
 

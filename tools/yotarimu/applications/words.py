@@ -7,8 +7,8 @@ from typing import Optional, Sequence
 
 from yotarimu.applications.application import Application
 from yotarimu.applications.catalogue import APPLICATIONS
-from yotarimu.applications.making import Case
-from yotarimu.common.outcome import Refused
+from yotarimu.applications.image import Case
+from yotarimu.common.outcome import Refusal
 from yotarimu.common.words import need_number, number_in, take_option
 from yotarimu.courses.grid import values_of
 from yotarimu.images.compiler import CLANG, GCC
@@ -39,7 +39,7 @@ def read_words(words: Sequence[str]) -> Words:
     second, words = take_option(words, "--second-program")
     is_clang, is_both = "--clang" in words, "--both" in words
     if is_clang and is_both:
-        raise Refused("--both has clang already, so --clang doesn't stand beside it.")
+        raise Refusal("--both has clang already, so --clang doesn't stand beside it.")
     words = [word for word in words if word not in ("--clang", "--both")]
     count = next((place for place, word in enumerate(words) if word.startswith("-")), len(words))
     return Words(words[:count], SIZE_UNLESS_TOLD if size is None else size,
@@ -56,7 +56,7 @@ def program_options(words: Sequence[str], grid: Table) -> tuple[list[str], list[
         text, rest = take_option(rest, f"--{name}")
         values = [] if text is None else values_of(option, text)
         if len(values) > 1:
-            raise Refused(f"--{name} takes one value here.")
+            raise Refusal(f"--{name} takes one value here.")
         options += [f"--{name}={value}" for value in values]
     return options, rest
 
@@ -64,14 +64,14 @@ def program_options(words: Sequence[str], grid: Table) -> tuple[list[str], list[
 def need_application(name: str) -> Application:
     """The application of a name."""
     if name not in APPLICATIONS:
-        raise Refused(f"`{name}` is no application, which is {', '.join(APPLICATIONS)}.")
+        raise Refusal(f"`{name}` is no application, which is {', '.join(APPLICATIONS)}.")
     return APPLICATIONS[name]
 
 
 def applications_of(names: Sequence[str]) -> list[Application]:
     """The applications that are named, or all."""
     if len(set(names)) < len(names):
-        raise Refused("a NAME stands twice.")
+        raise Refusal("a NAME stands twice.")
     return [need_application(name) for name in names] or list(APPLICATIONS.values())
 
 
@@ -82,7 +82,7 @@ def size_of(application: Application, word: str) -> int:
     least, most = application.size_range[0], application.size_range[-1]
     number = number_in(word, least, most)
     if number is None:
-        raise Refused(f"--size of {application.name} is {', '.join(application.sizes)} or a number of "
+        raise Refusal(f"--size of {application.name} is {', '.join(application.sizes)} or a number of "
                       f"{application.size_told}, from {least} to {most}, and not `{word}`.")
     return number
 

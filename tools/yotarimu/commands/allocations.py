@@ -15,7 +15,7 @@ program, cc and the GNU C library, and stands beside the gate; it takes some sec
 """
 from __future__ import annotations
 
-from yotarimu.common.outcome import Refused
+from yotarimu.common.outcome import Refusal
 from yotarimu.common.words import Words
 from yotarimu.programs.allocations import NAMES, Refuser, refuse_each
 from yotarimu.programs.calls import program_at
@@ -27,7 +27,7 @@ def main(words: list[str]) -> int:
     program = program_at(given.values["program"])
     for word in given.others:
         if word not in NAMES:
-            raise Refused(f"`{word}` isn't known; it takes {', '.join(NAMES)}.")
+            raise Refusal(f"`{word}` isn't known; it takes {', '.join(NAMES)}.")
     failed = 0
     with Refuser() as library:
         for name in given.others or NAMES:

@@ -34,11 +34,11 @@ from typing import Callable, Iterator, Mapping, Optional, Sequence
 
 from yotarimu.applications.application import Problem
 from yotarimu.applications.catalogue import APPLICATIONS
-from yotarimu.applications.making import IMAGE, Case, Made, make, need_tools, whole_folder
-from yotarimu.applications.running import check, run
+from yotarimu.applications.image import IMAGE, Case, ApplicationImage, make, need_tools, whole_folder
+from yotarimu.applications.runs import check, run
 from yotarimu.applications.words import Words, cases_of, program_options, read_words
 from yotarimu.commands import study
-from yotarimu.common.outcome import Refused
+from yotarimu.common.outcome import Refusal
 from yotarimu.common.tables import table
 from yotarimu.common.words import take_option
 from yotarimu.courses.grid import values_of
@@ -54,14 +54,14 @@ def main(words: Sequence[str]) -> Optional[int]:
     """Does what the first word asks for."""
     if not words or words[0] not in DOES:
         told = f", and not `{words[0]}`" if words else ""
-        raise Refused(f"it wants one of {', '.join(DOES)}{told}; {HELP}.")
+        raise Refusal(f"it wants one of {', '.join(DOES)}{told}; {HELP}.")
     return DOES[words[0]](list(words[1:]))
 
 
 def list_all(words: list[str]) -> None:
     """Tells each application with its sizes."""
     if words:
-        raise Refused("`list` takes no further words.")
+        raise Refusal("`list` takes no further words.")
     rows = [(it.name, it.size_told, f"{it.size_range[0]:,} to {it.size_range[-1]:,}",
              *(f"{size:,}" for size in it.sizes.values())) for it in APPLICATIONS.values()]
     print(*table(("Name", "The size counts", "From, to", "small", "medium", "large"), rows), sep="\n")
@@ -72,7 +72,7 @@ def make_one(words: list[str]) -> None:
     asked = read_words(words)
     need_no_more(asked)
     if not 1 <= len(asked.names) <= 2:
-        raise Refused(f"`make` takes a NAME and a FOLDER; {HELP}.")
+        raise Refusal(f"`make` takes a NAME and a FOLDER; {HELP}.")
     case = one_case(dataclasses.replace(asked, names=asked.names[:1]), "make")
     folder = pathlib.Path(asked.names[1] if len(asked.names) > 1 else f"{asked.names[0]}-{asked.size}")
     need_tools(asked.compilers[0])
@@ -90,8 +90,8 @@ def run_one(words: list[str]) -> None:
     calls = Calls(asked.program or PROGRAM)
     made, _ = made_elsewhere(case, asked.compilers[0])
     told = run(calls, made, options)
-    print(f"{case.told}: {told.commits:,} tasks took their turns in {told.seconds:.1f} s; `check` accepts the report, "
-          f"in {told.check_seconds:.1f} s.")
+    print(f"{case.words_text}: {told.commits:,} tasks took their turns in {told.seconds:.1f} s; `check` accepts the "
+          f"report, in {told.check_seconds:.1f} s.")
 
 
 def check_all(words: list[str]) -> None:
@@ -107,7 +107,7 @@ def check_all(words: list[str]) -> None:
             made, problem = made_elsewhere(case, compiler)
             right = check(calls, second, made, problem)
             runs = [run(calls, made, [f"--workers={number}"]) for number in numbers]
-            print(f"{case.told} by {compiler_told(compiler)}: {runs[0].commits:,} tasks; {right}. Reports with "
+            print(f"{case.words_text} by {compiler_told(compiler)}: {runs[0].commits:,} tasks; {right}. Reports with "
                   f"{', '.join(map(str, numbers))} workers are accepted.", flush=True)
 
 
@@ -116,7 +116,7 @@ def table_of_all(words: list[str]) -> Optional[int]:
     asked = read_words(words)
     path, rest = take_option(asked.rest, "--csv")
     if "," in asked.size or len(asked.compilers) > 1 or any(word.startswith("--plot") for word in rest):
-        raise Refused(f"`table` takes one size and one compiler, and draws no plot; {HELP}.")
+        raise Refusal(f"`table` takes one size and one compiler, and draws no plot; {HELP}.")
     second = Calls(asked.second_program or SECOND_PROGRAM)
     further = [*rest, f"--program={second.program}", *([] if path is None else [f"--csv={os.path.abspath(path)}"])]
     with tempfile.TemporaryDirectory() as folder:
@@ -124,12 +124,12 @@ def table_of_all(words: list[str]) -> Optional[int]:
         for case in cases_of(asked):
             made, _ = made_elsewhere(case, asked.compilers[0])
             pathlib.Path(folder, case.application.name).write_bytes(made.image)
-        with entered(folder):
+        with working_folder(folder):
             return study.main([*names, *further])
 
 
 @contextlib.contextmanager
-def entered(folder: str) -> Iterator[None]:
+def working_folder(folder: str) -> Iterator[None]:
     """A folder as the one that names of files are sought in."""
     before = os.getcwd()
     os.chdir(folder)
@@ -139,7 +139,7 @@ def entered(folder: str) -> Iterator[None]:
         os.chdir(before)
 
 
-def made_elsewhere(case: Case, compiler: str) -> tuple[Made, Problem]:
+def made_elsewhere(case: Case, compiler: str) -> tuple[ApplicationImage, Problem]:
     """An application that is built in a folder of its own, which isn't kept, and its problem."""
     need_tools(compiler)
     problem = case.problem()
@@ -150,14 +150,14 @@ def made_elsewhere(case: Case, compiler: str) -> tuple[Made, Problem]:
 def one_case(asked: Words, word: str) -> Case:
     """The case that a call is about."""
     if len(asked.names) != 1 or "," in asked.size or len(asked.compilers) > 1:
-        raise Refused(f"`{word}` takes one NAME, one size and one compiler; {HELP}.")
+        raise Refusal(f"`{word}` takes one NAME, one size and one compiler; {HELP}.")
     return cases_of(asked)[0]
 
 
 def need_no_more(asked: Words) -> None:
     """Holds that no option is left."""
     if asked.rest:
-        raise Refused(f"`{asked.rest[0]}` isn't known; {HELP}.")
+        raise Refusal(f"`{asked.rest[0]}` isn't known; {HELP}.")
 
 
 DOES: Mapping[str, Callable[[list[str]], Optional[int]]] = {

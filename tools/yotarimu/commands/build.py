@@ -25,7 +25,7 @@ from __future__ import annotations
 
 import pathlib
 
-from yotarimu.common.outcome import Refused
+from yotarimu.common.outcome import Refusal
 from yotarimu.common.places import EXAMPLES_FOLDER
 from yotarimu.common.words import Words
 from yotarimu.images.compiler import CLANG, FAST, FOR_DEBUGGING, GCC
@@ -40,7 +40,7 @@ def folder_at(word: str) -> pathlib.Path:
         return path
     if word in EXAMPLES + SCHEDULES:
         return EXAMPLES_FOLDER / word
-    raise Refused(f"`{word}`: there is no such folder.")
+    raise Refusal(f"`{word}`: there is no such folder.")
 
 
 def main(words: list[str]) -> None:
@@ -48,14 +48,14 @@ def main(words: list[str]) -> None:
     names = given.others
     for word in names:
         if word.startswith("-"):
-            raise Refused(f"`{word}` isn't known; ./fractal build --help tells the words.")
+            raise Refusal(f"`{word}` isn't known; ./fractal build --help tells the words.")
     if not names and "all" not in given.flags:
-        raise Refused("it wants a FOLDER of sources, or --all; the programs are proved and built by ./fractal prove.")
+        raise Refusal("it wants a FOLDER of sources, or --all; the programs are proved and built by ./fractal prove.")
     if names and "all" in given.flags:
-        raise Refused("--all stands for all of the project's examples and schedules, so no FOLDER stands beside it.")
+        raise Refusal("--all stands for all of the project's examples and schedules, so no FOLDER stands beside it.")
     level = FOR_DEBUGGING if "debug" in given.flags else FAST
     if level == FOR_DEBUGGING and "clang" in given.flags:
-        raise Refused("--debug compiles by gcc: what clang makes for debugging tells wrong arguments.")
+        raise Refusal("--debug compiles by gcc: what clang makes for debugging tells wrong arguments.")
     for folder in [folder_at(word) for word in names or with_sources(EXAMPLES + SCHEDULES)]:
         build(folder, CLANG if "clang" in given.flags else GCC, level)
         print(image_folder(folder, level) / "image.bin")

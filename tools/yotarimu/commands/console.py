@@ -51,7 +51,7 @@ def main(words: list[str]) -> int:
     console = Console(schedule, [act.text for act in acts], (__doc__ or "").strip().split("\n\n")[3])
     if schedule.remark:
         write([schedule.remark])
-    write([*console.performance.told(), ""])
+    write([*console.performance.text_lines(), ""])
     is_terminal = sys.stdin is not None and sys.stdin.isatty()
     try:
         console.follow(typed_lines())

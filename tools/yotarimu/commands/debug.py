@@ -24,12 +24,12 @@ import tempfile
 from typing import Iterator, Optional, Sequence
 
 from yotarimu.common.files import need_outputs, read_bytes, write_whole
-from yotarimu.common.outcome import Refused, note
+from yotarimu.common.outcome import Refusal, note
 from yotarimu.common.words import Words, need_number
 from yotarimu.courses.schedules import read_replies
-from yotarimu.debugger import serving
+from yotarimu.debugger import connections
 from yotarimu.debugger.lines_track import LinesTrack
-from yotarimu.debugger.linking import Linked, linked_for, source_folder
+from yotarimu.debugger.linked_file import LinkedFile, linked_file_for, source_folder
 from yotarimu.debugger.report_track import ReportTrack
 from yotarimu.debugger.track import Track
 from yotarimu.images.image import Image, read_image
@@ -46,20 +46,20 @@ FAULT_OF_LINES = b'{"fault":'
 WHOLE = (0, 3, 4)
 
 
-def linked_beside(path: str, image: Image) -> tuple[Optional[Linked], Listing]:
+def linked_beside(path: str, image: Image) -> tuple[Optional[LinkedFile], Listing]:
     """The linked file of the sources beside an image, and a listing. Without sources gdb shows addresses alone."""
     folder = source_folder(pathlib.Path(path))
     if folder is None:
         note(f"no sources are beside {path}, so gdb shows instructions and addresses alone.")
         return None, listing_for(path, image, None)[0]
-    linked = linked_for(image, folder)
+    linked = linked_file_for(image, folder)
     return linked, linked.listing
 
 
 def track_of(image: Image, path: str, listing: Listing) -> Track:
     """The track of a report or of lines, whichever the text is."""
     if path == "-":
-        raise Refused("a REPORT or LINES has to be a file, since standard input is gdb's.")
+        raise Refusal("a REPORT or LINES has to be a file, since standard input is gdb's.")
     with open(path, "rb") as file:
         start = file.read(len(HEAD_OF_LINES))
     if start in (HEAD_OF_LINES, FAULT_OF_LINES):
@@ -72,7 +72,7 @@ def track_of_run(image: Image, path: str, listing: Listing) -> Track:
     """The track of the image's run, brought on for the least task."""
     status, lines, _ = launch(["watch", "least"], read_bytes(path))
     if status not in WHOLE:
-        raise Refused(f"{path}: the second program told no whole run, but ended with status {status}.")
+        raise Refusal(f"{path}: the second program told no whole run, but ended with status {status}.")
     with tempfile.NamedTemporaryFile(prefix="lines-") as file:
         file.write(lines)
         file.flush()
@@ -91,7 +91,7 @@ def nothing_collected() -> Iterator[None]:
 
 
 @contextlib.contextmanager
-def file_of(linked: Optional[Linked], path: Optional[str]) -> Iterator[Optional[pathlib.Path]]:
+def file_of(linked: Optional[LinkedFile], path: Optional[str]) -> Iterator[Optional[pathlib.Path]]:
     """A linked file as a file: the one that is asked for, or one that is gone afterwards."""
     if linked is None:
         yield None
@@ -105,20 +105,20 @@ def file_of(linked: Optional[Linked], path: Optional[str]) -> Iterator[Optional[
             yield pathlib.Path(file.name)
 
 
-def serve(track: Track, linked: Optional[Linked], gdb: Optional[str], port: Optional[str], is_pipe: bool,
+def serve(track: Track, linked: Optional[LinkedFile], gdb: Optional[str], port: Optional[str], is_pipe: bool,
           path: Optional[str]) -> int:
     if linked is not None and path is not None and (is_pipe or port is not None):
         write_whole({pathlib.Path(path): linked.data})
     if is_pipe:
-        serving.serve_pipe(track)
+        connections.serve_pipe(track)
         return 0
     if port is not None:
-        with serving.listening_at(need_number("--port", port, 0, MOST_PORT)) as listening:
+        with connections.listening_at(need_number("--port", port, 0, MOST_PORT)) as listening:
             print(f"listening at port {listening.getsockname()[1]}", flush=True)
-            serving.serve_port(track, listening)
+            connections.serve_port(track, listening)
         return 0
     with file_of(linked, path) as file:
-        return serving.serve_gdb(track, serving.found_gdb(gdb), file)
+        return connections.serve_gdb(track, connections.find_gdb(gdb), file)
 
 
 def main(words: Sequence[str]) -> int:
@@ -126,11 +126,11 @@ def main(words: Sequence[str]) -> int:
     gdb, port, path = (given.values[name] for name in ("gdb", "port", "elf"))
     is_pipe = "pipe" in given.flags
     if (gdb is not None) + (port is not None) + is_pipe > 1:
-        raise Refused("--gdb, --port and --pipe are three ways, and one of them is taken.")
+        raise Refusal("--gdb, --port and --pipe are three ways, and one of them is taken.")
     image_path, *more = given.need("an IMAGE, and perhaps a REPORT or LINES", 1, 2)
     need_outputs([path], [image_path, *more])
     if port is None and not is_pipe:
-        serving.found_gdb(gdb)
+        connections.find_gdb(gdb)
     image = read_image(read_bytes(image_path), image_path)
     linked, listing = linked_beside(image_path, image)
     with nothing_collected():

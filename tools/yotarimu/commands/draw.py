@@ -22,4 +22,4 @@ from yotarimu.pictures import lanes
 def main(words: list[str]) -> None:
     script, output = Words("draw").read(words).need("a SCRIPT and the OUTPUT of its playing", 2)
     acts = read_script(read_text(script), script)
-    print(lanes.drawn(read_played(acts, read_text(output), output)), end="")
+    print(lanes.draw(read_played(acts, read_text(output), output)), end="")

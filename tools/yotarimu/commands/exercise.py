@@ -9,10 +9,10 @@ The numbers 1 to 5 stand for the names in this order. The status is 0 for a righ
 """
 from __future__ import annotations
 
-from yotarimu.common.outcome import Refused
-from yotarimu.common.sentences import filled
+from yotarimu.common.outcome import Refusal
+from yotarimu.common.sentences import fill
 from yotarimu.common.words import Words
-from yotarimu.courses.exercises import JUDGES, SAID, Wrong
+from yotarimu.courses.exercises import JUDGES, SAID, WrongAnswer
 
 
 def main(words: list[str]) -> int:
@@ -20,10 +20,10 @@ def main(words: list[str]) -> int:
     names = dict(zip("12345", JUDGES))
     name = names.get(name, name)
     if name not in JUDGES:
-        raise Refused(f"`{name}` is no exercise; they are {', '.join(JUDGES)}.")
+        raise Refusal(f"`{name}` is no exercise; they are {', '.join(JUDGES)}.")
     try:
-        print(filled(SAID["verdicts"]["right"], why=JUDGES[name](answer)))
+        print(fill(SAID["verdicts"]["right"], why=JUDGES[name](answer)))
         return 0
-    except Wrong as wrong:
-        print(filled(SAID["verdicts"]["wrong"], why=wrong))
+    except WrongAnswer as wrong:
+        print(fill(SAID["verdicts"]["wrong"], why=wrong))
         return 1

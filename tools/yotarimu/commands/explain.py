@@ -19,13 +19,13 @@ import sys
 from typing import NamedTuple, Optional
 
 from yotarimu.common.files import read_bytes
-from yotarimu.common.outcome import Refused
+from yotarimu.common.outcome import Refusal
 from yotarimu.common.words import Words
 from yotarimu.courses.schedules import read_replies
 from yotarimu.images.image import Image, read_image
 from yotarimu.images.labels import listing_for
 from yotarimu.images.serial_machine import Machine
-from yotarimu.lines import taken_back
+from yotarimu.lines import taken_tasks
 from yotarimu.pictures import tree
 from yotarimu.pictures.tree import nodes_of
 from yotarimu.reports import plain_data
@@ -48,10 +48,10 @@ class Request(NamedTuple):
 
 
 def read_words(words: list[str]) -> Request:
-    given = Words("explain", flags=FORMS).known(words)
+    given = Words("explain", flags=FORMS).read_known(words)
     unknown = [word for word in given.others if word.startswith("--")]
     if unknown or len(given.flags) > 1 or not 2 <= len(given.others) <= 3:
-        raise Refused("it wants IMAGE REPORT [SOURCE] and one of --picture, --json and --csv, or none; "
+        raise Refusal("it wants IMAGE REPORT [SOURCE] and one of --picture, --json and --csv, or none; "
                       "./fractal explain --help tells more.")
     image, report, *source = given.others
     return Request(image, report, source[0] if source else None, next(iter(given.flags), None))
@@ -60,22 +60,22 @@ def read_words(words: list[str]) -> Request:
 def explain_no_report(text: str, sentence: str, form: Optional[str]) -> None:
     """What the program said in a report's place."""
     if form in ("picture", "csv"):
-        raise Refused(f"`{text.strip()}` has no tasks. {sentence}")
+        raise Refusal(f"`{text.strip()}` has no tasks. {sentence}")
     print(json.dumps({"said": text.strip(), "meaning": sentence}, indent=2) if form else sentence)
 
 
 def explain_lines(image_path: str, image: Image, lines_path: str, source: Optional[str], form: Optional[str]) -> None:
     """Why tasks were taken back."""
     if form == "picture":
-        raise Refused("lines have no tree of tasks; the report of the run has.")
+        raise Refusal("lines have no tree of tasks; the report of the run has.")
     listing, remark = listing_for(image_path, image, source)
-    run = taken_back.Run(lines_path, image, listing)
+    run = taken_tasks.Run(lines_path, image, listing)
     if form == "json":
-        print(json.dumps(taken_back.plain_rows(run), indent=2))
+        print(json.dumps(taken_tasks.plain_rows(run), indent=2))
     elif form == "csv":
-        taken_back.write_rows(run, sys.stdout)
+        taken_tasks.write_rows(run, sys.stdout)
     else:
-        print(*taken_back.text_of(run), *([f"\n{remark}"] if remark else []), sep="\n")
+        print(*taken_tasks.text_of(run), *([f"\n{remark}"] if remark else []), sep="\n")
 
 
 def begins_as_lines(path: str) -> bool:
@@ -102,10 +102,10 @@ def main(words: list[str]) -> None:
     machine = Machine(image)
     lost = machine.follow(report.entries)
     if why := other_run(report, machine, lost):
-        raise Refused(f"{report_path}: this is no report of a run of {image_path}: {why}.")
+        raise Refusal(f"{report_path}: this is no report of a run of {image_path}: {why}.")
     remarks = [it for it in (remark, lost and f"Labels of later tasks aren't known: {lost}.") if it]
     if form == "picture":
-        print(tree.drawn(nodes_of(report, machine, listing), len(report.entries)), end="")
+        print(tree.draw(nodes_of(report, machine, listing), len(report.entries)), end="")
     elif form == "json":
         print(json.dumps(plain_data.all_of(image_path, replies, report, machine, listing, remarks), indent=2))
     elif form == "csv":

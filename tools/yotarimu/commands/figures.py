@@ -21,8 +21,8 @@ import io
 import time
 from typing import Optional
 
-from yotarimu.common.files import encoded, need_outputs, read_bytes, read_written, write_whole
-from yotarimu.common.outcome import Refused, is_at_terminal, say
+from yotarimu.common.files import encode, need_outputs, read_bytes, read_written, write_whole
+from yotarimu.common.outcome import Refusal, is_at_terminal, say
 from yotarimu.common.words import need_words, take_option
 from yotarimu.figures import feeders, tables
 from yotarimu.figures.run import Figures, read_figures
@@ -54,14 +54,14 @@ def read_words(words: list[str]) -> Request:
         found[name], words = take_option(words, f"--{name}")
     names = need_words(words, max(1, len(words)), "figures", "LINES, one text or more")
     if len(set(names)) < len(names):
-        raise Refused("a text of LINES stands twice.")
+        raise Refusal("a text of LINES stands twice.")
     if found["log"] is not None and (found["log"] not in plot.AXES or found["plot"] is None):
-        raise Refused(f"--log takes {', '.join(plot.AXES)} beside --plot, and not `{found['log']}`.")
+        raise Refusal(f"--log takes {', '.join(plot.AXES)} beside --plot, and not `{found['log']}`.")
     request = Request(names, found["image"], found["listing"], found["csv"], found["plot"], found["log"] or "")
     if found["histogram"] is not None:
         request.histogram_of, comma, path = found["histogram"].partition(",")
         if request.histogram_of not in SPREADS or not path or len(names) > 1:
-            raise Refused(f"--histogram takes NAME,FILE beside one text, with a NAME of {', '.join(SPREADS)}, and not "
+            raise Refusal(f"--histogram takes NAME,FILE beside one text, with a NAME of {', '.join(SPREADS)}, and not "
                           f"`{found['histogram']}`.")
         request.histogram = path
     need_outputs((request.csv, request.plot, request.histogram), (*names, request.image, request.listing))
@@ -80,7 +80,7 @@ def read_runs(request: Request) -> dict[str, Figures]:
 
 
 def print_tables(runs: dict[str, Figures], listing: Listing) -> None:
-    print(*tables.summary(runs), "", *tables.taken_back(runs), "", *tables.stalls(runs), sep="\n")
+    print(*tables.summary(runs), "", *tables.taken_tasks(runs), "", *tables.stalls(runs), sep="\n")
     for name, it in runs.items():
         of_run = f" of {name}" if len(runs) > 1 else ""
         if causes := tables.causes(it):
@@ -104,15 +104,15 @@ def files_of(request: Request, runs: dict[str, Figures]) -> dict[str, bytes]:
     files = {}
     first = runs[request.names[0]]
     if request.plot is not None:
-        picture = plot.drawn(tables.curves(runs), first.occupancy.over(), "tasks", request.axes)
-        files[request.plot] = encoded(picture)
+        picture = plot.draw(tables.curves(runs), first.occupancy.over(), "tasks", request.axes)
+        files[request.plot] = encode(picture)
     if request.histogram is not None:
         bars = list(first.tasks.spreads[request.histogram_of].bars())
-        files[request.histogram] = encoded(histogram.drawn(bars, f"{request.histogram_of} of a task", "tasks"))
+        files[request.histogram] = encode(histogram.draw(bars, f"{request.histogram_of} of a task", "tasks"))
     if request.csv is not None:
         text = io.StringIO()
         csv.writer(text, lineterminator="\n").writerows(tables.plain_rows(runs))
-        files[request.csv] = encoded(text.getvalue())
+        files[request.csv] = encode(text.getvalue())
     return files
 
 
@@ -121,7 +121,7 @@ def main(words: list[str]) -> None:
     listing = NO_LISTING if request.listing is None else read_listing(read_written(request.listing), request.listing)
     runs = read_runs(request)
     if request.plot is not None and len({it.occupancy.over() for it in runs.values()}) > 1:
-        raise Refused("one plot has no place for rounds and events: --plot takes texts in lockstep, or none of them.")
+        raise Refusal("one plot has no place for rounds and events: --plot takes texts in lockstep, or none of them.")
     files = files_of(request, runs)
     print_tables(runs, listing)
     write_whole(files)

@@ -9,17 +9,17 @@ from __future__ import annotations
 
 import sys
 
-from yotarimu.common.outcome import Refused
+from yotarimu.common.outcome import Refusal
 from yotarimu.common.words import Words, need_number
 from yotarimu.images.image import image_bytes
-from yotarimu.images.loads import MOST_SEED, SIZES, generated
+from yotarimu.images.loads import MOST_SEED, SIZES, generate
 
 
 def main(words: list[str]) -> None:
     kind, seed, size = Words("generate").read(words).need("walk or nest, a SEED and a SIZE", 3)
     if kind not in SIZES:
-        raise Refused(f"it generates {' and '.join(SIZES)}, and not `{kind}`.")
+        raise Refusal(f"it generates {' and '.join(SIZES)}, and not `{kind}`.")
     numbers = need_number("SEED", seed, 0, MOST_SEED), need_number("SIZE", size, 1, SIZES[kind])
     if sys.stdout.isatty():
-        raise Refused("an image is no text for a terminal: > FILE writes it to a file.")
-    sys.stdout.buffer.write(image_bytes(generated(kind, *numbers)))
+        raise Refusal("an image is no text for a terminal: > FILE writes it to a file.")
+    sys.stdout.buffer.write(image_bytes(generate(kind, *numbers)))

@@ -12,7 +12,7 @@ from __future__ import annotations
 
 import pathlib
 
-from yotarimu.common.outcome import Refused
+from yotarimu.common.outcome import Refusal
 from yotarimu.common.words import Words
 from yotarimu.images.compiler import CLANG, GCC
 from yotarimu.images.folder import build
@@ -26,9 +26,9 @@ def main(words: list[str]) -> None:
     given = Words("large", ["size", "seed", "program"], ["clang"]).read(words)
     name, folder_name = given.need("roads or circuit, and FOLDER", 2)
     if not folder_name:
-        raise Refused("the name of FOLDER is empty.")
+        raise Refusal("the name of FOLDER is empty.")
     if name not in KINDS:
-        raise Refused(f"it makes {' and '.join(KINDS)}, and not `{name}`.")
+        raise Refusal(f"it makes {' and '.join(KINDS)}, and not `{name}`.")
     kind, folder = KINDS[name], pathlib.Path(folder_name)
     size = given.number("size", kind.sizes[0], kind.sizes[-1], kind.size)
     seed = given.number("seed", 0, MOST_SEED, 1)
@@ -39,4 +39,4 @@ def main(words: list[str]) -> None:
     write_sources(name, kind, folder, size, seed)
     image, assembled = build(folder, compiler)
     print(f"{folder / 'image.bin'}: {kind.told.format(size)}")
-    compare(calls, image, assembled.named(kind.result)[0], folder)
+    compare(calls, image, assembled.labels_named(kind.result)[0], folder)

@@ -18,10 +18,10 @@ from __future__ import annotations
 
 from typing import Any
 
-from yotarimu.common.outcome import Refused
+from yotarimu.common.outcome import Refusal
 from yotarimu.common.words import Words, need_number
 from yotarimu.courses.schedules import MOST_CORES, MOST_TILES, NUMBERS, Act, lockstep, script_text
-from yotarimu.lines.reader import open_watched
+from yotarimu.lines.reader import open_lines
 
 MOST_ROUNDS = 1_000_000
 MOST_SEED = 2 ** 32 - 1
@@ -31,9 +31,9 @@ MOST_BYTES = 67_108_864
 
 def acts_of(path: str) -> list[Act]:
     """The acts that a text tells."""
-    with open_watched(path) as watched:
+    with open_lines(path) as watched:
         if watched.head["course"] == "steps":
-            raise Refused(f"{path}: this run was made of a script, so it has one.")
+            raise Refusal(f"{path}: this run was made of a script, so it has one.")
         return [act_of(told.line) for told in watched if told.is_act()]
 
 
@@ -46,7 +46,7 @@ def act_of(line: dict[str, Any]) -> Act:
 def script_of(path: str) -> str:
     text = script_text(acts_of(path))
     if len(text) > MOST_BYTES:
-        raise Refused(f"{path}: its acts are more than {MOST_BYTES:,} bytes, the most that the program reads.")
+        raise Refusal(f"{path}: its acts are more than {MOST_BYTES:,} bytes, the most that the program reads.")
     return text
 
 
@@ -55,7 +55,7 @@ def main(words: list[str]) -> None:
     path = given.values["of"]
     if path is not None:
         if given.values["seed"] is not None:
-            raise Refused("it wants nothing beside --of LINES; ./fractal lockstep --help tells more.")
+            raise Refusal("it wants nothing beside --of LINES; ./fractal lockstep --help tells more.")
         given.need("nothing beside --of LINES", 0)
         print(script_of(path), end="")
         return
@@ -65,6 +65,6 @@ def main(words: list[str]) -> None:
     rounds = need_number("ROUNDS", words[2], 1, MOST_ROUNDS)
     seed = given.number("seed", 0, MOST_SEED, 0)
     if rounds * len(script_text(lockstep(tiles, cores, 1))) > MOST_BYTES:
-        raise Refused(f"{rounds} rounds are more than {MOST_BYTES} bytes, the most that the program reads.")
+        raise Refusal(f"{rounds} rounds are more than {MOST_BYTES} bytes, the most that the program reads.")
     for act in lockstep(tiles, cores, rounds, seed):
         print(act)

@@ -15,7 +15,7 @@ never came. It wants Linux, and stands beside the gate: all of it takes a minute
 """
 from __future__ import annotations
 
-from yotarimu.common.outcome import Refused
+from yotarimu.common.outcome import Refusal
 from yotarimu.common.words import Words
 from yotarimu.programs.calls import program_at
 from yotarimu.programs.limits import OUTCOMES
@@ -27,7 +27,7 @@ def main(words: list[str]) -> int:
     program = program_at(given.values["program"])
     for word in given.others:
         if word not in NAMES:
-            raise Refused(f"`{word}` isn't known; it takes {', '.join(NAMES)}.")
+            raise Refusal(f"`{word}` isn't known; it takes {', '.join(NAMES)}.")
     failed = 0
     for name in given.others or NAMES:
         counts, faults = fall_of(name, program)

@@ -40,7 +40,7 @@ def main(words: list[str]) -> int:
     print(*lines_beside(lines, acts, played.said), "", report, sep="\n", end="")
     files: dict[str, bytes] = {}
     if picture is not None:
-        files[picture] = lanes.drawn(played).encode()
+        files[picture] = lanes.draw(played).encode()
     if plain is not None:
         files[plain] = script_text(played.acts).encode()
     write_whole(files)

@@ -10,12 +10,12 @@ again.
 from __future__ import annotations
 
 from yotarimu.common.files import read_bytes
-from yotarimu.common.outcome import Refused
+from yotarimu.common.outcome import Refusal
 from yotarimu.reports.refusals import why
 
 
 def main(words: list[str]) -> int:
     if len(words) < 2:
-        raise Refused("it wants what the program said, and its COMMAND; ./fractal refusal --help tells more.")
+        raise Refusal("it wants what the program said, and its COMMAND; ./fractal refusal --help tells more.")
     print(why(words[0].strip(), words[1:], read_bytes("-")))
     return 0

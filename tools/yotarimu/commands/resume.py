@@ -13,9 +13,9 @@ built program in place of the one of this clone.
 from __future__ import annotations
 
 from yotarimu.common.files import read_bytes
-from yotarimu.common.outcome import Refused
-from yotarimu.common.text import counted
-from yotarimu.common.words import Given, Words, need_number, number_in
+from yotarimu.common.outcome import Refusal
+from yotarimu.common.text import count_text
+from yotarimu.common.words import GivenWords, Words, need_number, number_in
 from yotarimu.courses.grid import MOST_VALUE
 from yotarimu.images.image import read_image
 from yotarimu.programs import pieces
@@ -24,7 +24,7 @@ from yotarimu.programs.resumption import Resumption
 from yotarimu.programs.table import Table
 
 
-def options_of(given: Given, table: Table) -> list[str]:
+def options_of(given: GivenWords, table: Table) -> list[str]:
     """The options for the program, as its words."""
     options = []
     for name, option in table.options.items():
@@ -32,11 +32,11 @@ def options_of(given: Given, table: Table) -> list[str]:
         if value is None:
             continue
         if name == "commits":
-            raise Refused("--every tells how many commits a piece has, so --commits has no place here.")
+            raise Refusal("--every tells how many commits a piece has, so --commits has no place here.")
         if name == "workers" and value.strip("0"):
-            raise Refused("--workers takes 0 alone here: a run with workers isn't made twice alike.")
+            raise Refusal("--workers takes 0 alone here: a run with workers isn't made twice alike.")
         if number_in(value, 0, MOST_VALUE) not in option.values:
-            raise Refused(f"--{name} takes {option.told()}, and not `{value}`.")
+            raise Refusal(f"--{name} takes {option.range_text()}, and not `{value}`.")
         options.append(f"--{name}={value}")
     return options
 
@@ -45,12 +45,12 @@ def main(words: list[str]) -> int:
     table = Table()
     given = Words("resume", ["every", "program", *table.options]).read(words)
     if given.values["every"] is None:
-        raise Refused("it wants --every N, how many commits a piece has; ./fractal resume --help tells more.")
+        raise Refusal("it wants --every N, how many commits a piece has; ./fractal resume --help tells more.")
     every = need_number("--every", given.values["every"], 1, pieces.MOST_COMMITS)
     options = options_of(given, table)
     path, pieces_path = given.need("an image and a folder for its pieces", 2)
     if not pieces_path:
-        raise Refused("the name of the folder for the pieces is empty.")
+        raise Refusal("the name of the folder for the pieces is empty.")
     image = read_bytes(path)
     read_image(image, path)
     calls = Calls(program_at(given.values["program"]))
@@ -58,6 +58,6 @@ def main(words: list[str]) -> int:
     resumption = Resumption(calls, options, every, folder)
     resumption.run_all()
     count, turns = resumption.join()
-    told = f"{counted(turns, 'commit')} in {counted(count, 'piece')}"
+    told = f"{count_text(turns, 'commit')} in {count_text(count, 'piece')}"
     print(f"{folder.name(pieces.REPORT)}: {told}; accepted by check.")
     return 0

@@ -6,7 +6,7 @@ usage: ./fractal shell bash > FILE     completion for bash: `. FILE` in ~/.bashr
 """
 from __future__ import annotations
 
-from yotarimu.common.outcome import Refused
+from yotarimu.common.outcome import Refusal
 from yotarimu.common.words import Words
 from yotarimu.programs.completion import KINDS
 from yotarimu.programs.table import Table
@@ -15,5 +15,5 @@ from yotarimu.programs.table import Table
 def main(words: list[str]) -> None:
     kind, = Words("shell").read(words).need("bash, zsh or man", 1)
     if kind not in KINDS:
-        raise Refused(f"it writes for bash, zsh and man, and not for `{kind}`.")
+        raise Refusal(f"it writes for bash, zsh and man, and not for `{kind}`.")
     print(KINDS[kind](Table()), end="")

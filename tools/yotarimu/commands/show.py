@@ -14,7 +14,7 @@ The page stands alone: it needs no network, and PAGE#6 opens it at act 6. Up to 
 """
 from __future__ import annotations
 
-from yotarimu.common.outcome import Refused
+from yotarimu.common.outcome import Refusal
 from yotarimu.common.words import Words
 from yotarimu.pictures.page import page_of
 
@@ -25,6 +25,6 @@ def main(words: list[str]) -> None:
     given = Words("show", ["from", "to"], ["cut"]).read(words)
     first, last = given.number("from", 0, MOST_ACT, 0), given.number("to", 0, MOST_ACT, MOST_ACT)
     if first > last:
-        raise Refused(f"there is no act from {first} to {last}.")
+        raise Refusal(f"there is no act from {first} to {last}.")
     path, *listing = given.need("LINES and perhaps a LISTING", 1, 2)
     print(page_of(path, listing[0] if listing else None, first, last, "cut" in given.flags), end="")

@@ -37,12 +37,12 @@ from collections.abc import Mapping, Sequence
 from typing import Optional
 
 from yotarimu.common.files import need_outputs, read_bytes, write_whole
-from yotarimu.common.outcome import Refused, say
+from yotarimu.common.outcome import Refusal, say
 from yotarimu.common.words import need_number, take_option
 from yotarimu.courses import page_tables
 from yotarimu.courses.grid import MOST_RUNS, cells_of, picture_of, shard_of, values_of
-from yotarimu.courses.shards import joined
-from yotarimu.courses.study import Choice, Played, Study, csv_of, rows_in, tell
+from yotarimu.courses.shards import join_shards
+from yotarimu.courses.study import Choice, StudyRows, Study, csv_of, rows_in, tell
 from yotarimu.figures.columns import COLUMNS, END, UNLESS_TOLD
 from yotarimu.programs.calls import Calls
 from yotarimu.programs.program import SECOND_PROGRAM
@@ -55,7 +55,7 @@ OWN_OPTIONS = ("seed", "jobs", "program", "rounds", "csv", "columns", "shard", "
 HELP = "./fractal study --help tells the words, ./fractal help the options."
 
 
-def taken(words: Sequence[str], names: Sequence[str]) -> tuple[dict[str, Optional[str]], list[str]]:
+def take_options(words: Sequence[str], names: Sequence[str]) -> tuple[dict[str, Optional[str]], list[str]]:
     """The values of options, and the other words, none of which is an option."""
     found: dict[str, Optional[str]] = {}
     rest = list(words)
@@ -67,11 +67,11 @@ def taken(words: Sequence[str], names: Sequence[str]) -> tuple[dict[str, Optiona
 def need_paths(words: Sequence[str], what: str) -> list[str]:
     unknown = next((word for word in words if word.startswith("--")), None)
     if unknown is not None:
-        raise Refused(f"`{unknown}` isn't known; {HELP}")
+        raise Refusal(f"`{unknown}` isn't known; {HELP}")
     if not words:
-        raise Refused(f"it wants {what}; ./fractal study --help tells more.")
+        raise Refusal(f"it wants {what}; ./fractal study --help tells more.")
     if len(set(words)) < len(words):
-        raise Refused(f"{what} stands twice.")
+        raise Refusal(f"{what} stands twice.")
     return list(words)
 
 
@@ -85,27 +85,27 @@ def columns_of(text: Optional[str]) -> list[str]:
     names = list(UNLESS_TOLD) if text is None else text.split(",")
     unknown = next((name for name in names if name not in COLUMNS and name != END), None)
     if unknown is not None:
-        raise Refused(f"--columns takes {', '.join(COLUMNS)} and {END}, and not `{unknown}`.")
+        raise Refusal(f"--columns takes {', '.join(COLUMNS)} and {END}, and not `{unknown}`.")
     return names
 
 
-def study_of(words: Sequence[str], grid: Table) -> tuple[Played, list[str], dict[str, Optional[str]]]:
+def study_of(words: Sequence[str], grid: Table) -> tuple[StudyRows, list[str], dict[str, Optional[str]]]:
     """The study that the words ask for, the options that vary, and the values of the other words."""
-    seen, rest = taken(words, OWN_OPTIONS)
-    texts, rest = taken(rest, list(grid.options))
+    seen, rest = take_options(words, OWN_OPTIONS)
+    texts, rest = take_options(rest, list(grid.options))
     paths = need_paths(rest, "an IMAGE")
     values = {name: values_of(grid.options[name], text) for name, text in texts.items() if text is not None}
     cells = [(path, cell) for path in paths for cell in cells_of(grid, values, "choices")]
     if len(cells) > MOST_RUNS:
-        raise Refused(f"the grid has {len(cells):,} choices, and {MOST_RUNS:,} are the most.")
+        raise Refusal(f"the grid has {len(cells):,} choices, and {MOST_RUNS:,} are the most.")
     choices = [Choice(number, *cell) for number, cell in enumerate(cells, 1)]
     shard = shard_of(seen["shard"])
     if not shard.of(choices):
-        raise Refused(f"shard {shard.number} has nothing to do, as there are {len(choices)} choices.")
+        raise Refusal(f"shard {shard.number} has nothing to do, as there are {len(choices)} choices.")
     calls = Calls(SECOND_PROGRAM if seen["program"] is None else pathlib.Path(seen["program"]))
     study = Study({path: read_bytes(path) for path in paths}, number_of(seen, "seed", 0, MOST_SEED, 0),
                   number_of(seen, "rounds", 1, MOST_ROUNDS, MOST_ROUNDS), columns_of(seen["columns"]), calls, shard)
-    return Played(study, choices), [name for name in grid.options if len(values.get(name, [])) > 1], seen
+    return StudyRows(study, choices), [name for name in grid.options if len(values.get(name, [])) > 1], seen
 
 
 def play(words: Sequence[str]) -> int:
@@ -123,7 +123,7 @@ def play(words: Sequence[str]) -> int:
             if len(played.rows) < len(played.choices):
                 say("study", f"{path} has {len(played.rows)} of {len(played.choices)} rows.")
     if picture is not None:
-        write_whole({picture.path: picture.drawn(rows_in(played.cells(list(grid.options))), "this study")})
+        write_whole({picture.path: picture.draw(rows_in(played.cells(list(grid.options))), "this study")})
     if all(row.end.startswith("none") for row in played.rows.values()):
         say("study", "no run came to an end.")
         return 1
@@ -132,14 +132,14 @@ def play(words: Sequence[str]) -> int:
 
 def join(words: Sequence[str]) -> int:
     """Joins what shards wrote."""
-    seen, rest = taken([word for word in words if word != "--join"], ("csv", "plot", "log"))
+    seen, rest = take_options([word for word in words if word != "--join"], ("csv", "plot", "log"))
     paths = need_paths(rest, "a CSV")
     picture = picture_of(seen["plot"], seen["log"], COLUMNS, Table().options)
     need_outputs([seen["csv"], picture.path if picture else None], paths)
-    cells = joined(paths)
+    cells = join_shards(paths)
     files = {}
     if picture is not None:
-        files[picture.path] = picture.drawn(rows_in(cells), ", ".join(paths))
+        files[picture.path] = picture.draw(rows_in(cells), ", ".join(paths))
     if seen["csv"] is not None:
         files[seen["csv"]] = csv_of(cells)
     if not files:

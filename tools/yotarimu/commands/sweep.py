@@ -30,11 +30,11 @@ from __future__ import annotations
 import pathlib
 
 from yotarimu.common.files import need_outputs, write_whole
-from yotarimu.common.outcome import Refused
+from yotarimu.common.outcome import Refusal
 from yotarimu.common.words import Words
 from yotarimu.courses.grid import picture_of, shard_of, values_of
-from yotarimu.courses.sweep import NUMBERS, Request, failed, read_rows, written_rows
-from yotarimu.programs.calls import built
+from yotarimu.courses.sweep import NUMBERS, Request, has_failed, read_rows, written_rows
+from yotarimu.programs.calls import need_program
 from yotarimu.programs.table import Table
 
 MOST_JOBS = 1_024
@@ -45,7 +45,7 @@ def read_words(words: list[str], table: Table) -> Request:
     names = ["csv", "rows", "program", "jobs", "shard", "plot", "log", "load"]
     given = Words("sweep", [*names, *table.options], ["check"], more_help=", ./fractal help the options").read(words)
     if len(given.others) > 1:
-        raise Refused(f"one image is swept at a time: `{given.others[0]}` or `{given.others[1]}`.")
+        raise Refusal(f"one image is swept at a time: `{given.others[0]}` or `{given.others[1]}`.")
     told, request = given.values, Request(next(iter(given.others), None), wants_check="check" in given.flags)
     request.csv, request.rows, request.plot, request.axes = (told[name] for name in ("csv", "rows", "plot", "log"))
     request.values = {name: values_of(option, text) for name, option in table.options.items()
@@ -57,18 +57,18 @@ def read_words(words: list[str], table: Table) -> Request:
     if (load := told["load"]) is not None:
         request.load = load_of(table, load)
     if (request.image, request.load, request.rows).count(None) != 2:
-        raise Refused("it wants an IMAGE, or --load KIND,SEED,SIZE, or --rows CSV; ./fractal sweep --help tells more.")
+        raise Refusal("it wants an IMAGE, or --load KIND,SEED,SIZE, or --rows CSV; ./fractal sweep --help tells more.")
     if request.load and request.wants_check:
-        raise Refused("a load's text has no journal to check: sweep the image that ./fractal generate writes.")
+        raise Refusal("a load's text has no journal to check: sweep the image that ./fractal generate writes.")
     return request
 
 
 def load_of(table: Table, text: str) -> list[str]:
     if "load" not in table.commands:
-        raise Refused("the program generates no loads: it has no command `load` in ./fractal help.")
+        raise Refusal("the program generates no loads: it has no command `load` in ./fractal help.")
     words, names = text.split(","), table.commands["load"].split()
     if len(words) != len(names) or "" in words:
-        raise Refused(f"--load takes {','.join(names)}, and not `{text}`.")
+        raise Refusal(f"--load takes {','.join(names)}, and not `{text}`.")
     return words
 
 
@@ -78,10 +78,10 @@ def main(words: list[str]) -> None:
     picture = picture_of(request.plot, request.axes, NUMBERS, table.options)
     need_outputs((request.csv, picture.path if picture else None), (request.image, request.rows, request.program))
     if request.rows is None:
-        built(request.program)
+        need_program(request.program)
     rows = written_rows(request, table) if request.rows is None else read_rows(request.rows)
     if picture is not None:
-        write_whole({picture.path: picture.drawn(rows, request.rows or "this sweep")})
-    if request.rows is None and rows and all(map(failed, rows)):
+        write_whole({picture.path: picture.draw(rows, request.rows or "this sweep")})
+    if request.rows is None and rows and all(map(has_failed, rows)):
         first = f"with status {rows[0]['status']}" if rows[0]["commits"] == "" else "whose report was refused"
-        raise Refused(f"each of {len(rows)} runs failed, the first {first}.")
+        raise Refusal(f"each of {len(rows)} runs failed, the first {first}.")

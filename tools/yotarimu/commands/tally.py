@@ -13,7 +13,7 @@ import csv
 import io
 
 from yotarimu.common.files import need_outputs, read_text, write_whole
-from yotarimu.common.outcome import Refused
+from yotarimu.common.outcome import Refusal
 from yotarimu.common.text import without_controls
 from yotarimu.common.words import Words
 from yotarimu.courses.schedules import acts_a_round, read_played, read_script
@@ -26,11 +26,11 @@ def main(words: list[str]) -> None:
     path, csv_path = given.values["plot"], given.values["csv"]
     script, *outputs = given.need("a SCRIPT and one OUTPUT of its playing or more", 2, len(words))
     if len(set(outputs)) < len(outputs):
-        raise Refused("an OUTPUT stands twice.")
+        raise Refusal("an OUTPUT stands twice.")
     need_outputs((path, csv_path), (script, *outputs))
     acts = read_script(read_text(script), script)
     if not acts:
-        raise Refused(f"{script}: this script has no act, so there is nothing to sum up.")
+        raise Refusal(f"{script}: this script has no act, so there is nothing to sum up.")
     rounds = acts_a_round(acts)
     tallies = {without_controls(name): Tally(read_played(acts, read_text(name), name), rounds) for name in outputs}
     print(*summary(tallies), sep="\n")
@@ -40,7 +40,7 @@ def main(words: list[str]) -> None:
     files: dict[str, bytes] = {}
     if path is not None:
         curves = {name if len(tallies) > 1 else "": tally.curve for name, tally in tallies.items()}
-        files[path] = plot.drawn(curves, "acts", "commits").encode()
+        files[path] = plot.draw(curves, "acts", "commits").encode()
     if csv_path is not None:
         text = io.StringIO()
         csv.writer(text, lineterminator="\n").writerows(plain_rows(tallies))

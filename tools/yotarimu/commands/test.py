@@ -13,7 +13,7 @@ from __future__ import annotations
 
 import time
 
-from yotarimu.common.outcome import Refused
+from yotarimu.common.outcome import Refusal
 from yotarimu.programs.check import ANSWERS, BUILT, UNPROVED, check
 from yotarimu.programs.examples import EXAMPLES, SCHEDULES
 from yotarimu.programs.program import PROGRAM
@@ -23,7 +23,7 @@ def main(words: list[str]) -> int:
     known = (*EXAMPLES, *SCHEDULES, ANSWERS)
     for word in words:
         if word not in known:
-            raise Refused(f"`{word}` is none of the project's examples and schedules, which are {', '.join(known)}.")
+            raise Refusal(f"`{word}` is none of the project's examples and schedules, which are {', '.join(known)}.")
     start, is_built = time.monotonic(), PROGRAM.exists()
     count, failed = check(list(dict.fromkeys(words or known)), is_built)
     print(f"{count - failed} of {count} answers are as stored, in {time.monotonic() - start:.0f} s.",

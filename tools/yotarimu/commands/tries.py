@@ -12,12 +12,12 @@ import collections
 import time
 from typing import Callable, Optional
 
-from yotarimu.common.outcome import Refused
+from yotarimu.common.outcome import Refusal
 
 from tries import (
     applications, build, c_tasks, causes, contents, debug, documents, explain, figures, gate, interrupts, launcher,
     lockstep, packages, pages, resume, schedules, studies, sweep, watch, web, words)
-from tries.place import Failed, LeftOut, Place
+from tries.place import Failure, Omission, Place
 
 Attempt = Callable[[Place], None]
 PARTS = (launcher, words, packages, build, c_tasks, contents, applications, explain, gate, sweep, resume, schedules,
@@ -31,9 +31,9 @@ def verdict_of(attempt: Attempt) -> tuple[str, Optional[str]]:
     place = Place()
     try:
         attempt(place)
-    except Failed as failed:
+    except Failure as failed:
         return FAILED, str(failed)
-    except LeftOut as left_out:
+    except Omission as left_out:
         return LEFT_OUT, str(left_out)
     finally:
         place.remove()
@@ -43,7 +43,7 @@ def verdict_of(attempt: Attempt) -> tuple[str, Optional[str]]:
 def main(told: list[str]) -> int:
     chosen = [attempt for attempt in TRIES if not told or any(word in attempt.__name__ for word in told)]
     if not chosen:
-        raise Refused("no try has such a name.")
+        raise Refusal("no try has such a name.")
     counts: collections.Counter[str] = collections.Counter()
     for attempt in chosen:
         start = time.monotonic()

@@ -15,14 +15,14 @@ import pathlib
 from typing import Optional, Sequence
 
 from yotarimu.common.files import read_bytes
-from yotarimu.common.outcome import Refused, note
+from yotarimu.common.outcome import Refusal, note
 from yotarimu.common.words import take_option
 from yotarimu.images.contents import WIDTHS
 from yotarimu.images.image import read_image
 from yotarimu.images.labels import listing_for
-from yotarimu.images.values import piece_of, told, variables
+from yotarimu.images.values import piece_of, piece_lines, variables
 from yotarimu.programs.calls import Calls
-from yotarimu.programs.final_memory import Left, memory_left
+from yotarimu.programs.final_memory import FinalMemory, memory_left
 from yotarimu.programs.program import PROGRAM, SECOND_PROGRAM
 
 
@@ -35,31 +35,31 @@ def main(words: Sequence[str]) -> None:
     names = [word for word in words if word != "--hex"]
     option = next((word for word in names if word.startswith("--")), None)
     if option is not None:
-        raise Refused(f"`{option}` isn't known; ./fractal values --help tells the words.")
+        raise Refusal(f"`{option}` isn't known; ./fractal values --help tells the words.")
     if len(names) < 2:
-        raise Refused("it wants an IMAGE and a NAME; ./fractal values --help tells more.")
+        raise Refusal("it wants an IMAGE and a NAME; ./fractal values --help tells more.")
     if kind is not None and kind not in WIDTHS:
-        raise Refused(f"--as takes {', '.join(WIDTHS)}, and not `{kind}`.")
+        raise Refusal(f"--as takes {', '.join(WIDTHS)}, and not `{kind}`.")
     data = read_bytes(names[0])
     image = read_image(data, names[0])
     listing, remark = listing_for(names[0], image, None)
     if remark is not None:
-        raise Refused(f"{remark.rstrip('.')}: ./fractal build writes the listing that names are taken from.")
+        raise Refusal(f"{remark.rstrip('.')}: ./fractal build writes the listing that names are taken from.")
     known = variables(listing, image)
     pieces = [piece_of(word, known, WIDTHS[kind or "words"]) for word in names[1:]]
-    left = left_of(data, program, second) if memory is None else kept(read_bytes(memory))
+    left = left_of(data, program, second) if memory is None else memory_of_file(read_bytes(memory))
     if left.size != image.size:
-        raise Refused(f"the memory has {left.size:,} bytes, and the image's data {image.size:,}.")
+        raise Refusal(f"the memory has {left.size:,} bytes, and the image's data {image.size:,}.")
     for piece in pieces:
-        print(*told(piece, left.data, "--hex" in words), sep="\n")
+        print(*piece_lines(piece, left.data, "--hex" in words), sep="\n")
 
 
-def kept(data: bytes) -> Left:
+def memory_of_file(data: bytes) -> FinalMemory:
     """Memory that a file has."""
-    return Left(data, len(data), "normal")
+    return FinalMemory(data, len(data), "normal")
 
 
-def left_of(image: bytes, program: Optional[str], second: Optional[str]) -> Left:
+def left_of(image: bytes, program: Optional[str], second: Optional[str]) -> FinalMemory:
     """The memory that a run of the image leaves; it is told where the run doesn't end normally."""
     left = memory_left(pathlib.Path(program or PROGRAM), Calls(pathlib.Path(second or SECOND_PROGRAM)), image)
     if left.end != "normal":

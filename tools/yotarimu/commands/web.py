@@ -16,11 +16,11 @@ from __future__ import annotations
 import pathlib
 from typing import List
 
-from yotarimu.common.outcome import Refused
+from yotarimu.common.outcome import Refusal
 from yotarimu.common.places import HOME
 from yotarimu.common.words import need_number
-from yotarimu.web.holding import held
-from yotarimu.web.making import PAGE, difference, make_files, make_modules
+from yotarimu.web.comparison import compare_all
+from yotarimu.web.modules import PAGE, difference, make_files, make_modules
 
 # The launcher calls this behind ./fractal prove --web.
 MODULES, COMPARE, HOLD = "--modules", "--compare", "--hold"
@@ -37,7 +37,7 @@ def main(words: List[str]) -> int:
     if words[:1] == [HOLD] and len(words) <= 2:
         return hold(need_number("N", (words[1:] or [CASES])[0], 0, MOST_CASES))
     if len(words) > 1 or words and words[0].startswith("-"):
-        raise Refused("it takes one FOLDER, or --compare, or nothing; ./fractal web --help tells more.")
+        raise Refusal("it takes one FOLDER, or --compare, or nothing; ./fractal web --help tells more.")
     make_files(pathlib.Path(words[0] if words else "."))
     return 0
 
@@ -52,7 +52,7 @@ def compare(path: pathlib.Path) -> int:
 
 
 def hold(count: int) -> int:
-    outcome = held(count, SEED)
+    outcome = compare_all(count, SEED)
     for kind, times in outcome.counts.items():
         print(f"{times:,} calls: {kind}")
     for told in outcome.differences[:MOST_TOLD]:

@@ -11,7 +11,7 @@ takes some minutes.
 """
 from __future__ import annotations
 
-from yotarimu.common.outcome import Refused
+from yotarimu.common.outcome import Refusal
 from yotarimu.common.words import Words
 from yotarimu.programs.calls import program_at
 from yotarimu.programs.examples import EXAMPLES
@@ -26,7 +26,7 @@ def main(words: list[str]) -> int:
     runs, jobs = given.number("runs", 1, MOST_RUNS, RUNS), given.number("jobs", 1, MOST_JOBS, 1)
     for word in given.others:
         if word not in EXAMPLES:
-            raise Refused(f"`{word}` is none of the project's examples, which are {', '.join(EXAMPLES)}.")
+            raise Refusal(f"`{word}` is none of the project's examples, which are {', '.join(EXAMPLES)}.")
     program = program_at(given.values["program"])
     failed = sum(failures_of(name, program, runs, jobs) for name in given.others or EXAMPLES)
     return 1 if failed else 0

@@ -8,7 +8,7 @@ import sys
 from collections.abc import Callable, Iterator, Sequence
 from typing import Any, NamedTuple
 
-from yotarimu.common.outcome import Refused, Stopped
+from yotarimu.common.outcome import Refusal, Interruption
 
 # Each process begins with what this one knows.
 CONTEXT = multiprocessing.get_context("fork")
@@ -16,7 +16,7 @@ Tell = Callable[[Any], None]
 Connection = multiprocessing.connection.Connection
 
 
-class Told(NamedTuple):
+class News(NamedTuple):
     """What a process tells of the item at a place: news of it, or at last its result, or why there is none."""
     place: int
     is_last: bool
@@ -30,7 +30,7 @@ class Crew:
         self.work, self.jobs = work, jobs
         self.running: dict[Connection, tuple[int, Any]] = {}
 
-    def each(self, items: Sequence[Any]) -> Iterator[Told]:
+    def each(self, items: Sequence[Any]) -> Iterator[News]:
         """What is told of the items, as it comes. When it is left early, by an interrupt too, all processes are
         ended. What an item is refused for is raised."""
         waiting = list(enumerate(items))[::-1]
@@ -39,7 +39,7 @@ class Crew:
                 while waiting and len(self.running) < self.jobs:
                     self.start(*waiting.pop())
                 for connection in multiprocessing.connection.wait(list(self.running)):
-                    yield self.told(connection)  # type: ignore[arg-type]
+                    yield self.receive(connection)  # type: ignore[arg-type]
         finally:
             self.end()
 
@@ -50,20 +50,20 @@ class Crew:
         theirs.close()
         self.running[mine] = place, process
 
-    def told(self, connection: Connection) -> Told:
+    def receive(self, connection: Connection) -> News:
         place, process = self.running[connection]
         try:
             is_last, what = connection.recv()
         except EOFError:
             process.join()
-            raise Refused(f"a process ended with status {process.exitcode}, and told nothing.") from None
+            raise Refusal(f"a process ended with status {process.exitcode}, and told nothing.") from None
         if is_last:
             del self.running[connection]
             connection.close()
             process.join()
-        if isinstance(what, Refused):
+        if isinstance(what, Refusal):
             raise what
-        return Told(place, is_last, what)
+        return News(place, is_last, what)
 
     def end(self) -> None:
         for _, process in self.running.values():
@@ -83,7 +83,7 @@ def do(work: Callable[[Any, Tell], Any], item: Any, connection: Connection, othe
     try:
         try:
             connection.send((True, work(item, lambda news: connection.send((False, news)))))
-        except (Refused, MemoryError) as refused:
-            connection.send((True, refused if isinstance(refused, Refused) else Refused("out of memory.")))
-    except (Stopped, BrokenPipeError):
+        except (Refusal, MemoryError) as refused:
+            connection.send((True, refused if isinstance(refused, Refusal) else Refusal("out of memory.")))
+    except (Interruption, BrokenPipeError):
         sys.exit(1)

@@ -11,7 +11,7 @@ import tempfile
 from collections.abc import Iterable, Mapping
 from typing import Optional, TypeVar, Union
 
-from yotarimu.common.outcome import Refused
+from yotarimu.common.outcome import Refusal
 
 FilePath = Union[str, "os.PathLike[str]"]
 AnyPath = TypeVar("AnyPath", bound=FilePath)
@@ -22,14 +22,14 @@ MOST_READ = 1 << 28
 def read_bytes(path: FilePath) -> bytes:
     """The whole of a file; `-` is standard input."""
     if str(path) == "-" and sys.stdin is None:
-        raise Refused("standard input is closed.")
+        raise Refusal("standard input is closed.")
     if str(path) == "-":
         data = sys.stdin.buffer.read(MOST_READ + 1)
     else:
         with open(path, "rb") as file:
             data = file.read(MOST_READ + 1)
     if len(data) > MOST_READ:
-        raise Refused(f"{path}: it has more than {MOST_READ:,} bytes.")
+        raise Refusal(f"{path}: it has more than {MOST_READ:,} bytes.")
     return data
 
 
@@ -90,15 +90,15 @@ def need_writable(path: FilePath) -> pathlib.Path:
     """The path of a file that can be written, behind all links; else a refusal, before any work is done for it."""
     path = pathlib.Path(path)
     if path.is_dir():
-        raise Refused(f"{path}: this is a folder, so no file can be written there.")
+        raise Refusal(f"{path}: this is a folder, so no file can be written there.")
     if not path.exists() or stat.S_ISREG(path.stat().st_mode):
         named, path = path, pathlib.Path(os.path.realpath(path))
         if not path.parent.is_dir():
-            raise Refused(f"{named}: it can't be written, since there is no such folder.")
+            raise Refusal(f"{named}: it can't be written, since there is no such folder.")
         if not os.access(path.parent, os.W_OK | os.X_OK):
-            raise Refused(f"{named}: it can't be written: permission denied.")
+            raise Refusal(f"{named}: it can't be written: permission denied.")
     if path.exists() and not os.access(path, os.W_OK):
-        raise Refused(f"{path}: it can't be written: permission denied.")
+        raise Refusal(f"{path}: it can't be written: permission denied.")
     return path
 
 
@@ -109,9 +109,9 @@ def need_outputs(outputs: Iterable[Optional[FilePath]], inputs: Iterable[Optiona
     for place, path in enumerate(written):
         need_writable(path)
         if any(is_same_file(path, other) for other in read):
-            raise Refused(f"{path}: this is read, so it isn't written too.")
+            raise Refusal(f"{path}: this is read, so it isn't written too.")
         if any(path == other != os.devnull or is_same_file(path, other) for other in written[:place]):
-            raise Refused(f"{path}: two outputs can't be one file.")
+            raise Refusal(f"{path}: two outputs can't be one file.")
 
 
 def is_same_file(one: FilePath, other: FilePath) -> bool:
@@ -122,7 +122,7 @@ def is_same_file(one: FilePath, other: FilePath) -> bool:
     return not os.path.exists(one) and os.path.realpath(one) == os.path.realpath(other)
 
 
-def encoded(text: str) -> bytes:
+def encode(text: str) -> bytes:
     """A text as a file has it; bytes in names of files that are no text are told as on standard output."""
     return text.encode("utf-8", "backslashreplace")
 

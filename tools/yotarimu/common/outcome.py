@@ -17,11 +17,11 @@ SIGNALS = (signal.SIGINT, signal.SIGTERM, signal.SIGHUP)
 Main = Callable[[list[str]], Optional[int]]
 
 
-class Refused(Exception):
+class Refusal(Exception):
     """What was asked for can't be done. Its text is the sentence, or the few lines, for the person who asked."""
 
 
-class Stopped(BaseException):
+class Interruption(BaseException):
     """A signal asked for the end."""
 
     def __init__(self, number: int) -> None:
@@ -39,7 +39,7 @@ def run_script(name: str, main: Main, words: Optional[list[str]] = None) -> NoRe
         signal.pthread_sigmask(signal.SIG_UNBLOCK, SIGNALS)
         status = answer(name, main, sys.argv[1:] if words is None else words)
         ignore_signals()
-    except Stopped as stopped:
+    except Interruption as stopped:
         say(name, "interrupted.")
         status = 128 + stopped.number
     end(status)
@@ -48,13 +48,13 @@ def run_script(name: str, main: Main, words: Optional[list[str]] = None) -> NoRe
 def answer(name: str, main: Main, words: list[str]) -> int:
     try:
         if sys.stdout is None:
-            raise Refused("standard output is closed.")
+            raise Refusal("standard output is closed.")
         if isinstance(sys.stdout, io.TextIOWrapper):
             sys.stdout.reconfigure(errors="backslashreplace")
         status = main(words) or 0
         sys.stdout.flush()
         return status
-    except Refused as refused:
+    except Refusal as refused:
         say(name, refused)
     except (OSError, MemoryError) as error:
         say(name, error_text(error))
@@ -72,7 +72,7 @@ def end(status: int) -> NoReturn:
 
 def stop(number: int, _frame: Optional[types.FrameType]) -> NoReturn:
     ignore_signals()
-    raise Stopped(number)
+    raise Interruption(number)
 
 
 def ignore_signals() -> None:

@@ -11,6 +11,6 @@ from typing import Any, Dict
 SENTENCES: Dict[str, Any] = json.loads(pathlib.Path(__file__).with_suffix(".json").read_text(encoding="utf-8"))
 
 
-def filled(template: str, /, **values: object) -> str:
+def fill(template: str, /, **values: object) -> str:
     """A text with the values that it names between braces."""
     return template.format_map(values)

@@ -13,6 +13,6 @@ def printable(data: bytes) -> str:
     return "".join(names.get(byte) or (chr(byte) if 0x20 <= byte < 0x7F else f"\\x{byte:02x}") for byte in data)
 
 
-def counted(count: int, what: str) -> str:
+def count_text(count: int, what: str) -> str:
     """So many of what a word names."""
     return f"{count:,} {what}{'' if count == 1 else 's'}"

@@ -6,7 +6,7 @@ import dataclasses
 from collections.abc import Iterable, Sequence
 from typing import NoReturn, Optional
 
-from yotarimu.common.outcome import Refused
+from yotarimu.common.outcome import Refusal
 
 DOOR = "./fractal "
 
@@ -25,7 +25,7 @@ def need_number(what: str, word: str, least: int, most: int) -> int:
     """The number that a word is; else a refusal that tells what may stand there."""
     number = number_in(word, least, most)
     if number is None:
-        raise Refused(f"{what} takes a number from {least} to {most}, and not `{word}`.")
+        raise Refusal(f"{what} takes a number from {least} to {most}, and not `{word}`.")
     return number
 
 
@@ -35,12 +35,12 @@ class Once(argparse.Action):
     def __call__(self, parser: argparse.ArgumentParser, namespace: argparse.Namespace, values: object,
                  option_string: Optional[str] = None) -> None:
         if getattr(namespace, self.dest) is not None:
-            raise Refused(f"`{option_string}` stands twice.")
+            raise Refusal(f"`{option_string}` stands twice.")
         setattr(namespace, self.dest, values)
 
 
 @dataclasses.dataclass(frozen=True)
-class Given:
+class GivenWords:
     """What the words of a call give: a value, or None, for each option, the flags that stand there, and the words
     between them."""
     call: str
@@ -51,7 +51,7 @@ class Given:
     def need(self, what: str, least: int, most: Optional[int] = None) -> list[str]:
         """The words between options, of which there are to be so many."""
         if not least <= len(self.others) <= (least if most is None else most):
-            raise Refused(f"it wants {what}; {self.call} --help tells more.")
+            raise Refusal(f"it wants {what}; {self.call} --help tells more.")
         return self.others
 
     def number(self, name: str, least: int, most: int, unless_given: int) -> int:
@@ -74,9 +74,9 @@ class Words(argparse.ArgumentParser):
             self.add_argument(f"--{name}", dest=name, action="store_true")
 
     def error(self, message: str) -> NoReturn:
-        raise Refused(f"{message}.")
+        raise Refusal(f"{message}.")
 
-    def known(self, words: Sequence[str]) -> Given:
+    def read_known(self, words: Sequence[str]) -> GivenWords:
         """What the words give; what isn't known stays among the words between options."""
         try:
             found, others = self.parse_known_args(list(words))
@@ -85,11 +85,12 @@ class Words(argparse.ArgumentParser):
             is_flag = name.removeprefix("--") in self.flag_names
             self.error(f"`{name}` takes no value" if is_flag else f"a value is missing after `{name}`")
         values = {name: getattr(found, name) for name in self.value_names}
-        return Given(self.prog, values, frozenset(name for name in self.flag_names if getattr(found, name)), others)
+        flags = frozenset(name for name in self.flag_names if getattr(found, name))
+        return GivenWords(self.prog, values, flags, others)
 
-    def read(self, words: Sequence[str]) -> Given:
+    def read(self, words: Sequence[str]) -> GivenWords:
         """What the words give, where each option among them is known."""
-        given = self.known(words)
+        given = self.read_known(words)
         unknown = next((word for word in given.others if word.startswith("--")), None)
         if unknown is not None:
             self.error(f"`{unknown}` isn't known; {self.prog} --help tells the words{self.more_help}")
@@ -99,7 +100,7 @@ class Words(argparse.ArgumentParser):
 def take_option(words: Sequence[str], name: str) -> tuple[Optional[str], list[str]]:
     """The value of an option that may stand once, as `NAME VALUE` or `NAME=VALUE`, and the other words."""
     option = name.removeprefix("--")
-    given = Words("", [option]).known(words)
+    given = Words("", [option]).read_known(words)
     return given.values[option], given.others
 
 

@@ -10,7 +10,7 @@ from collections.abc import Iterable
 from typing import Optional
 
 from yotarimu.common.files import read_text
-from yotarimu.common.outcome import Refused
+from yotarimu.common.outcome import Refusal
 from yotarimu.common.places import EXAMPLES_FOLDER
 from yotarimu.lines.fields import Line
 from yotarimu.programs.examples import SCHEDULES, watched_words_of
@@ -29,7 +29,7 @@ def replies_said(said: str, name: str) -> list[tuple[str, int]]:
     try:
         return [("ok" if reply in MADE else reply, int(count)) for reply, count in pairs]
     except ValueError:
-        raise Refused(f"{name}: what is stored isn't what `steps` says: a line is no reply with a number.") from None
+        raise Refusal(f"{name}: what is stored isn't what `steps` says: a line is no reply with a number.") from None
 
 
 def lines_in(told: bytes) -> Optional[list[Line]]:

@@ -9,9 +9,9 @@ import tempfile
 from collections.abc import Iterable, Iterator, Sequence
 from typing import Callable, Optional
 
-from yotarimu.common.files import encoded, need_outputs, need_writable, write_whole
-from yotarimu.common.outcome import Refused, say, error_text
-from yotarimu.common.text import counted
+from yotarimu.common.files import encode, need_outputs, need_writable, write_whole
+from yotarimu.common.outcome import Refusal, say, error_text
+from yotarimu.common.text import count_text
 from yotarimu.common.words import need_number
 from yotarimu.courses.growth import Performance, Schedule
 from yotarimu.courses.schedules import NUMBERS
@@ -54,7 +54,7 @@ class Console:
                 self.answer(*words)
             except BrokenPipeError:
                 raise
-            except (Refused, OSError) as error:
+            except (Refusal, OSError) as error:
                 say(NAME, error_text(error) if isinstance(error, OSError) else error)
                 self.is_refused = True
             if self.is_left:
@@ -65,11 +65,11 @@ class Console:
             self.words[word](list(rest))
             return
         if word not in NUMBERS:
-            raise Refused(f"`{word[:40]}` is no act and no word of the console; `help` tells them.")
+            raise Refusal(f"`{word[:40]}` is no act and no word of the console; `help` tells them.")
         act = " ".join((word, *rest))
         fault = script_fault(act.encode("utf-8", "replace"), self.schedule.tiles, self.schedule.cores)
         if fault:
-            raise Refused(f"`{act[:40]}`: {fault}.")
+            raise Refusal(f"`{act[:40]}`: {fault}.")
         self.add([act])
 
     def add(self, acts: Sequence[str]) -> None:
@@ -78,14 +78,14 @@ class Console:
 
     def tell(self, performance: Performance) -> None:
         self.performance, self.is_saved = performance, not performance.acts
-        write([*performance.told(), ""])
+        write([*performance.text_lines(), ""])
 
     # ---- words of the console
 
     def undo(self, words: Sequence[str]) -> None:
         count = number_behind("undo", words, len(self.acts), 1) if self.acts else 0
         if not count:
-            raise Refused("no act is left to undo.")
+            raise Refusal("no act is left to undo.")
         self.tell(self.schedule.play(self.acts[:-count]))
 
     def run(self, words: Sequence[str]) -> None:
@@ -95,13 +95,13 @@ class Console:
         if "ended" in performance.replies[before:]:
             done = performance.replies.index("ended", before)
             if done == before:
-                raise Refused("the run is over, so no event is left.")
+                raise Refusal("the run is over, so no event is left.")
             performance = self.schedule.play(performance.acts[:done], before)
         self.tell(performance)
 
     def show(self, words: Sequence[str]) -> None:
         need_none("show", words)
-        write([*self.schedule.play(self.acts).told(), ""])
+        write([*self.schedule.play(self.acts).text_lines(), ""])
 
     def script(self, words: Sequence[str]) -> None:
         need_none("script", words)
@@ -111,7 +111,7 @@ class Console:
     def save(self, words: Sequence[str]) -> None:
         path = file_behind("save", words)
         if pathlib.Path(path).exists():
-            raise Refused(f"{path}: this is there already; `save! {path}` replaces it.")
+            raise Refusal(f"{path}: this is there already; `save! {path}` replaces it.")
         self.write_script(path)
 
     def save_over(self, words: Sequence[str]) -> None:
@@ -122,7 +122,7 @@ class Console:
         write_whole({path: "".join(f"{act}\n" for act in self.acts).encode()})
         self.is_saved = True
         options = "".join(f" --{name} {value}" for name, value in self.schedule.options.items())
-        write([f"{path} has {counted(len(self.acts), 'act')}; this plays them:",
+        write([f"{path} has {count_text(len(self.acts), 'act')}; this plays them:",
                f"./fractal play {shlex.quote(path)} --image {shlex.quote(str(self.schedule.path))}{options}"])
 
     def open(self, words: Sequence[str]) -> None:
@@ -134,7 +134,7 @@ class Console:
             lines.write(self.performance.lines)
             lines.flush()
             listing = pathlib.Path(self.schedule.path).parent / "listing" if has_labels else None
-            page = encoded(page_of(lines.name, listing))
+            page = encode(page_of(lines.name, listing))
         write_whole({path: page})
         write([f"The page is {path}; a browser shows this act at {path.resolve().as_uri()}#{len(self.acts)}"])
 
@@ -162,21 +162,21 @@ def number_behind(word: str, words: Sequence[str], most: int, default: Optional[
     if not words and default is not None:
         return default
     if len(words) != 1:
-        raise Refused(f"`{word}` takes one number.")
+        raise Refusal(f"`{word}` takes one number.")
     return need_number(f"`{word}`", words[0], 1, most)
 
 
 def file_behind(word: str, words: Sequence[str]) -> str:
     if len(words) != 1:
-        raise Refused(f"`{word}` takes one FILE, without blanks in its name.")
+        raise Refusal(f"`{word}` takes one FILE, without blanks in its name.")
     if "\0" in words[0]:
-        raise Refused(f"`{word}`: no file has a byte 0 in its name.")
+        raise Refusal(f"`{word}`: no file has a byte 0 in its name.")
     return words[0]
 
 
 def need_none(word: str, words: Sequence[str]) -> None:
     if words:
-        raise Refused(f"nothing stands behind `{word}`.")
+        raise Refusal(f"nothing stands behind `{word}`.")
 
 
 def new_page() -> pathlib.Path:
@@ -188,7 +188,7 @@ def need_page(path: pathlib.Path) -> None:
     if path.is_file():
         with open(path, "rb") as file:
             if file.read(len(PAGE_START)) not in (PAGE_START, b""):
-                raise Refused(f"{path}: this is there already, and is no page.")
+                raise Refusal(f"{path}: this is there already, and is no page.")
 
 
 # ---- the input
@@ -197,13 +197,13 @@ def need_page(path: pathlib.Path) -> None:
 def typed_lines() -> Iterator[str]:
     """The lines of standard input; with a prompt on a terminal."""
     if sys.stdin is None:
-        raise Refused("standard input is closed.")
+        raise Refusal("standard input is closed.")
     if sys.stdin.isatty():
         yield from prompted_lines()
         return
     while data := sys.stdin.buffer.readline(MOST_TYPED):
         if len(data) == MOST_TYPED and not data.endswith(b"\n"):
-            raise Refused(f"a line of the input has more than {MOST_TYPED:,} bytes.")
+            raise Refusal(f"a line of the input has more than {MOST_TYPED:,} bytes.")
         yield data.decode("utf-8", "replace")
 
 

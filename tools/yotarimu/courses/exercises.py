@@ -10,11 +10,11 @@ import re
 from typing import Any, Callable, NamedTuple
 
 from yotarimu.common.files import FilePath, read_bytes, read_written
-from yotarimu.common.outcome import Refused
+from yotarimu.common.outcome import Refusal
 from yotarimu.common.places import EXAMPLES_FOLDER
-from yotarimu.common.sentences import filled
-from yotarimu.courses.schedules import Act, Said
-from yotarimu.courses.scripts import acts_in, asked, options_beside, play, read_lines
+from yotarimu.common.sentences import fill
+from yotarimu.courses.schedules import Act, ActAnswer
+from yotarimu.courses.scripts import acts_in, ask, options_beside, play, read_lines
 from yotarimu.images.compiler import GCC
 from yotarimu.images.folder import build
 from yotarimu.images.image import Image, read_image
@@ -32,21 +32,21 @@ class PlayedAct(NamedTuple):
     """An act of a script with its line, and what it was answered."""
     line: int
     act: Act
-    said: Said
+    said: ActAnswer
 
 
-class Wrong(Exception):
+class WrongAnswer(Exception):
     """The answer isn't right; the text says why."""
 
 
 def hold(is_so: object, template: str, **values: object) -> None:
     if not is_so:
-        raise Wrong(filled(template, **values))
+        raise WrongAnswer(fill(template, **values))
 
 
 def run_of(image: FilePath) -> Report:
     """The report of the run of an image."""
-    return read_report(asked(["run"], image)[1], str(image))
+    return read_report(ask(["run"], image)[1], str(image))
 
 
 # ---- 1, the journal
@@ -58,7 +58,7 @@ def judge_journal(path: str) -> str:
     given = [(number, fields) for number, fields in enumerate(lines, 1) if fields]
     for number, fields in given:
         if len(fields) != len(FIELDS):
-            raise Refused(f"{path}:{number}: {filled(said['misshapen'], text=' '.join(fields)[:MOST_SHOWN])}.")
+            raise Refusal(f"{path}:{number}: {fill(said['misshapen'], text=' '.join(fields)[:MOST_SHOWN])}.")
     report = run_of(FOLDER / "journal" / "image.bin")
     for (number, fields), entry in zip(given, report.entries):
         wanted = (entry.turn, entry.name, entry.depth, entry.timestamp)
@@ -66,7 +66,7 @@ def judge_journal(path: str) -> str:
         hold(not wrong, said["field"], line=number, fields=said["and"].join(wrong), isnt=said["isnt"][len(wrong) > 1])
     hold(len(given) >= len(report.entries), said["fewer"], count=len(given))
     hold(len(given) <= len(report.entries), said["more"], count=len(report.entries))
-    return filled(said["right"], count=len(given), output=report.output.decode())
+    return fill(said["right"], count=len(given), output=report.output.decode())
 
 
 # ---- 2 and 3, scripts
@@ -89,7 +89,7 @@ def judge_abort(path: str) -> str:
     found = next((it for it in back if it.act.word in ("step", "give", "advance")), back[0])
     hold(found.act.word in ("step", "give", "advance"), said["by itself"], line=found.line, act=found.act)
     hold(end == "normal", said["left"], line=found.line)
-    return filled(said["right"], line=found.line, count=found.said.taken_back)
+    return fill(said["right"], line=found.line, count=found.said.taken_back)
 
 
 def judge_stall(path: str) -> str:
@@ -97,24 +97,24 @@ def judge_stall(path: str) -> str:
     found = next((number for number, _, it in played if it.reply == "stall"), None)
     hold(found, said["none"])
     hold(end == "normal", said["left"], line=found)
-    return filled(said["right"], line=found)
+    return fill(said["right"], line=found)
 
 
 # ---- 4 and 5, sources
 
 
-def built(folder: str) -> tuple[pathlib.Path, Image]:
+def build_image(folder: str) -> tuple[pathlib.Path, Image]:
     """The image that the source of a folder makes."""
     place = pathlib.Path(folder)
     if not folder or not place.is_dir():
-        raise Refused(f"{folder}: there is no such folder; copy that of the exercise.")
+        raise Refusal(f"{folder}: there is no such folder; copy that of the exercise.")
     build(place, GCC)
     path = place / "image.bin"
     return path, read_image(read_bytes(path), path)
 
 
 def judge_false_conflict(folder: str) -> str:
-    path, _ = built(folder)
+    path, _ = build_image(folder)
     table, own, said = Table(), FOLDER / "false_conflict", SAID["false_conflict"]
     options = options_beside(own, table)
     acts = acts_in(read_lines(own / "script"), own / "script", options, table)
@@ -128,7 +128,7 @@ def judge_false_conflict(folder: str) -> str:
 
 
 def judge_order(folder: str) -> str:
-    (path, image), said = built(folder), SAID["order"]
+    (path, image), said = build_image(folder), SAID["order"]
     own = read_image(read_bytes(FOLDER / "order" / "image.bin"), "order")
     hold(image.text == own.text, said["text"])
     letters = [sorted(task.arguments for task in it.tasks) for it in (image, own)]
@@ -138,7 +138,7 @@ def judge_order(folder: str) -> str:
     hold(image.is_ordered, said["unordered"])
     times = [task.timestamp for task in image.tasks]
     hold(len(set(times)) == len(times), said["tie"])
-    return filled(said["right"], output=WORD.decode())
+    return fill(said["right"], output=WORD.decode())
 
 
 JUDGES: dict[str, Callable[[str], str]] = {

@@ -7,8 +7,8 @@ import math
 from collections.abc import Collection, Mapping, Sequence
 from typing import Optional, TypeVar
 
-from yotarimu.common.files import encoded
-from yotarimu.common.outcome import Refused
+from yotarimu.common.files import encode
+from yotarimu.common.outcome import Refusal
 from yotarimu.common.words import number_in
 from yotarimu.pictures import plot
 from yotarimu.programs.table import Option, Table
@@ -26,7 +26,7 @@ def values_of(option: Option, text: str) -> list[int]:
     values = [value for piece in text.split(",") for value in values_in(option, piece)]
     wrong = next((value for value in values if value not in option.values), None)
     if wrong is not None or not values:
-        raise Refused(f"--{option.name} takes {option.told()}, and not `{text if wrong is None else wrong}`.")
+        raise Refusal(f"--{option.name} takes {option.range_text()}, and not `{text if wrong is None else wrong}`.")
     return list(dict.fromkeys(values))
 
 
@@ -35,13 +35,13 @@ def values_in(option: Option, piece: str) -> Sequence[int]:
     numbers = [number_in(part, 0, MOST_VALUE) for part in piece.split("..")]
     given = [number for number in numbers if number is not None]
     if len(given) < len(numbers) or len(given) > 3 or given[2:] == [0]:
-        raise Refused(f"--{option.name}: `{piece}` is no number, FROM..TO or FROM..TO..STEP.")
+        raise Refusal(f"--{option.name}: `{piece}` is no number, FROM..TO or FROM..TO..STEP.")
     if len(given) == 1:
         return given
     first, last, step = [*given, 1][:3]
     values = range(first, last + 1, step)
     if len(values) > MOST_RUNS:
-        raise Refused(f"--{option.name}: `{piece}` has {len(values):,} values, and {MOST_RUNS:,} are the most.")
+        raise Refusal(f"--{option.name}: `{piece}` has {len(values):,} values, and {MOST_RUNS:,} are the most.")
     return values
 
 
@@ -49,7 +49,7 @@ def cells_of(table: Table, values: Mapping[str, Sequence[int]], what: str = "run
     """The cells of the grid: each choice of one value an option, where an option without values has its default."""
     count = math.prod(map(len, values.values()))
     if count > MOST_RUNS:
-        raise Refused(f"the grid has {count:,} {what}, and {MOST_RUNS:,} are the most.")
+        raise Refusal(f"the grid has {count:,} {what}, and {MOST_RUNS:,} are the most.")
     lists = [values.get(name, [option.default]) for name, option in table.options.items()]
     return [dict(zip(table.options, choice)) for choice in itertools.product(*lists)]
 
@@ -73,7 +73,7 @@ def shard_of(text: Optional[str]) -> Shard:
     total = number_in(count, 1, MOST_RUNS)
     place = number_in(part, 1, total) if total else None
     if not slash or place is None or total is None:
-        raise Refused(f"--shard takes K/N with K from 1 to N, and not `{text}`.")
+        raise Refusal(f"--shard takes K/N with K from 1 to N, and not `{text}`.")
     return Shard(place, total)
 
 
@@ -85,21 +85,21 @@ class Picture:
     path: str
     axes: str
 
-    def drawn(self, rows: Sequence[Mapping[str, str]], origin: str) -> bytes:
+    def draw(self, rows: Sequence[Mapping[str, str]], origin: str) -> bytes:
         series = series_of(rows, self.column, self.option, origin)
-        return encoded(plot.drawn(series, f"--{self.option}", self.column, self.axes))
+        return encode(plot.draw(series, f"--{self.option}", self.column, self.axes))
 
 
 def picture_of(text: Optional[str], axes: Optional[str], columns: Collection[str],
                options: Collection[str]) -> Optional[Picture]:
     """The plot that COLUMN,OPTION,FILE and the letters of logarithmic axes mean; None where none is asked for."""
     if axes is not None and (axes not in plot.AXES or text is None):
-        raise Refused(f"--log takes {', '.join(plot.AXES)} beside --plot, and not `{axes}`.")
+        raise Refusal(f"--log takes {', '.join(plot.AXES)} beside --plot, and not `{axes}`.")
     if text is None:
         return None
     column, option, path = (text.split(",", 2) + ["", ""])[:3]
     if column not in columns or option not in options or not path:
-        raise Refused(f"--plot takes COLUMN,OPTION,FILE with a column of {', '.join(columns)} and an option of "
+        raise Refusal(f"--plot takes COLUMN,OPTION,FILE with a column of {', '.join(columns)} and an option of "
                       f"{', '.join(options)}, and not `{text}`.")
     return Picture(column, option, path, axes or "")
 
@@ -108,7 +108,7 @@ def series_of(rows: Sequence[Mapping[str, str]], column: str, option: str,
               origin: str) -> dict[str, list[tuple[float, float]]]:
     """The points of the rows that have the column, by the choice of all that varies beside the option."""
     if not rows or any(column not in row or f"--{option}" not in row for row in rows):
-        raise Refused(f"the rows of {origin} have no columns {column} and --{option}.")
+        raise Refusal(f"the rows of {origin} have no columns {column} and --{option}.")
     names = [name for name in rows[0] if name in INPUTS or name.startswith("--") and name != f"--{option}"]
     varying = [name for name in names if len({row.get(name) for row in rows}) > 1]
     series: dict[str, list[tuple[float, float]]] = {}
@@ -116,15 +116,15 @@ def series_of(rows: Sequence[Mapping[str, str]], column: str, option: str,
         for row in rows:
             if row[column] != "":
                 choice = ", ".join(f"{name} {row.get(name)}" for name in varying)
-                series.setdefault(choice, []).append((plotted(row[f"--{option}"]), plotted(row[column])))
+                series.setdefault(choice, []).append((plot_number(row[f"--{option}"]), plot_number(row[column])))
     except ValueError:
-        raise Refused(f"a row of {origin} has no number that can be plotted under {column} or --{option}.") from None
+        raise Refusal(f"a row of {origin} has no number that can be plotted under {column} or --{option}.") from None
     if not series:
-        raise Refused(f"no row of {origin} has a number under {column}, so there is nothing to plot.")
+        raise Refusal(f"no row of {origin} has a number under {column}, so there is nothing to plot.")
     return series
 
 
-def plotted(text: str) -> float:
+def plot_number(text: str) -> float:
     """The number that a text is, of a size for which a picture has ticks."""
     number = float(text)
     if number and not LEAST_PLOTTED <= abs(number) <= MOST_PLOTTED:

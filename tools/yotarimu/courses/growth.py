@@ -8,14 +8,14 @@ from collections.abc import Iterator, Sequence
 from typing import Optional
 
 from yotarimu.common.files import read_bytes
-from yotarimu.common.outcome import Refused
-from yotarimu.common.text import counted
+from yotarimu.common.outcome import Refusal
+from yotarimu.common.text import count_text
 from yotarimu.courses.scripts import Options
 from yotarimu.images.image import read_image
 from yotarimu.images.labels import listing_for
 from yotarimu.lines.display import Display
-from yotarimu.lines.reader import Watched
-from yotarimu.lines.replay import Machine, Told
+from yotarimu.lines.reader import Reader
+from yotarimu.lines.replay import Machine, ToldLine
 from yotarimu.lines.sentences import end_told, name_told, opening_told, sentence_of
 from yotarimu.programs.launcher import launch
 from yotarimu.programs.table import Table
@@ -42,7 +42,7 @@ class Schedule:
         script = "".join(f"{act}\n" for act in acts).encode()
         status, written, said = launch(words, self.data + script, subprocess.PIPE)
         if status not in PLAYED:
-            raise Refused(why_not_played(status, written, (said or b"").decode("utf-8", "replace")))
+            raise Refusal(why_not_played(status, written, (said or b"").decode("utf-8", "replace")))
         return written
 
     def play(self, acts: Sequence[str], first: Optional[int] = None) -> Performance:
@@ -59,16 +59,17 @@ class Performance:
         self.sentences: list[str] = []
         self.entries: list[str] = []
         self.output = b""
-        self.last: Optional[Told] = None
-        watched = Watched(io.BytesIO(self.lines), "the second program")
+        self.last: Optional[ToldLine] = None
+        watched = Reader(io.BytesIO(self.lines), "the second program")
         for told in watched:
             if told.is_act():
                 self.note(told, watched.machine, len(self.replies) >= first)
         self.machine, self.end = watched.machine, watched.end
 
-    def note(self, told: Told, machine: Machine, is_new: bool) -> None:
+    def note(self, told: ToldLine, machine: Machine, is_new: bool) -> None:
         line, limits = told.line, self.schedule.image.limits
-        self.replies.append(line["reply"] + (f", {counted(len(told.taken), 'task')} taken back" if told.taken else ""))
+        taken = f", {count_text(len(told.taken), 'task')} taken back" if told.taken else ""
+        self.replies.append(line["reply"] + taken)
         self.last = told
         if told.committed:
             self.entries.append(f"{machine.commits} {name_told(line['name'])} {line['depth']} {line['ts']}")
@@ -77,18 +78,18 @@ class Performance:
             act = f"{line['at']}: {self.acts[line['at'] - 1]}"
             self.sentences.append(f"{act}\n{sentence_of(told, machine, self.schedule.listing, limits)}")
 
-    def told(self) -> Iterator[str]:
+    def text_lines(self) -> Iterator[str]:
         """What is written behind acts: their sentences, and the machine."""
         some = self.sentences[-MOST_SENTENCES:]
         if len(some) < len(self.sentences):
-            yield f"({counted(len(self.sentences) - len(some), 'act')} before these)"
+            yield f"({count_text(len(self.sentences) - len(some), 'act')} before these)"
         yield from some or [opening_told(self.machine.head)]
         if self.end is not None and self.end["end"] != "open":
             yield end_told(self.end, self.schedule.listing, self.schedule.image.limits)
         yield ""
-        yield from self.standing()
+        yield from self.machine_lines()
 
-    def standing(self) -> Iterator[str]:
+    def machine_lines(self) -> Iterator[str]:
         return Display(self.machine, self.last, self.entries, self.output, self.schedule.listing).lines()
 
 

@@ -14,7 +14,7 @@ from typing import NamedTuple, Optional
 
 from yotarimu import commands
 from yotarimu.common.files import need_writable, read_bytes, write_whole
-from yotarimu.common.outcome import Refused, say
+from yotarimu.common.outcome import Refusal, say
 from yotarimu.common.words import need_words
 from yotarimu.programs.program import LAUNCHER
 
@@ -36,7 +36,7 @@ class Page:
         try:
             text = self.data.decode()
         except UnicodeDecodeError:
-            raise Refused(f"{path}: this is no text in UTF-8.") from None
+            raise Refusal(f"{path}: this is no text in UTF-8.") from None
         self.newline = "\r\n" if 0 < text.count("\n") == text.count("\r\n") else "\n"
         self.lines = text.split(self.newline)
 
@@ -65,7 +65,7 @@ class Page:
     def write(self) -> None:
         """Writes the lines, unless someone else wrote the page meanwhile."""
         if read_bytes(self.path) != self.data:
-            raise Refused(f"{self.path}: it was changed while its commands were called, so it stays as it is.")
+            raise Refusal(f"{self.path}: it was changed while its commands were called, so it stays as it is.")
         write_whole({self.path: self.newline.join(self.lines).encode()})
 
 
@@ -78,11 +78,11 @@ def is_call(line: str) -> bool:
 def words_of(line: str) -> list[str]:
     """The words of a line, as a shell takes them."""
     if "\0" in line:
-        raise Refused(f"`{line}` has a byte 0, which no command takes.")
+        raise Refusal(f"`{line}` has a byte 0, which no command takes.")
     try:
         return shlex.split(line)
     except ValueError:
-        raise Refused(f"`{line}` breaks off within quotation marks or behind a backslash.") from None
+        raise Refusal(f"`{line}` breaks off within quotation marks or behind a backslash.") from None
 
 
 def call_line(line: str, folder: pathlib.Path) -> list[str]:
@@ -92,11 +92,11 @@ def call_line(line: str, folder: pathlib.Path) -> list[str]:
     if len(words) > 2 and words[-2] == INTO:
         *words, _, name = words
     if name is not None and folder.resolve() not in (folder / name).resolve().parents:
-        raise Refused(f"`{line}` writes outside of the folder of its commands.")
+        raise Refusal(f"`{line}` writes outside of the folder of its commands.")
     done = subprocess.run([LAUNCHER, *words[1:]], cwd=folder, capture_output=True, stdin=subprocess.DEVNULL)
     if done.returncode != 0:
         said = done.stderr.decode("utf-8", "replace").strip() or f"it ended with status {done.returncode}."
-        raise Refused(f"`{line}`: {said}")
+        raise Refusal(f"`{line}`: {said}")
     if name is None:
         return told_lines(line, done.stdout)
     write_whole({folder / name: done.stdout})
@@ -107,7 +107,7 @@ def told_lines(line: str, data: bytes) -> list[str]:
     try:
         return data.decode().splitlines()
     except UnicodeDecodeError:
-        raise Refused(f"`{line}` tells no text; `{INTO} FILE` behind it writes that to a file.") from None
+        raise Refusal(f"`{line}` tells no text; `{INTO} FILE` behind it writes that to a file.") from None
 
 
 def make_tables(page: Page, folder: pathlib.Path) -> list[Table]:
@@ -120,7 +120,7 @@ def make_tables(page: Page, folder: pathlib.Path) -> list[Table]:
             continue
         place = page.table_behind(end)
         if place is None:
-            raise Refused(f"{page.path}:{end + 1}: no table stands behind these commands.")
+            raise Refusal(f"{page.path}:{end + 1}: no table stands behind these commands.")
         tables.append(Table(*place, rows))
         print(f"{page.path}:{place[0] + 1}: {'differs' if page.differs_from(tables[-1]) else 'as it was'}", flush=True)
     return tables[::-1]
@@ -131,10 +131,10 @@ def main(path: str, words: Sequence[str]) -> int:
     is_written = "--write" in words
     need_words([word for word in words if word != "--write"], 0, "study", "nothing more beside --page PAGE and --write")
     if path == "-":
-        raise Refused("--page takes a file, and not standard input.")
+        raise Refusal("--page takes a file, and not standard input.")
     page = Page(path)
     if not any(page.blocks()):
-        raise Refused(f"{path}: no block of this page has calls of tools alone, as `{DOOR} study` is one.")
+        raise Refusal(f"{path}: no block of this page has calls of tools alone, as `{DOOR} study` is one.")
     if is_written:
         need_writable(path)
     with tempfile.TemporaryDirectory() as folder:

@@ -9,7 +9,7 @@ from collections.abc import Iterable, Iterator, Sequence
 from typing import Optional
 
 from yotarimu.common.files import FilePath
-from yotarimu.common.outcome import Refused
+from yotarimu.common.outcome import Refusal
 from yotarimu.reports.report import Entry, Report, read_report
 
 MOST_TILES, MOST_CORES = 16, 4
@@ -34,20 +34,20 @@ class Act:
 
 
 @dataclasses.dataclass(frozen=True)
-class Said:
+class ActAnswer:
     """What an act was answered, and how many tasks it took back."""
     reply: str
     taken_back: int
 
 
 @dataclasses.dataclass
-class Played:
+class PlayedScript:
     """A script that was played: its acts, what each was answered, and the report."""
     acts: list[Act]
-    said: list[Said]
+    said: list[ActAnswer]
     report: Report
 
-    def pairs(self) -> Iterator[tuple[Act, Said]]:
+    def pairs(self) -> Iterator[tuple[Act, ActAnswer]]:
         return zip(self.acts, self.said)
 
     def commits(self) -> dict[int, Entry]:
@@ -56,7 +56,7 @@ class Played:
         return dict(zip(places, self.report.entries))
 
 
-def is_commit(act: Act, said: Said) -> bool:
+def is_commit(act: Act, said: ActAnswer) -> bool:
     return (act.word, said.reply) in (("commit", "ok"), ("advance", "committed"))
 
 
@@ -71,50 +71,50 @@ def read_script(text: str, name: FilePath) -> list[Act]:
 def read_act(line: str, place: str) -> Act:
     word, *numbers = line.split(" ")
     if word not in NUMBERS or len(numbers) != NUMBERS[word] or not all(re.fullmatch(NUMBER, it) for it in numbers):
-        raise Refused(f"{place}: `{line[:40]}` is no line of a script; docs/guest/FORMATS.md tells which are.")
+        raise Refusal(f"{place}: `{line[:40]}` is no line of a script; docs/guest/FORMATS.md tells which are.")
     tile, core = ([int(it) for it in numbers] + [None, None])[:2]
     if (tile or 0) >= MOST_TILES or (core or 0) >= MOST_CORES:
-        raise Refused(f"{place}: `{line}` is for none of {MOST_TILES} tiles with {MOST_CORES} cores each.")
+        raise Refusal(f"{place}: `{line}` is for none of {MOST_TILES} tiles with {MOST_CORES} cores each.")
     return Act(word, tile, core)
 
 
-def read_played(acts: list[Act], text: str, name: FilePath) -> Played:
+def read_played(acts: list[Act], text: str, name: FilePath) -> PlayedScript:
     """What the program said to a script, and the report after it."""
     lines = text.split("\n")
     if lines[0].startswith("fault "):
-        raise Refused(f"{name}: the program played nothing, and said `{lines[0]}`.")
+        raise Refusal(f"{name}: the program played nothing, and said `{lines[0]}`.")
     said = [read_said(line, f"{name}:{number}") for number, line in enumerate(lines[:len(acts)], 1)]
-    played = Played(acts, said, read_report(text, name, len(acts)))
+    played = PlayedScript(acts, said, read_report(text, name, len(acts)))
     commits, entries = sum(is_commit(*pair) for pair in played.pairs()), len(played.report.entries)
     if commits != entries:
-        raise Refused(f"{name}: this isn't what was said to that script: it has {commits} commits, "
+        raise Refusal(f"{name}: this isn't what was said to that script: it has {commits} commits, "
                       f"and {entries} tasks in its report.")
     return played
 
 
-def read_replies(text: str) -> list[Said]:
+def read_replies(text: str) -> list[ActAnswer]:
     """The replies before a report, as `steps` writes them; none where the text begins otherwise."""
     replies = []
     for line in text.split("\n"):
         found = re.fullmatch(r"([a-z]+) ([0-9]{1,10})", line)
         if not found or found[1] not in DONE + REFUSALS:
             break
-        replies.append(Said(found[1], int(found[2])))
+        replies.append(ActAnswer(found[1], int(found[2])))
     return replies
 
 
-def read_said(line: str, place: str) -> Said:
+def read_said(line: str, place: str) -> ActAnswer:
     found = re.fullmatch(r"([a-z]+) ([0-9]{1,10})", line)
     if not found or found[1] not in DONE + REFUSALS:
-        raise Refused(f"{place}: this is no answer to an act; `{line[:40]}` stands where one is wanted.")
-    return Said(found[1], int(found[2]))
+        raise Refusal(f"{place}: this is no answer to an act; `{line[:40]}` stands where one is wanted.")
+    return ActAnswer(found[1], int(found[2]))
 
 
 def read_trace(text: str, name: FilePath) -> list[list[int]]:
     """The numbers of each tap, from what the program says to `trace`."""
     lines = iter(text.removesuffix("\n").split("\n"))
     if next(lines) != "trace 1":
-        raise Refused(f"{name}: this is no trace, which begins with `trace 1`.")
+        raise Refusal(f"{name}: this is no trace, which begins with `trace 1`.")
     taps: list[list[int]] = []
     for line in lines:
         if line == "end trace" and next(lines, None) is None:
@@ -124,14 +124,14 @@ def read_trace(text: str, name: FilePath) -> list[list[int]]:
         if not found or len(numbers) < int(found[1]) or not all(re.fullmatch("[0-9]{1,20}", it) for it in numbers):
             break
         taps.append([int(it) for it in numbers])
-    raise Refused(f"{name}: this is no trace: after {len(taps)} taps it has something else.")
+    raise Refusal(f"{name}: this is no trace: after {len(taps)} taps it has something else.")
 
 
 def lockstep(tiles: int, cores: int, rounds: int, seed: int = 0) -> Iterator[Act]:
     """The acts of so many rounds, each shuffled by the seed; 0 shuffles nothing."""
     acts, shuffle = round_of(tiles, cores), Shuffle(seed)
     for _ in range(rounds):
-        acts = shuffle.shuffled(acts)
+        acts = shuffle.shuffle(acts)
         yield from acts
 
 
@@ -141,7 +141,7 @@ class Shuffle:
     def __init__(self, seed: int) -> None:
         self.seed, self.x = seed, seed
 
-    def shuffled(self, acts: Sequence[Act]) -> list[Act]:
+    def shuffle(self, acts: Sequence[Act]) -> list[Act]:
         """The acts of the next round, where these are those of the round before."""
         acts = list(acts)
         if self.seed:

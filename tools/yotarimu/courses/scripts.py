@@ -6,9 +6,9 @@ from collections.abc import Iterator, Mapping, Sequence
 from typing import NamedTuple, Optional
 
 from yotarimu.common.files import FilePath, read_bytes, read_text
-from yotarimu.common.outcome import Refused
+from yotarimu.common.outcome import Refusal
 from yotarimu.common.words import Words, number_in
-from yotarimu.courses.schedules import Played, Said, read_played, read_script
+from yotarimu.courses.schedules import PlayedScript, ActAnswer, read_played, read_script
 from yotarimu.programs.launcher import launch
 from yotarimu.programs.table import Table
 from yotarimu.reports.refusals import script_fault, quote
@@ -30,7 +30,7 @@ class Outcome(NamedTuple):
     """A script that was played: the status of the program, what it wrote, and that as a schedule."""
     status: int
     text: str
-    played: Played
+    played: PlayedScript
 
 
 def options_of(values: Mapping[str, Optional[str]], table: Table) -> Options:
@@ -41,7 +41,7 @@ def options_of(values: Mapping[str, Optional[str]], table: Table) -> Options:
         if text is not None:
             number = number_in(text, 0, MOST_VALUE)
             if number is None or number not in option.values:
-                raise Refused(f"--{name} takes {option.told()}, and not `{text}`.")
+                raise Refusal(f"--{name} takes {option.range_text()}, and not `{text}`.")
             options[name] = number
     return options
 
@@ -50,10 +50,10 @@ def options_beside(place: pathlib.Path, table: Table) -> Options:
     """The options that the file `words` of a folder has, if there is one; it may begin with a command."""
     file = place / "words"
     words = read_text(file).split() if file.is_file() else []
-    given = Words("", table.options).known([word for word in words if word not in table.commands])
+    given = Words("", table.options).read_known([word for word in words if word not in table.commands])
     options = options_of(given.values, table)
     if given.others:
-        raise Refused(f"{file}: `{given.others[0]}` is neither a command nor an option with its value.")
+        raise Refusal(f"{file}: `{given.others[0]}` is neither a command nor an option with its value.")
     return options
 
 
@@ -79,7 +79,7 @@ def acts_in(lines: Sequence[bytes], name: FilePath, options: Options, table: Tab
         if not text:
             continue
         if fault := script_fault(text, tiles, cores):
-            raise Refused(f"{name}:{number}: {quote(text)}: {fault}.")
+            raise Refusal(f"{name}:{number}: {quote(text)}: {fault}.")
         acts.append(NumberedAct(number, text.decode("ascii")))
     return acts
 
@@ -88,21 +88,21 @@ def play(image: FilePath, acts: Sequence[NumberedAct], options: Options, name: s
     """What comes of acts that the program plays."""
     words = ["steps", *(f"--{option}={value}" for option, value in options.items())]
     script = "".join(f"{text}\n" for _, text in acts)
-    status, text = asked(words, image, script.encode())
+    status, text = ask(words, image, script.encode())
     return Outcome(status, text, read_played(read_script(script, name), text, name))
 
 
-def asked(words: Sequence[str], image: FilePath, behind: bytes = b"") -> tuple[int, str]:
+def ask(words: Sequence[str], image: FilePath, behind: bytes = b"") -> tuple[int, str]:
     """The status of a call on an image and what comes behind it, and what the program wrote; a refusal in place of a
     fault."""
     status, written, _ = launch(words, read_bytes(image) + behind)
     text = written.decode("utf-8", "replace")
     if text.startswith("fault") or not text:
-        raise Refused(f"{image}: the program refused it: {text.strip() or f'status {status}'}.")
+        raise Refusal(f"{image}: the program refused it: {text.strip() or f'status {status}'}.")
     return status, text
 
 
-def lines_beside(lines: Sequence[bytes], acts: Sequence[NumberedAct], said: Sequence[Said]) -> Iterator[str]:
+def lines_beside(lines: Sequence[bytes], acts: Sequence[NumberedAct], said: Sequence[ActAnswer]) -> Iterator[str]:
     """Each line of a script with its number, and behind an act its reply."""
     replies = {act.line: answer for act, answer in zip(acts, said)}
     texts = [line.rstrip().decode("utf-8", "replace").expandtabs() for line in lines]

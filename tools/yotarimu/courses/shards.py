@@ -7,7 +7,7 @@ from collections.abc import Sequence
 from typing import NamedTuple
 
 from yotarimu.common.files import read_written
-from yotarimu.common.outcome import Refused
+from yotarimu.common.outcome import Refusal
 from yotarimu.common.words import number_in
 from yotarimu.courses.grid import MOST_RUNS
 from yotarimu.courses.study import SHARD_COLUMNS, rows_in
@@ -31,13 +31,13 @@ def read_study(path: str) -> tuple[list[str], Rows]:
     try:
         cells = list(csv.reader(io.StringIO(text)))
     except csv.Error as error:
-        raise Refused(f"{path}: this is no CSV: {error}.") from None
+        raise Refusal(f"{path}: this is no CSV: {error}.") from None
     if not cells or tuple(cells[0][:len(SHARD_COLUMNS)]) != SHARD_COLUMNS:
-        raise Refused(f"{path}: this is no CSV of ./fractal study: it doesn't begin with "
+        raise Refusal(f"{path}: this is no CSV of ./fractal study: it doesn't begin with "
                       f"{', '.join(SHARD_COLUMNS)}.")
     for number, row in enumerate(cells[1:], 2):
         if len(row) != len(cells[0]):
-            raise Refused(f"{path}:{number}: this row has {len(row)} columns, and the first line has {len(cells[0])}.")
+            raise Refusal(f"{path}:{number}: this row has {len(row)} columns, and the first line has {len(cells[0])}.")
     return cells[0], rows_in(cells)
 
 
@@ -45,26 +45,26 @@ def part_of(path: str) -> Part:
     head, rows = read_study(path)
     found = {tuple(number_in(row[name], 1, MOST_RUNS) for name in ("shard", "shards", "choices")) for row in rows}
     if not rows:
-        raise Refused(f"{path}: it has no row, so no one knows which shard it is.")
+        raise Refusal(f"{path}: it has no row, so no one knows which shard it is.")
     shard, shards, choices = sorted(found, key=str)[0]
     if len(found) > 1 or shard is None or shards is None or choices is None or shard > shards:
-        raise Refused(f"{path}: its rows aren't those of one shard.")
+        raise Refusal(f"{path}: its rows aren't those of one shard.")
     return Part(path, head, rows, shard, shards, choices)
 
 
-def joined(paths: Sequence[str]) -> list[list[str]]:
+def join_shards(paths: Sequence[str]) -> list[list[str]]:
     """The rows of all shards, which come in their order, under their head."""
     parts = [part_of(path) for path in paths]
     first = parts[0]
     for place, part in enumerate(parts, 1):
         if (part.head, part.shards, part.choices) != (first.head, first.shards, first.choices):
-            raise Refused(f"{part.path}: this isn't of the same study as {first.path}.")
+            raise Refusal(f"{part.path}: this isn't of the same study as {first.path}.")
         if part.shard != place:
-            raise Refused(f"{part.path}: this is shard {part.shard} of {part.shards}, and stands where shard {place} "
+            raise Refusal(f"{part.path}: this is shard {part.shard} of {part.shards}, and stands where shard {place} "
                           "has to stand.")
         need_whole(part)
     if len(parts) < first.shards:
-        raise Refused(f"shard {len(parts) + 1} of {first.shards} is missing.")
+        raise Refusal(f"shard {len(parts) + 1} of {first.shards} is missing.")
     rows = sorted((row for part in parts for row in part.rows), key=lambda row: int(row["choice"]))
     hold_against_first(rows)
     return [first.head, *([row[name] for name in first.head] for row in rows)]
@@ -77,7 +77,7 @@ def need_whole(part: Part) -> None:
     if found != wanted:
         lacking = next((number for number in wanted if number not in found), None)
         told = f"choice {lacking} is missing" if lacking else "it has rows that aren't its own, or in another order"
-        raise Refused(f"{part.path}: it isn't the whole of shard {part.shard} of {part.shards}: {told}.")
+        raise Refusal(f"{part.path}: it isn't the whole of shard {part.shard} of {part.shards}: {told}.")
 
 
 def hold_against_first(rows: Rows) -> None:

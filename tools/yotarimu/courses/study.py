@@ -9,14 +9,14 @@ from collections.abc import Iterator, Mapping, Sequence
 from typing import BinaryIO, Optional
 
 from yotarimu.common.crew import Crew, Tell
-from yotarimu.common.files import encoded
-from yotarimu.common.outcome import Refused, is_at_terminal
+from yotarimu.common.files import encode
+from yotarimu.common.outcome import Refusal, is_at_terminal
 from yotarimu.common.progress import show_line
 from yotarimu.common.tables import row_of, table
 from yotarimu.courses.grid import Shard
 from yotarimu.figures.columns import COLUMNS, END, Row, heads
 from yotarimu.figures.run import Figures, figures_of
-from yotarimu.lines.reader import Watched
+from yotarimu.lines.reader import Reader
 from yotarimu.programs.calls import Calls
 
 # The statuses of a run that was told to its end.
@@ -47,8 +47,8 @@ class Study:
     def need_images(self) -> None:
         """Refuses what no choice can play, before anything is written."""
         for name, image in self.images.items():
-            _, told = self.calls.read(["steps"], image, functools.partial(Watched, name=name))
-            if isinstance(told, Refused):
+            _, told = self.calls.read(["steps"], image, functools.partial(Reader, name=name))
+            if isinstance(told, Refusal):
                 raise told
 
     def row(self, choice: Choice, tell: Tell) -> Row:
@@ -59,19 +59,19 @@ class Study:
                                           functools.partial(self.figures, tell=tell))
         if status not in TOLD:
             return Row(f"none: status {status}")
-        if isinstance(figures, Refused):
+        if isinstance(figures, Refusal):
             raise figures
         if figures is None:
             return Row(f"none: status {status}")
         return Row(f"none in {self.rounds:,} rounds" if figures.end == "open" else figures.end, figures)
 
     def figures(self, file: BinaryIO, tell: Tell) -> Figures:
-        watched = Watched(file, "the second program")
+        watched = Reader(file, "the second program")
         rounds = watched.machine.rounds
         return figures_of(watched, lambda act: tell(act if rounds is None else rounds.number))
 
 
-class Played:
+class StudyRows:
     """The rows that are known of the choices of a study, by their numbers."""
 
     def __init__(self, study: Study, choices: Sequence[Choice]) -> None:
@@ -122,7 +122,7 @@ class Played:
 class Progress:
     """How far the choices have come, on one line of a terminal that shows no rows itself."""
 
-    def __init__(self, played: Played) -> None:
+    def __init__(self, played: StudyRows) -> None:
         self.played = played
         self.is_shown = is_at_terminal()
         self.rounds: dict[int, int] = {}
@@ -148,7 +148,7 @@ def head_of(options: Sequence[str]) -> list[str]:
     return [*SHARD_COLUMNS, *(f"--{name}" for name in options), *COLUMNS, END]
 
 
-def tell(played: Played, varying: Sequence[str], jobs: int) -> None:
+def tell(played: StudyRows, varying: Sequence[str], jobs: int) -> None:
     """Tells the table row by row, as soon as each is known."""
     study = played.study
     names = ["Image"] if len(study.images) > 1 else []
@@ -162,7 +162,7 @@ def tell(played: Played, varying: Sequence[str], jobs: int) -> None:
 def csv_of(cells: Sequence[Sequence[str]]) -> bytes:
     text = io.StringIO()
     csv.writer(text, lineterminator="\n").writerows(cells)
-    return encoded(text.getvalue())
+    return encode(text.getvalue())
 
 
 def rows_in(cells: Sequence[Sequence[str]]) -> list[dict[str, str]]:

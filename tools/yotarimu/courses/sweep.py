@@ -12,8 +12,8 @@ import time
 from collections.abc import Iterator, Sequence
 from typing import Optional
 
-from yotarimu.common.files import FilePath, encoded, read_bytes, read_written, write_whole
-from yotarimu.common.outcome import Refused, is_at_terminal
+from yotarimu.common.files import FilePath, encode, read_bytes, read_written, write_whole
+from yotarimu.common.outcome import Refusal, is_at_terminal
 from yotarimu.common.progress import show_progress
 from yotarimu.courses.grid import Shard, cells_of
 from yotarimu.programs.calls import Calls
@@ -54,13 +54,13 @@ class Runner(Calls):
         start = time.monotonic()
         status, written = self.call([*self.command, *options], self.data)
         seconds = f"{time.monotonic() - start:.3f}"
-        columns = {"status": status, "seconds": seconds, **told(written), "check": ""}
+        columns = {"status": status, "seconds": seconds, **result_of(written), "check": ""}
         if self.wants_check and columns["commits"] != "":
             columns["check"], _ = self.call(["check", *options], self.data + written)
         return columns
 
 
-def told(written: bytes) -> Result:
+def result_of(written: bytes) -> Result:
     """What a report tells: how many commits, and digests of the output and of the window; nothing of other texts."""
     found = REPORT.search(written)
     if not found:
@@ -101,7 +101,7 @@ def header(table: Table) -> list[str]:
     return ["input", *(f"--{name}" for name in table.options), *RESULTS]
 
 
-def swept(request: Request, table: Table) -> Iterator[list[object]]:
+def sweep_rows(request: Request, table: Table) -> Iterator[list[object]]:
     """The rows of the runs that are asked for, each as it comes, in the order of the grid."""
     cells = cells_of(table, request.values)
     command = ["load", *request.load] if request.load else ["run"]
@@ -121,14 +121,14 @@ def written_rows(request: Request, table: Table) -> list[dict[str, str]]:
     file = text if request.csv else sys.stdout
     sink = csv.writer(file, lineterminator="\n")
     try:
-        for row in swept(request, table):
+        for row in sweep_rows(request, table):
             if not rows and request.shard.number == 1:
                 sink.writerow(header(table))
             sink.writerow(row)
             file.flush()
             rows.append(dict(zip(header(table), map(str, row))))
         if request.csv:
-            write_whole({request.csv: encoded(text.getvalue())})
+            write_whole({request.csv: encode(text.getvalue())})
     except BaseException:
         if request.csv:
             sys.stdout.write(text.getvalue())
@@ -136,7 +136,7 @@ def written_rows(request: Request, table: Table) -> list[dict[str, str]]:
     return rows
 
 
-def failed(row: dict[str, str]) -> bool:
+def has_failed(row: dict[str, str]) -> bool:
     """Whether a run gave no report, or one that was refused."""
     return row["commits"] == "" or row["check"] not in ("", "0")
 
@@ -146,7 +146,7 @@ def read_rows(path: FilePath) -> list[dict[str, str]]:
     try:
         rows = list(csv.DictReader(io.StringIO(text)))
     except csv.Error as error:
-        raise Refused(f"{path}: this is no CSV: {error}.") from None
+        raise Refusal(f"{path}: this is no CSV: {error}.") from None
     if any(None in row or None in row.values() for row in rows):
-        raise Refused(f"{path}: its rows haven't as many columns as its first line.")
+        raise Refusal(f"{path}: its rows haven't as many columns as its first line.")
     return rows

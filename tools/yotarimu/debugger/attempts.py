@@ -36,13 +36,13 @@ class Attempt:
         return self.task.timestamp if self.task.domain.kinds[-1] else 0
 
     @property
-    def executed(self) -> int:
+    def executed_count(self) -> int:
         """How many instructions are executed so far, or at its end."""
         return self.counts[-1] if self.counts else 0
 
     def note(self, stretch: int, length: int) -> None:
         """It goes on by a stretch of so many instructions."""
-        self.counts.append(self.executed + length)
+        self.counts.append(self.executed_count + length)
         self.stretches.append(stretch)
 
     def is_there(self, position: Position) -> bool:
@@ -81,7 +81,7 @@ class AttemptCore(Core):
         value, width = self.attempt.loaded[self.taken], 1 << (kind & 3)
         self.taken += 1
         self.touched = Touch(False, address, width)
-        return value if kind & 4 else machine.signed(value, 8 * width)
+        return value if kind & 4 else machine.signed_number(value, 8 * width)
 
     def store(self, width: int, address: int, value: int) -> None:
         if not DATA <= address < STACK:

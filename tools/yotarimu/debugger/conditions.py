@@ -7,7 +7,7 @@ from __future__ import annotations
 
 from typing import Callable, Protocol
 
-from yotarimu.images.serial_machine import signed
+from yotarimu.images.serial_machine import signed_number
 
 BITS = 64
 WORD = (1 << BITS) - 1
@@ -28,7 +28,7 @@ class Values(Protocol):
     def memory(self, address: int, count: int) -> bytes: ...
 
 
-def divided(one: int, two: int) -> int:
+def quotient_of(one: int, two: int) -> int:
     """A quotient, rounded towards zero."""
     if two == 0:
         raise Unknown
@@ -37,12 +37,12 @@ def divided(one: int, two: int) -> int:
 
 
 def rest(one: int, two: int) -> int:
-    return one - two * divided(one, two)
+    return one - two * quotient_of(one, two)
 
 
 def signed_too(operation: Callable[[int, int], int]) -> Callable[[int, int], int]:
     """An operation on numbers with a sign."""
-    return lambda one, two: operation(signed(one, BITS), signed(two, BITS))
+    return lambda one, two: operation(signed_number(one, BITS), signed_number(two, BITS))
 
 
 # Operations on the two topmost numbers, and on the topmost one.
@@ -50,12 +50,12 @@ OF_TWO: dict[int, Callable[[int, int], int]] = {
     0x02: lambda one, two: one + two,
     0x03: lambda one, two: one - two,
     0x04: lambda one, two: one * two,
-    0x05: signed_too(divided),
-    0x06: divided,
+    0x05: signed_too(quotient_of),
+    0x06: quotient_of,
     0x07: signed_too(rest),
     0x08: rest,
     0x09: lambda one, two: one << min(two, BITS),
-    0x0A: lambda one, two: signed(one, BITS) >> min(two, BITS),
+    0x0A: lambda one, two: signed_number(one, BITS) >> min(two, BITS),
     0x0B: lambda one, two: one >> min(two, BITS),
     0x0F: lambda one, two: one & two,
     0x10: lambda one, two: one | two,
@@ -121,7 +121,7 @@ class Machine:
             bits, number = self.operand(1), stack.pop()
             if not 1 <= bits <= BITS:
                 raise Unknown
-            self.push(signed(number, bits) if byte == EXTEND else number & (1 << bits) - 1)
+            self.push(signed_number(number, bits) if byte == EXTEND else number & (1 << bits) - 1)
         elif byte in (IF_GOTO, GOTO):
             target = self.operand(2)
             self.at = target if byte == GOTO or stack.pop() else self.at

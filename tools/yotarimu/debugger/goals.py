@@ -5,7 +5,7 @@ import dataclasses
 import re
 from typing import Optional
 
-from yotarimu.common.outcome import Refused
+from yotarimu.common.outcome import Refusal
 from yotarimu.common.words import number_in as number_of
 from yotarimu.debugger.track import Store
 from yotarimu.images.image import DATA, DATA_BYTES
@@ -36,7 +36,7 @@ def goal_in(word: str) -> Goal:
     if found := re.fullmatch("e([0-9]{1,20})", word):
         return Goal(word, int(found[1]))
     if mark and not (place == END or re.fullmatch("[0-9]{1,9}", place)):
-        raise Refused(f"{word}: behind @ stands a number of instructions, or `end`.")
+        raise Refusal(f"{word}: behind @ stands a number of instructions, or `end`.")
     if mark:
         return Goal(what, is_end=place == END, done=0 if place == END else int(place))
     return Goal(word.rstrip("!"), is_making=word.endswith("!"))
@@ -52,7 +52,7 @@ def number_in(what: str, word: str, most: int) -> int:
     """A number from 1 on."""
     number = number_of(word, 1, most)
     if number is None:
-        raise Refused(f"{what} takes a number from 1 to {most:,}, and not `{word}`.")
+        raise Refusal(f"{what} takes a number from 1 to {most:,}, and not `{word}`.")
     return number
 
 
@@ -60,11 +60,11 @@ def word_in(word: str) -> int:
     """The address of the word of the data in which an address lies."""
     address = number_of(word, DATA, DATA + DATA_BYTES - 1)
     if address is None:
-        raise Refused(f"`{word}` is no address of the data: one from {DATA:#x} on is wanted.")
+        raise Refusal(f"`{word}` is no address of the data: one from {DATA:#x} on is wanted.")
     return address & ~3
 
 
-def arrived(thread: int) -> str:
+def arrival_text(thread: int) -> str:
     """What `goto` answers; words.gdb reads the number."""
     return f"Now thread {thread} runs."
 

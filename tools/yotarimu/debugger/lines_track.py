@@ -9,16 +9,16 @@ from __future__ import annotations
 import bisect
 from typing import Iterator, Optional
 
-from yotarimu.common.outcome import Refused
+from yotarimu.common.outcome import Refusal
 from yotarimu.debugger import goals
 from yotarimu.debugger.attempts import Attempt, AttemptCore, Ground
-from yotarimu.debugger.reading import Making, Reading
+from yotarimu.debugger.leg_notes import Origin, LegNotes
 from yotarimu.debugger.target import Signal, signal_of
 from yotarimu.debugger.track import MOST_THREADS, MOST_TOLD, Core, Notice, Position, Track
 from yotarimu.images import serial_machine as machine
 from yotarimu.images.image import Image
 from yotarimu.images.listing import Listing
-from yotarimu.lines.causes import Kind, Telling
+from yotarimu.lines.causes import Kind, CauseSentences
 from yotarimu.lines.replay import Task
 from yotarimu.lines.sentences import label_of
 from yotarimu.reports.meanings import cause_told
@@ -31,19 +31,19 @@ class LinesTrack(Track):
 
     def __init__(self, image: Image, path: str, listing: Listing) -> None:
         super().__init__(image, listing)
-        self.reading = Reading(image, path)
-        self.stretches, self.memory = self.reading.stretches, self.reading.memory
+        self.notes = LegNotes(image, path)
+        self.stretches, self.memory = self.notes.stretches, self.notes.memory
         self.ground = Ground(image, self.memory)
         self.need_stretches("no task takes a leg in these lines")
-        self.owners, self.starts = self.reading.owners, self.reading.starts
-        self.attempts = self.reading.attempts
+        self.owners, self.starts = self.notes.owners, self.notes.starts
+        self.attempts = self.notes.attempts
         self.of_task: dict[Task, list[Attempt]] = {}
         for attempt in self.attempts:
             self.of_task.setdefault(attempt.task, []).append(attempt)
         self.of_name: dict[str, list[Attempt]] = {}
         for attempt in self.attempts:
             self.of_name.setdefault(label_of(attempt.task), []).append(attempt)
-        self.telling = Telling(self.task_told, self.reading.head["line"], listing)
+        self.telling = CauseSentences(self.task_told, self.notes.head["line"], listing)
         # The runs of attempts, as far as they were followed last.
         self.cores: dict[int, AttemptCore] = {}
         self.go_to(Position(0, 0))
@@ -63,14 +63,14 @@ class LinesTrack(Track):
 
     def go_to(self, position: Position) -> None:
         self.stretch = position.stretch
-        self.core = self.followed(self.owner, self.starts[self.stretch] + position.done)
+        self.core = self.core_after(self.owner, self.starts[self.stretch] + position.done)
         self.move_memory(position)
 
     def move_memory(self, position: Position) -> None:
         stretch = self.stretches[position.stretch]
         self.memory.move(stretch.last if position.done == stretch.length else stretch.first)
 
-    def followed(self, attempt: Attempt, count: int) -> AttemptCore:
+    def core_after(self, attempt: Attempt, count: int) -> AttemptCore:
         """An attempt behind so many of its instructions."""
         core = self.cores.get(attempt.number)
         if core is None or core.executed > count:
@@ -97,7 +97,7 @@ class LinesTrack(Track):
 
     def notice(self) -> Optional[Notice]:
         position = self.position
-        taken, trapped = self.reading.taken.get(position, []), self.reading.trapped.get(position)
+        taken, trapped = self.notes.taken.get(position, []), self.notes.trapped.get(position)
         if taken:
             text = "\n".join(f"{self.name_of(it.number)} is about to be taken back (event {it.event}): {self.cause(it)}"
                              for it in taken)
@@ -110,7 +110,7 @@ class LinesTrack(Track):
     def has_notices(self, stretch: int) -> bool:
         length = self.stretches[stretch].length
         positions = {Position(stretch, length - 1), Position(stretch, length)}
-        return any(position in self.reading.taken or position in self.reading.trapped for position in positions)
+        return any(position in self.notes.taken or position in self.notes.trapped for position in positions)
 
     # ---- threads
 
@@ -129,12 +129,12 @@ class LinesTrack(Track):
     def name_of(self, thread: int) -> str:
         attempt = self.attempts[thread - 1]
         which = f", attempt {attempt.which}" if attempt.which > 1 else ""
-        return (f"{label_of(attempt.task)} {self.listing.labelled(attempt.task.entry)} ts {attempt.timestamp}"
+        return (f"{label_of(attempt.task)} {self.listing.address_text(attempt.task.entry)} ts {attempt.timestamp}"
                 f"{which}")
 
     def task_told(self, task: Task) -> str:
         """A task's name and label, whichever attempt it is."""
-        return f"{label_of(task)} {self.listing.labelled(task.entry)}"
+        return f"{label_of(task)} {self.listing.address_text(task.entry)}"
 
     def state_of(self, thread: int) -> str:
         attempt, here = self.attempts[thread - 1], self.position
@@ -153,12 +153,12 @@ class LinesTrack(Track):
 
     def core_of(self, thread: int) -> Core:
         attempt = self.attempts[(thread or self.thread) - 1]
-        return self.core if attempt is self.owner else self.followed(attempt, self.count_of(attempt))
+        return self.core if attempt is self.owner else self.core_after(attempt, self.count_of(attempt))
 
     def choose(self, thread: int) -> bool:
         return thread == self.thread
 
-    def trap_told(self, trapped: machine.Trapped) -> str:
+    def trap_told(self, trapped: machine.TaskTrap) -> str:
         return f"trap {trapped.cause}"
 
     # ---- what became of an attempt
@@ -208,7 +208,7 @@ class LinesTrack(Track):
         found = self.of_name.get(name, [])
         chosen = [it for it in found if str(it.which) == which] if which else found
         if not chosen:
-            raise Refused(f"{word}: there is no such task among the dispatched ones.")
+            raise Refusal(f"{word}: there is no such task among the dispatched ones.")
         return chosen[-1]
 
     def tasks(self, first: str = "1") -> list[str]:
@@ -216,14 +216,14 @@ class LinesTrack(Track):
         committed = [it for it in self.attempts if it.turn is not None]
         committed.sort(key=lambda it: it.turn or 0)
         start = goals.number_in("tasks", first, max(1, len(committed))) - 1
-        return shown([self.line(it) for it in committed[start:start + MOST_TOLD]], "tasks", start, len(committed))
+        return first_rows([self.line(it) for it in committed[start:start + MOST_TOLD]], "tasks", start, len(committed))
 
     def runs(self, first: str = "1") -> list[str]:
         """[NUMBER]  all attempts from one on, and how each ended"""
         start = goals.number_in("runs", first, len(self.attempts)) - 1
         rows = [f"{'>' if it is self.owner else ' '} {it.number:>5}  {self.name_of(it.number):<36} {self.end_told(it)}"
                 for it in self.attempts[start:start + MOST_TOLD]]
-        return shown(rows, "runs", start, len(self.attempts))
+        return first_rows(rows, "runs", start, len(self.attempts))
 
     def why(self, word: Optional[str] = None) -> list[str]:
         """[TASK]  how an attempt ended; of one that was taken back, why"""
@@ -237,13 +237,13 @@ class LinesTrack(Track):
         found = [it for it in self.attempts if it.cause is not None and it.cause.kind is Kind.ACCESS
                  and it.cause.meeting is not None and not it.cause.meeting.own.is_store]
         rows = [f"{self.name_of(it.number)} {self.end_told(it)}" for it in found]
-        return shown(rows[:MOST_TOLD], "stale", 0, len(rows)) or ["nothing was taken back for what it loaded"]
+        return first_rows(rows[:MOST_TOLD], "stale", 0, len(rows)) or ["nothing was taken back for what it loaded"]
 
     def children(self, word: Optional[str] = None) -> list[str]:
         """[TASK]  the children that an attempt makes, and where it makes each"""
         attempt = self.attempt_named(word)
         rows = []
-        for task, making in self.reading.made.items():
+        for task, making in self.notes.made.items():
             if making.by is attempt:
                 not_yet = "" if making.position < self.position else "  (not yet)"
                 of_task = self.of_task.get(task)
@@ -254,11 +254,11 @@ class LinesTrack(Track):
     def whence(self, word: Optional[str] = None) -> list[str]:
         """[TASK]  which task made it, which made that one, and so on up to the image"""
         attempt = self.attempt_named(word)
-        creators = (f"{self.line(it.by)}  at {self.place_told(it.pc)}" for it in self.makings(attempt))
+        creators = (f"{self.line(it.by)}  at {self.place_told(it.pc)}" for it in self.origins(attempt))
         return [self.line(attempt), *creators]
 
-    def makings(self, attempt: Attempt) -> Iterator[Making]:
-        while (making := self.reading.made.get(attempt.task)) is not None:
+    def origins(self, attempt: Attempt) -> Iterator[Origin]:
+        while (making := self.notes.made.get(attempt.task)) is not None:
             yield making
             attempt = making.by
 
@@ -268,18 +268,18 @@ class LinesTrack(Track):
         goal = goals.goal_in(word)
         if goal.event is not None:
             self.go_to(self.at_event(word, goal.event))
-            return [goals.arrived(self.thread)]
+            return [goals.arrival_text(self.thread)]
         attempt = self.attempt_named(goal.what)
         if goal.is_making:
-            making = self.reading.made.get(attempt.task)
+            making = self.notes.made.get(attempt.task)
             if making is None:
-                raise Refused(f"{goal.what} is the image's own, so no call made it.")
+                raise Refusal(f"{goal.what} is the image's own, so no call made it.")
             self.go_to(making.position)
         elif not attempt.stretches:
-            raise Refused(f"{goal.what} takes no leg in these lines.")
+            raise Refusal(f"{goal.what} takes no leg in these lines.")
         else:
             self.go_to(self.within(attempt, goal.within(attempt.counts[-1])))
-        return [goals.arrived(self.thread)]
+        return [goals.arrival_text(self.thread)]
 
     def within(self, attempt: Attempt, count: int) -> Position:
         """The position behind so many instructions of an attempt; of its last one before it, so that it is seen."""
@@ -290,31 +290,31 @@ class LinesTrack(Track):
 
     def at_event(self, word: str, event: int) -> Position:
         """The last instruction of the first leg that is handed in by this event or behind it."""
-        stretch = bisect.bisect_left(self.reading.events, event)
+        stretch = bisect.bisect_left(self.notes.events, event)
         if stretch == len(self.stretches):
-            raise Refused(f"{word}: no leg is handed in by this event or behind it.")
+            raise Refusal(f"{word}: no leg is handed in by this event or behind it.")
         return Position(stretch, max(self.stretches[stretch].length - 1, 0))
 
     def writes(self, word: str) -> list[str]:
         """ADDRESS  all stores to a word of the data, and where they are undone"""
         address, rows = goals.word_in(word), []
-        found = self.memory.touching(address, 4)
+        found = self.memory.stores_touching(address, 4)
         for at in found[-MOST_TOLD:]:
             rows.append(self.write_told(at))
         more = [f"and {len(found) - MOST_TOLD:,} before these"] if len(found) > MOST_TOLD else []
-        return [*more, *rows] or [f"no store touches {self.listing.labelled(address)}"]
+        return [*more, *rows] or [f"no store touches {self.listing.address_text(address)}"]
 
     def write_told(self, at: int) -> str:
         """A store of a leg, or one that is undone before the leg's own or behind it."""
-        stretch = bisect.bisect_right(self.reading.firsts, at) - 1
-        access, event = self.reading.accesses.get(at), f"event {self.reading.events[stretch]:>6}"
+        stretch = bisect.bisect_right(self.notes.firsts, at) - 1
+        access, event = self.notes.accesses.get(at), f"event {self.notes.events[stretch]:>6}"
         if access is None:
             return f"{'':<40} {event}  {goals.store_told(self.memory.stores[at], 'undone')}"
         where = goals.store_told(self.memory.stores[at], self.place_told(access.pc))
         return f"{self.name_of(self.owners[stretch].number):<40} {event}  {where}"
 
 
-def shown(rows: list[str], word: str, start: int, count: int) -> list[str]:
+def first_rows(rows: list[str], word: str, start: int, count: int) -> list[str]:
     """Rows, and how more of them are asked for."""
     left = count - start - len(rows)
     return [*rows, f"and {left:,} more: monitor {word} {start + len(rows) + 1}"] if left > 0 else rows

@@ -66,9 +66,9 @@ class Connection:
 
     def say(self, text: str) -> None:
         """Text for gdb's console, which takes it only while it waits for a stop."""
-        self.send("O" + hexed(text + "\n"))
+        self.send("O" + hex_text(text + "\n"))
 
 
-def hexed(text: str) -> str:
+def hex_text(text: str) -> str:
     """A text as the protocol has it in answers."""
     return text.encode("utf-8", "backslashreplace").hex()

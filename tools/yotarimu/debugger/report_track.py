@@ -9,7 +9,7 @@ import bisect
 import dataclasses
 from typing import Iterable, Iterator, Optional, Union
 
-from yotarimu.common.outcome import Refused
+from yotarimu.common.outcome import Refusal
 from yotarimu.debugger import goals
 from yotarimu.debugger.track import MOST_STEPS, MOST_THREADS, MOST_TOLD, Core, Memory, Position, Stretch, Track
 from yotarimu.images import serial_machine as machine
@@ -40,7 +40,7 @@ class Turn(Core):
 
 
 @dataclasses.dataclass(frozen=True)
-class Making:
+class Origin:
     """Where a task was made: the position before the call, and the call's address. Tasks of the image have none."""
     position: Position
     pc: int
@@ -51,7 +51,7 @@ class Turns(machine.Machine):
 
     def __init__(self, track: ReportTrack, image: Image) -> None:
         self.track, self.is_first = track, True
-        self.made: dict[Name, Making] = {}
+        self.made: dict[Name, Origin] = {}
         super().__init__(image)
         self.memory = track.memory.data
 
@@ -63,7 +63,7 @@ class Turns(machine.Machine):
             super().add(name, entry, timestamp, arguments, domain)
             if name.creator:
                 core = self.track.core
-                self.made[name] = Making(Position(len(self.track.stretches), core.executed), core.pc)
+                self.made[name] = Origin(Position(len(self.track.stretches), core.executed), core.pc)
 
 
 class ReportTrack(Track):
@@ -98,7 +98,7 @@ class ReportTrack(Track):
             first = len(self.memory.stores)
             why = self.run_turn(coming)
             if why is not None:
-                raise Refused(f"this is no report of a run of the image: {why}.")
+                raise Refusal(f"this is no report of a run of the image: {why}.")
             pcs = frozenset(self.core.pcs)
             last = len(self.memory.stores)
             self.stretches.append(Stretch(self.core.executed, known.setdefault(pcs, pcs), first, last))
@@ -111,14 +111,14 @@ class ReportTrack(Track):
         """Runs a task whole, or up to its trap; why it isn't so, if it isn't."""
         if isinstance(coming, Entry):
             return self.turns.follow([coming])
-        if self.turns.trapped(coming) is None:
+        if self.turns.run_at_trap(coming) is None:
             return f"the task {coming.name} doesn't trap so here; ./fractal check says more"
         return None
 
     def need_room(self, executed: int) -> None:
         self.steps += executed
         if self.steps > MOST_STEPS:
-            raise Refused(f"these are more than {MOST_STEPS:,} instructions, and no more are gone along; a run up to "
+            raise Refusal(f"these are more than {MOST_STEPS:,} instructions, and no more are gone along; a run up to "
                           "fewer --commits is shorter.")
 
     def need_report(self, report: Report) -> None:
@@ -130,9 +130,9 @@ class ReportTrack(Track):
         window = [(address, int.from_bytes(self.bytes_at(address, 4, b""), "little")) for address, _ in report.window]
         words = range(DATA + self.image.window_offset, DATA + self.image.window_offset + 4 * self.image.window_words, 4)
         if [address for address, _ in window] != list(words):
-            raise Refused("this is no report of a run of the image: its window is another.")
+            raise Refusal("this is no report of a run of the image: its window is another.")
         if emitted != report.output or window != report.window:
-            raise Refused("the turns leave other bytes than the report tells; ./fractal check says more.")
+            raise Refusal("the turns leave other bytes than the report tells; ./fractal check says more.")
 
     def store(self, place: int, new: bytes) -> None:
         """A store to the data, before the core makes it."""
@@ -178,7 +178,7 @@ class ReportTrack(Track):
         start, held = (STACK, self.core.stack) if address >= STACK else (DATA, self.memory.data)
         place = address - start
         if not 0 <= place <= len(held) - len(data):
-            raise Refused(f"nothing can be written at {address:08x}.")
+            raise Refusal(f"nothing can be written at {address:08x}.")
         self.mark_changed()
         if start == DATA:
             self.scratch.append((place, bytes(held[place:place + len(data)])))
@@ -205,7 +205,7 @@ class ReportTrack(Track):
 
     def name_of(self, thread: int) -> str:
         task = self.task_of(thread)
-        return f"{task.name} {self.listing.labelled(task.entry)} ts {task.timestamp}"
+        return f"{task.name} {self.listing.address_text(task.entry)} ts {task.timestamp}"
 
     def state_of(self, thread: int) -> str:
         task = self.task_of(thread)
@@ -226,7 +226,7 @@ class ReportTrack(Track):
             self.go_to(Position(place, 0))
         return thread == self.thread
 
-    def trap_told(self, trapped: machine.Trapped) -> str:
+    def trap_told(self, trapped: machine.TaskTrap) -> str:
         what, usual = cause_told(trapped.cause, self.image.limits)
         where = "" if trapped.address is None else f" at {trapped.address:08x}"
         return f"Trap {trapped.cause}{where}: {what}; usually from {usual}."
@@ -248,7 +248,7 @@ class ReportTrack(Track):
         name = goals.name_in(word)
         task = None if name is None else self.turns.tasks.get(name)
         if task is None:
-            raise Refused(f"{word}: there is no such task.")
+            raise Refusal(f"{word}: there is no such task.")
         return task
 
     def tasks(self, first: str = "1") -> list[str]:
@@ -273,12 +273,12 @@ class ReportTrack(Track):
         """[TASK]  which task made it, which made that one, and so on up to the image"""
         task = self.task_named(word)
         rows = [self.line(task)]
-        for making in self.makings(task):
+        for making in self.origins(task):
             task = self.order[making.position.stretch]
             rows.append(f"{self.line(task)}  at {self.place_told(making.pc)}")
         return rows
 
-    def makings(self, task: machine.Task) -> Iterator[Making]:
+    def origins(self, task: machine.Task) -> Iterator[Origin]:
         while (making := self.turns.made.get(task.name)) is not None:
             yield making
             task = self.order[making.position.stretch]
@@ -287,29 +287,29 @@ class ReportTrack(Track):
         """TASK, TASK@N, TASK@end, TASK!  to a task's start, N instructions on, its end, or the call that made it"""
         goal = goals.goal_in(word)
         if goal.event is not None:
-            raise Refused(f"{word}: a report tells no events; the lines of ./fractal watch do.")
+            raise Refusal(f"{word}: a report tells no events; the lines of ./fractal watch do.")
         task = self.task_named(goal.what)
         if goal.is_making:
             making = self.turns.made.get(task.name)
             if making is None:
-                raise Refused(f"{task.name} is the image's own, so no call made it.")
+                raise Refusal(f"{task.name} is the image's own, so no call made it.")
             self.go_to(making.position)
         elif task.name in self.places:
             place = self.places[task.name]
             self.go_to(Position(place, goal.within(self.stretches[place].length)))
         else:
-            raise Refused(f"{task.name} has no turn in this report.")
-        return [goals.arrived(self.thread)]
+            raise Refusal(f"{task.name} has no turn in this report.")
+        return [goals.arrival_text(self.thread)]
 
     def writes(self, word: str) -> list[str]:
         """ADDRESS  all stores to a word of the data"""
         address, here, rows = goals.word_in(word), self.position, []
-        found = self.memory.touching(address, 4)
+        found = self.memory.stores_touching(address, 4)
         for at in found[-MOST_TOLD:]:
             rows.append(self.write_told(at))
         self.go_to(here)
         more = [f"and {len(found) - MOST_TOLD:,} before these"] if len(found) > MOST_TOLD else []
-        return [*more, *rows] or [f"no store touches {self.listing.labelled(address)}"]
+        return [*more, *rows] or [f"no store touches {self.listing.address_text(address)}"]
 
     def write_told(self, at: int) -> str:
         """A store, and the instruction that makes it."""

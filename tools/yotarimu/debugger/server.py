@@ -4,9 +4,9 @@ from __future__ import annotations
 from typing import Callable, Sequence
 from xml.sax.saxutils import quoteattr
 
-from yotarimu.common.outcome import Refused
-from yotarimu.debugger.going import Going, Order, Stop, Watch, register_of, stop_told
-from yotarimu.debugger.packets import MOST_PACKET, Connection, hexed
+from yotarimu.common.outcome import Refusal
+from yotarimu.debugger.movement import Movement, Order, Stop, Watch, register_of, stop_told
+from yotarimu.debugger.packets import MOST_PACKET, Connection, hex_text
 from yotarimu.debugger.target import PC, WORD_BYTES, Signal, description
 from yotarimu.debugger.track import MOST_THREADS, Core, Track
 
@@ -23,7 +23,7 @@ class Server:
 
     def __init__(self, track: Track, connection: Connection) -> None:
         self.track, self.connection = track, connection
-        self.going = Going(track, connection)
+        self.movement = Movement(track, connection)
         # The thread that registers and memory are asked of; 0 is the one that runs.
         self.chosen = self.resumed = 0
         # What is to be said as soon as gdb's console takes it.
@@ -46,7 +46,7 @@ class Server:
             if packet.startswith(start):
                 try:
                     return answer(self, packet[len(start):])
-                except Refused as refused:
+                except Refusal as refused:
                     self.late = str(refused)
                     return FAILED
                 except (ValueError, IndexError):
@@ -76,14 +76,14 @@ class Server:
 
     def threads(self, rest: str) -> str:
         rows = "".join(f'<thread id="{thread:x}" name={quoteattr(ascii_of(self.track.name_of(thread)))}>'
-                       f"{self.track.state_of(thread)}</thread>" for thread in self.shown())
+                       f"{self.track.state_of(thread)}</thread>" for thread in self.shown_threads())
         return part(f'<?xml version="1.0"?><threads>{rows}</threads>', rest)
 
-    def shown(self) -> list[int]:
+    def shown_threads(self) -> list[int]:
         return self.track.threads()[:MOST_THREADS]
 
     def first_threads(self, _rest: str) -> str:
-        return "m" + ",".join(f"{thread:x}" for thread in self.shown())
+        return "m" + ",".join(f"{thread:x}" for thread in self.shown_threads())
 
     def more_threads(self, _rest: str) -> str:
         return "l"
@@ -96,10 +96,10 @@ class Server:
 
     def thread_told(self, rest: str) -> str:
         thread = int(rest, 16)
-        return hexed(f"{self.track.name_of(thread)}, {self.track.state_of(thread)}")
+        return hex_text(f"{self.track.name_of(thread)}, {self.track.state_of(thread)}")
 
     def is_thread_there(self, rest: str) -> str:
-        return OK if int(rest, 16) in self.shown() else FAILED
+        return OK if int(rest, 16) in self.shown_threads() else FAILED
 
     def choose(self, rest: str) -> str:
         """`Hg` and `Hc`: which thread is asked, and which one goes back, from now on; -1 is all of them, and 0 any."""
@@ -159,7 +159,7 @@ class Server:
     def tell_change(self) -> None:
         """Tells, once, what becomes of changes by hand; of a task that doesn't run they are refused."""
         if self.chosen not in (0, self.track.thread):
-            raise Refused("this task doesn't run at this position, so it can't be changed.")
+            raise Refusal("this task doesn't run at this position, so it can't be changed.")
         if not self.track.is_changed:
             self.late = ("From here on this task runs on what was written by hand. At its end, or with a step back, "
                          "all of it is undone.")
@@ -168,24 +168,24 @@ class Server:
 
     def set_point(self, rest: str) -> str:
         kind, address, count = point_in(rest)
-        self.going.held = 0
+        self.movement.held = 0
         if kind in BREAKS:
-            self.going.breaks[address] = [bytes.fromhex(code.partition(",")[2]) for code in rest.split(";X")[1:]]
+            self.movement.breaks[address] = [bytes.fromhex(code.partition(",")[2]) for code in rest.split(";X")[1:]]
         else:
-            self.going.watches[kind, address] = Watch(kind, address, count)
+            self.movement.watches[kind, address] = Watch(kind, address, count)
         return OK
 
     def clear_point(self, rest: str) -> str:
         kind, address, _ = point_in(rest)
-        self.going.held = 0
+        self.movement.held = 0
         if kind in BREAKS:
-            self.going.breaks.pop(address, None)
+            self.movement.breaks.pop(address, None)
         else:
-            self.going.watches.pop((kind, address), None)
+            self.movement.watches.pop((kind, address), None)
         return OK
 
     def why_stopped(self, _rest: str) -> str:
-        return self.told(Stop(Signal.TRAP))
+        return self.stop_answer(Stop(Signal.TRAP))
 
     def actions(self, _rest: str) -> str:
         return "vCont;c;C;s;S;r"
@@ -196,14 +196,14 @@ class Server:
         actions = rest.split(";")[1:]
         action, _, named = actions[0].partition(":")
         if action[0] in "cC":
-            return self.told(self.going.on(Order()))
+            return self.stop_answer(self.movement.on(Order()))
         thread = int(named, 16) if named not in ("", "-1", "0") else self.track.thread
         is_alone = bool(named) and len(actions) == 1
         # gdb steps one thread alone over a breakpoint, and fails where another one is told then.
         if not self.track.choose(thread) and is_alone or is_alone and self.track.is_stretch_over():
-            return self.told(Stop(Signal.TRAP, thread=thread))
+            return self.stop_answer(Stop(Signal.TRAP, thread=thread))
         start, end = (int(word, 16) for word in action[1:].split(",")) if action[0] == "r" else (1, 0)
-        return self.told(self.going.on(Order(thread, start, end, is_alone)))
+        return self.stop_answer(self.movement.on(Order(thread, start, end, is_alone)))
 
     def say_late(self) -> None:
         """gdb's console takes text only while it waits for a stop."""
@@ -213,13 +213,13 @@ class Server:
 
     def back_step(self, _rest: str) -> str:
         self.say_late()
-        return self.told(self.going.back_step(self.resumed or self.chosen or self.track.thread))
+        return self.stop_answer(self.movement.back_step(self.resumed or self.chosen or self.track.thread))
 
     def back(self, _rest: str) -> str:
         self.say_late()
-        return self.told(self.going.back())
+        return self.stop_answer(self.movement.back())
 
-    def told(self, stop: Stop) -> str:
+    def stop_answer(self, stop: Stop) -> str:
         self.chosen = stop.thread or self.track.thread
         return stop_told(stop, self.core(), self.chosen)
 
@@ -229,7 +229,7 @@ class Server:
         """A word behind `monitor`, and what is asked of it."""
         lines = self.answers(bytes.fromhex(rest.lstrip(",")).decode("utf-8", "replace").split())
         self.chosen = 0
-        return hexed("".join(f"{line}\n" for line in lines)) or OK
+        return hex_text("".join(f"{line}\n" for line in lines)) or OK
 
     def answers(self, typed: list[str]) -> Sequence[str]:
         """What is told to words that are typed. The first may be shortened, as long as it means one."""
@@ -245,7 +245,7 @@ class Server:
             return [f"`{word}` takes a word: {words[word].__doc__}"]
         try:
             return words[word](*typed[1:])
-        except Refused as refused:
+        except Refusal as refused:
             return [str(refused)]
 
 

@@ -10,7 +10,7 @@ import abc
 import dataclasses
 from typing import Callable, FrozenSet, NamedTuple, Optional, Sequence
 
-from yotarimu.common.outcome import Refused
+from yotarimu.common.outcome import Refusal
 from yotarimu.debugger.target import Signal
 from yotarimu.images import serial_machine as machine
 from yotarimu.images.image import DATA, STACK, TEXT, Image
@@ -75,10 +75,10 @@ class Core(machine.Run):
     def advance(self) -> None:
         """Executes one instruction; or it traps, and nothing changes."""
         if self.executed == machine.MOST_BUDGET:
-            raise machine.Trapped(machine.BUDGET)
+            raise machine.TaskTrap(machine.BUDGET)
         word = self.machine.image.word(self.pc)
         if word is None or self.pc % 4:
-            raise machine.Trapped(machine.FETCH)
+            raise machine.TaskTrap(machine.FETCH)
         self.touched = None
         self.step(word)
         self.executed += 1
@@ -98,14 +98,14 @@ class Core(machine.Run):
     def keep(self, place: int, new: bytes) -> None:
         """Takes note of a store to the data, before it is made."""
 
-    def coming(self) -> Optional[Touch]:
+    def next_access(self) -> Optional[Touch]:
         """The access that the next instruction makes; None where it makes none."""
         word = self.machine.image.word(self.pc) or 0
         base, width = self.registers[word >> 15 & 31], 1 << (word >> 12 & 3)
         if word & 0x7F == 0x03:
-            return Touch(False, base + machine.signed(word >> 20, 12) & machine.MASK, width)
+            return Touch(False, base + machine.signed_number(word >> 20, 12) & machine.MASK, width)
         if word & 0x7F == 0x23:
-            offset = machine.signed(word >> 25 << 5 | word >> 7 & 31, 12)
+            offset = machine.signed_number(word >> 25 << 5 | word >> 7 & 31, 12)
             return Touch(True, base + offset & machine.MASK, width)
         return None
 
@@ -134,7 +134,7 @@ class Memory:
             self.data[store.place:store.place + len(store.new)] = store.new
         self.done = done
 
-    def touching(self, address: int, count: int) -> list[int]:
+    def stores_touching(self, address: int, count: int) -> list[int]:
         """The places in the list of the stores that touch some bytes of the data."""
         return [at for at, store in enumerate(self.stores) if store.touches(address - DATA, count)]
 
@@ -174,7 +174,7 @@ class Track(abc.ABC):
 
     @abc.abstractmethod
     def advance(self) -> None:
-        """Executes one instruction of this stretch, or raises Trapped."""
+        """Executes one instruction of this stretch, or raises TaskTrap."""
 
     @abc.abstractmethod
     def is_stretch_over(self) -> bool:
@@ -201,7 +201,7 @@ class Track(abc.ABC):
         """Makes a thread the one that runs, where that is possible; whether it is so then."""
 
     @abc.abstractmethod
-    def trap_told(self, trapped: machine.Trapped) -> str:
+    def trap_told(self, trapped: machine.TaskTrap) -> str:
         """A trap that ends the run, in a sentence."""
 
     def next_stretch(self) -> bool:
@@ -226,7 +226,7 @@ class Track(abc.ABC):
 
     def mark_changed(self) -> None:
         """From here on, up to its end, the task that runs is no longer the run's; a refusal where that can't be."""
-        raise Refused("nothing can be changed here: these are the run's own accesses.")
+        raise Refusal("nothing can be changed here: these are the run's own accesses.")
 
     def change(self, _address: int, _data: bytes) -> None:
         """Writes memory by hand."""
@@ -247,8 +247,8 @@ class Track(abc.ABC):
 
     def place_told(self, pc: int) -> str:
         """An instruction's source line, or its label."""
-        return self.listing.place(pc) or self.listing.labelled(pc)
+        return self.listing.place(pc) or self.listing.address_text(pc)
 
     def need_stretches(self, why: str) -> None:
         if not self.stretches:
-            raise Refused(f"{why}, so there is nothing to go along.")
+            raise Refusal(f"{why}, so there is nothing to go along.")

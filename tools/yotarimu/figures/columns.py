@@ -6,11 +6,11 @@ from collections.abc import Callable, Sequence
 from typing import Optional
 
 from yotarimu.common.tables import plain_ratio, ratio
-from yotarimu.figures.limits import UNBOUNDED, WINDOWS, Manner, Reading, Unit, Window
+from yotarimu.figures.limits import UNBOUNDED, WINDOWS, Manner, WindowKind, Unit, Window
 from yotarimu.figures.occupancy import PLACES
 from yotarimu.figures.run import Figures
-from yotarimu.figures.tables import counted
-from yotarimu.figures.taken_back import Edge, Root
+from yotarimu.figures.tables import count_cell
+from yotarimu.figures.taken_tasks import Edge, Root
 from yotarimu.figures.tasks import SPREADS
 
 Number = Callable[[Figures], float]
@@ -29,7 +29,7 @@ class Column:
 
 def count(head: str, number: Count) -> Column:
     """A column of whole numbers."""
-    return Column(head, lambda it, first: counted(number(it)), lambda it, first: number(it))
+    return Column(head, lambda it, first: count_cell(number(it)), lambda it, first: number(it))
 
 
 def quotient(head: str, number: Count, whole: Count, factor: int = 1) -> Column:
@@ -84,7 +84,7 @@ def limits() -> dict[str, Column]:
     columns = {}
     for name, manner in MANNERS.items():
         for window in WINDOWS:
-            slots = "-slots" if window.reading is Reading.SLOTS else ""
+            slots = "-slots" if window.kind is WindowKind.SLOTS else ""
             key = name if window.tasks is None else f"{name}-{window.tasks}{slots}"
             head = manner.value if window.tasks is None else f"{manner.value}, {window}"
             columns[key] = mean(head, limit(manner, Unit.INSTRUCTION, window))
@@ -104,7 +104,7 @@ def fewer(it: Figures, first: Figures) -> float:
     return others / rounds if rounds and others else 0.0
 
 
-def wasted(it: Figures) -> float:
+def wasted_share(it: Figures) -> float:
     return 100 * it.taken_back.all_wasted() / it.executed if it.executed else 0.0
 
 
@@ -127,7 +127,8 @@ COLUMNS = {
     **{name: itself(edge) for name, edge in EDGES.items()},
     **{name: going_back_to(root) for name, root in ROOTS.items()},
     "machine": count("a line or a bit alone on the way", lambda it: it.taken_back.by_machine),
-    "wasted": Column("Wasted", lambda it, first: f"{wasted(it):.1f} %", lambda it, first: f"{wasted(it):.6g}"),
+    "wasted": Column("Wasted", lambda it, first: f"{wasted_share(it):.1f} %",
+                     lambda it, first: f"{wasted_share(it):.6g}"),
     **{key: column for name in SPREADS for key, column in spread(name, name.capitalize()).items()},
     "queued": place("task queues", "In task queues"),
     "running": place("running", "Running"),

@@ -27,7 +27,7 @@ class Manner(enum.Enum):
     ONE = "one memory"
 
 
-class Reading(enum.Enum):
+class WindowKind(enum.Enum):
     """What a window of W tasks means: a task starts once all tasks but the W - 1 right before it have finished, or once
     all but any W - 1 of those before it have."""
     ORDER = "in order"
@@ -38,14 +38,14 @@ class Reading(enum.Enum):
 class Window:
     """How many tasks may be at work. None is without bound."""
     tasks: Optional[int]
-    reading: Reading = Reading.ORDER
+    kind: WindowKind = WindowKind.ORDER
 
     def __str__(self) -> str:
-        return "without bound" if self.tasks is None else f"{self.tasks:,} {self.reading.value}"
+        return "without bound" if self.tasks is None else f"{self.tasks:,} {self.kind.value}"
 
 
 UNBOUNDED = Window(None)
-WINDOWS = (Window(64), Window(64, Reading.SLOTS), Window(1_024), Window(1_024, Reading.SLOTS), UNBOUNDED)
+WINDOWS = (Window(64), Window(64, WindowKind.SLOTS), Window(1_024), Window(1_024, WindowKind.SLOTS), UNBOUNDED)
 
 
 class Unit(enum.Enum):
@@ -94,7 +94,7 @@ class SlotGate:
 Gate = Union[OrderGate, SlotGate]
 
 
-GATES: dict[Reading, Callable[[int], Gate]] = {Reading.ORDER: OrderGate, Reading.SLOTS: SlotGate}
+GATES: dict[WindowKind, Callable[[int], Gate]] = {WindowKind.ORDER: OrderGate, WindowKind.SLOTS: SlotGate}
 # Times, one for each plan.
 Times = Sequence[int]
 # What tells a byte's cell from a word's.
@@ -139,7 +139,7 @@ class Gates:
 
     def __init__(self, windows: Sequence[Window]) -> None:
         self.count = len(windows)
-        self.gates = [(number, GATES[window.reading](window.tasks)) for number, window in enumerate(windows)
+        self.gates = [(number, GATES[window.kind](window.tasks)) for number, window in enumerate(windows)
                       if window.tasks is not None]
         self.finish = [0] * self.count
 
@@ -273,9 +273,9 @@ class FinePlans:
             while calls and calls[0].made[column] <= place:
                 self.note_call(calls.pop(0), shifts)
             if not is_store:
-                shifts = self.shifted(self.stores, cells, place, shifts)
+                shifts = self.shifts_after(self.stores, cells, place, shifts)
             elif self.is_one_memory:
-                shifts = self.shifted(self.touches, cells, place, shifts)
+                shifts = self.shifts_after(self.touches, cells, place, shifts)
             behind = shifts, place + delay
             if is_store:
                 for cell in cells:
@@ -290,7 +290,7 @@ class FinePlans:
         # A child may start in the unit behind the call, or within the same round.
         self.origins[call.child] = shifts, call.made[self.column] - 1 + self.delay
 
-    def shifted(self, waits_for: Mapping[int, Mark], cells: Sequence[int], place: int, shifts: Shifts) -> Shifts:
+    def shifts_after(self, waits_for: Mapping[int, Mark], cells: Sequence[int], place: int, shifts: Shifts) -> Shifts:
         """The shifts behind an access: those before it, and as much more as it has to wait."""
         for cell in cells:
             found = waits_for.get(cell)
@@ -365,7 +365,7 @@ class Limits:
         self.by_step.commit(task)
         self.work = [so_far + more for so_far, more in zip(self.work, task.work)]
 
-    def told(self) -> list[Limit]:
+    def all_limits(self) -> list[Limit]:
         """Each limit, by whole tasks first, and by steps last."""
         pairs = [(Manner.WHOLE, self.whole.gates.finish), *((manner, self.fine.finish(manner)) for manner in FINE)]
         limits = [Limit(manner, Unit.INSTRUCTION, window, self.work[0], time)

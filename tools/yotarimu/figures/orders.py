@@ -210,7 +210,7 @@ class Bounds:
         for bound in self.by_manner.values():
             bound.commit(task, epoch, reaches)
 
-    def told(self) -> dict[Manner, float]:
+    def at_once(self) -> dict[Manner, float]:
         """Instructions at once, which no order exceeds; 0 where no task committed."""
         times = {manner: bound.time() for manner, bound in self.by_manner.items()}
         return {manner: self.instructions / time if time else 0.0 for manner, time in times.items()}

@@ -8,16 +8,16 @@ from collections.abc import Callable, Iterator
 from typing import Any, Optional
 
 from yotarimu.common.files import FilePath
-from yotarimu.common.outcome import Refused
+from yotarimu.common.outcome import Refusal
 from yotarimu.figures.feeders import Chain, Feeders
 from yotarimu.figures.limits import Call, Cells, CommittedTask, Limit, Limits, Manner, Point
 from yotarimu.figures.occupancy import Occupancy
 from yotarimu.figures.orders import Bounds
-from yotarimu.figures.taken_back import TakenBack
+from yotarimu.figures.taken_tasks import TakenCounts
 from yotarimu.figures.tasks import TaskFigures
 from yotarimu.images.image import Image
-from yotarimu.lines.reader import Watched, open_watched
-from yotarimu.lines.replay import NOT_EXECUTED, Machine, Task, Told
+from yotarimu.lines.reader import Reader, open_lines
+from yotarimu.lines.replay import NOT_EXECUTED, Machine, Task, ToldLine
 
 # How far a run was read is told once in so many lines.
 LINES_BETWEEN = 2_000
@@ -30,7 +30,7 @@ class Figures:
     def __init__(self, head: dict[str, Any]) -> None:
         self.head, self.end, self.text_lines = head, "", 0
         self.executed = self.useful = self.left = self.refused = 0
-        self.taken_back = TakenBack(head["line"])
+        self.taken_back = TakenCounts(head["line"])
         self.replies: collections.Counter[tuple[str, str]] = collections.Counter()
         self.commits = self.events = self.acts = self.spills = 0
         self.is_in_rounds = head["course"] == "lockstep"
@@ -59,7 +59,7 @@ class Figures:
         return self.replies["dispatch", "ok"]
 
 
-class Summing:
+class RunSums:
     """Sums up a run. Lines are handed in one after another, and the last one at the end."""
 
     def __init__(self, head: dict[str, Any]) -> None:
@@ -70,7 +70,7 @@ class Summing:
         self.stalled: set[Task] = set()
         self.trapped: set[Task] = set()
 
-    def note(self, told: Told, machine: Machine) -> None:
+    def note(self, told: ToldLine, machine: Machine) -> None:
         """Takes a line, and the machine behind it."""
         line, it = told.line, self.figures
         if not told.is_act():
@@ -101,7 +101,7 @@ class Summing:
             it.occupancy.end_rounds(rounds.number)
             it.begun_rounds, it.longest_barren, it.advances = rounds.begun_rounds(), rounds.longest, rounds.advances
 
-    def note_refused(self, told: Told) -> None:
+    def note_refused(self, told: ToldLine) -> None:
         line, it = told.line, self.figures
         it.refused += line.get("leg", 0)
         if line["reply"] == "stall":
@@ -111,7 +111,7 @@ class Summing:
             if told.task is not None:
                 self.stalled.add(told.task)
 
-    def note_step(self, told: Told) -> None:
+    def note_step(self, told: ToldLine) -> None:
         line, task = told.line, told.task
         assert task is not None
         self.figures.executed += line["leg"] + (line["asks"] not in NOT_EXECUTED)
@@ -121,7 +121,7 @@ class Summing:
         if told.access is not None:
             self.figures.tasks.note_access(task, told.access)
 
-    def note_taken(self, told: Told) -> None:
+    def note_taken(self, told: ToldLine) -> None:
         it = self.figures
         it.taken_back.note(told)
         it.occupancy.count("taken back", len(told.taken))
@@ -150,11 +150,11 @@ class Summing:
             it.longest_barren = machine.rounds.longest
         it.left = sum(task.work for task in machine.tasks.values())
         it.occupancy.close(it.rounds())
-        it.limits, it.bounds, it.useful_steps = self.limits.told(), self.bounds.told(), self.limits.work[1]
+        it.limits, it.bounds, it.useful_steps = self.limits.all_limits(), self.bounds.at_once(), self.limits.work[1]
         it.feeders = self.feeders.longest
         wasted = it.taken_back.all_wasted()
         if it.executed != it.useful + wasted + it.left:
-            raise Refused(f"{name}: of {it.executed:,} instructions {it.useful:,} are of tasks that committed, "
+            raise Refusal(f"{name}: of {it.executed:,} instructions {it.useful:,} are of tasks that committed, "
                           f"{wasted:,} of tasks that were taken back, and {it.left:,} are left.")
         return it
 
@@ -188,9 +188,9 @@ def no_search_for_cycles() -> Iterator[None]:
             gc.enable()
 
 
-def figures_of(watched: Watched, progress: Optional[Progress] = None) -> Figures:
+def figures_of(watched: Reader, progress: Optional[Progress] = None) -> Figures:
     """The figures of a run, from its whole text. How many acts were read is told now and then."""
-    summing = Summing(watched.head)
+    summing = RunSums(watched.head)
     with no_search_for_cycles():
         for told in watched:
             summing.note(told, watched.machine)
@@ -203,5 +203,5 @@ def figures_of(watched: Watched, progress: Optional[Progress] = None) -> Figures
 
 
 def read_figures(path: str, image: Optional[Image] = None) -> Figures:
-    with open_watched(path, image=image) as watched:
+    with open_lines(path, image=image) as watched:
         return figures_of(watched)

@@ -9,7 +9,7 @@ from yotarimu.figures.limits import Limit, Manner, Unit
 from yotarimu.figures.occupancy import PLACES, RATES
 from yotarimu.figures.run import Figures
 from yotarimu.figures.spread import PERCENTS, Spread
-from yotarimu.figures.taken_back import EVENTS, Edge, Root
+from yotarimu.figures.taken_tasks import EVENTS, Edge, Root
 from yotarimu.images.image import DATA
 from yotarimu.images.listing import NO_LISTING, Listing
 
@@ -19,7 +19,7 @@ Runs = Mapping[str, Figures]
 Rows = Iterable[Sequence[str]]
 
 
-def counted(number: Optional[int]) -> str:
+def count_cell(number: Optional[int]) -> str:
     return "-" if number is None else f"{number:,}"
 
 
@@ -29,22 +29,22 @@ def share(count: int, whole: int) -> str:
 
 
 ROWS: tuple[tuple[str, Callable[[Figures], str]], ...] = (
-    ("Instructions executed", lambda it: counted(it.executed)),
+    ("Instructions executed", lambda it: count_cell(it.executed)),
     ("of these useful", lambda it: share(it.useful, it.executed)),
     ("wasted", lambda it: share(it.taken_back.all_wasted(), it.executed)),
     ("left", lambda it: share(it.left, it.executed)),
-    ("Instructions of refused steps", lambda it: counted(it.refused)),
-    ("Commits", lambda it: counted(it.commits)),
-    ("Events", lambda it: counted(it.events)),
-    ("Rounds", lambda it: counted(it.rounds())),
+    ("Instructions of refused steps", lambda it: count_cell(it.refused)),
+    ("Commits", lambda it: count_cell(it.commits)),
+    ("Events", lambda it: count_cell(it.events)),
+    ("Rounds", lambda it: count_cell(it.rounds())),
     ("Commits a round", lambda it: ratio(it.commits, it.rounds())),
     ("Useful instructions a round", lambda it: ratio(it.useful, it.rounds())),
     ("Useful steps a round", lambda it: ratio(it.useful_steps, it.rounds())),
-    ("Barren rounds in a row, at most", lambda it: counted(it.longest_barren if it.is_in_rounds else None)),
-    ("Acts that brought the least task on", lambda it: counted(it.advances if it.is_in_rounds else None)),
+    ("Barren rounds in a row, at most", lambda it: count_cell(it.longest_barren if it.is_in_rounds else None)),
+    ("Acts that brought the least task on", lambda it: count_cell(it.advances if it.is_in_rounds else None)),
     ("Dispatches a commit", lambda it: ratio(it.dispatches(), it.commits)),
-    ("Tasks taken back", lambda it: counted(it.taken_back.all())),
-    ("of these discarded", lambda it: counted(sum(it.taken_back.discarded.values()))),
+    ("Tasks taken back", lambda it: count_cell(it.taken_back.all())),
+    ("of these discarded", lambda it: count_cell(sum(it.taken_back.discarded.values()))),
     ("Tasks spilled at the opening, later", lambda it: f"{it.tasks.spilled_at_opening:,}, {it.spills:,}"),
     ("End", lambda it: it.end),
 )
@@ -55,13 +55,13 @@ def summary(runs: Runs) -> list[str]:
     return table(["", *runs], ([name, *(cell(it) for it in runs.values())] for name, cell in ROWS))
 
 
-def taken_back(runs: Runs) -> list[str]:
+def taken_tasks(runs: Runs) -> list[str]:
     """Tasks that were taken back, a column a run: by the event, by what took each itself, and by its root."""
     found = {name: it.taken_back for name, it in runs.items()}
-    rows = [[f"by event: {event}", *(counted(it.tasks[event]) for it in found.values())] for event in EVENTS]
-    rows += [[f"itself: {edge.value}", *(counted(it.by_edge(edge)) for it in found.values())] for edge in Edge]
-    rows += [[f"root: {root.value}", *(counted(it.by_root(root)) for it in found.values())] for root in Root]
-    rows.append(["by a line or a bit alone on the way", *(counted(it.by_machine) for it in found.values())])
+    rows = [[f"by event: {event}", *(count_cell(it.tasks[event]) for it in found.values())] for event in EVENTS]
+    rows += [[f"itself: {edge.value}", *(count_cell(it.by_edge(edge)) for it in found.values())] for edge in Edge]
+    rows += [[f"root: {root.value}", *(count_cell(it.by_root(root)) for it in found.values())] for root in Root]
+    rows.append(["by a line or a bit alone on the way", *(count_cell(it.by_machine) for it in found.values())])
     return table(["Taken back", *found], rows)
 
 
@@ -69,9 +69,9 @@ def causes(it: Figures) -> list[str]:
     """What took tasks themselves, against what that goes back to; no line where nothing was taken back."""
     found = it.taken_back
     roots = [root for root in Root if found.by_root(root)]
-    rows = [[edge.value, *(counted(found.causes[edge, root]) for root in roots), counted(found.by_edge(edge))]
+    rows = [[edge.value, *(count_cell(found.causes[edge, root]) for root in roots), count_cell(found.by_edge(edge))]
             for edge in Edge if found.by_edge(edge)]
-    rows.append(["all", *(counted(found.by_root(root)) for root in roots), counted(found.all())])
+    rows.append(["all", *(count_cell(found.by_root(root)) for root in roots), count_cell(found.all())])
     return table(["Itself", *(root.value for root in roots), "all"], rows) if roots else []
 
 
@@ -79,7 +79,7 @@ def stalls(runs: Runs) -> list[str]:
     """Steps and splits that stalled, by why, a column a run."""
     reasons = next(iter(runs.values())).tasks.stalls
     return table(["Stalled", *runs],
-                 ([reason, *(counted(it.tasks.stalls[reason]) for it in runs.values())] for reason in reasons))
+                 ([reason, *(count_cell(it.tasks.stalls[reason]) for it in runs.values())] for reason in reasons))
 
 
 def most_of(counts: Mapping[Any, int]) -> list[tuple[Any, int]]:
@@ -89,16 +89,16 @@ def most_of(counts: Mapping[Any, int]) -> list[tuple[Any, int]]:
 
 def places(it: Figures, listing: Listing = NO_LISTING) -> list[str]:
     """Where loads and stores took tasks back: the lines and the addresses where most were, with their labels."""
-    lines = [[labelled(f"{line:,}", DATA + line * it.head["line"], listing), counted(count)]
+    lines = [[with_label(f"{line:,}", DATA + line * it.head["line"], listing), count_cell(count)]
              for line, count in most_of(it.taken_back.lines)]
-    addresses = [[labelled(f"{address:08x}", address, listing), counted(count)]
+    addresses = [[with_label(f"{address:08x}", address, listing), count_cell(count)]
                  for address, count in most_of(it.taken_back.addresses)]
     most = max(len(lines), len(addresses))
     pairs = zip(*(rows + [["", ""]] * (most - len(rows)) for rows in (lines, addresses)))
     return table(["Line", "taken back", "Address", "taken back"], ([*line, *address] for line, address in pairs))
 
 
-def labelled(text: str, address: int, listing: Listing) -> str:
+def with_label(text: str, address: int, listing: Listing) -> str:
     """A text on an address, with the label where there is one."""
     label = listing.label(address)
     return text if label is None else f"{text}, {label}"
@@ -107,13 +107,13 @@ def labelled(text: str, address: int, listing: Listing) -> str:
 def spreads(it: Figures) -> list[str]:
     """What a task has that committed: the mean, percentiles and the greatest."""
     heads = ["Of a task", "mean", *(f"{percent} %" for percent in PERCENTS), "greatest"]
-    return table(heads, ([name, f"{spread.mean():.2f}", *(counted(spread.percentile(it)) for it in PERCENTS),
-                          counted(spread.greatest())] for name, spread in it.tasks.spreads.items()))
+    return table(heads, ([name, f"{spread.mean():.2f}", *(count_cell(spread.percentile(it)) for it in PERCENTS),
+                          count_cell(spread.greatest())] for name, spread in it.tasks.spreads.items()))
 
 
 def domains(it: Figures) -> list[str]:
     """Domains by depth and kind."""
-    rows = [[str(depth), kind, counted(counts.made), counted(counts.used), counted(counts.commits)]
+    rows = [[str(depth), kind, count_cell(counts.made), count_cell(counts.used), count_cell(counts.commits)]
             for (depth, kind), counts in sorted(it.tasks.domains.items())]
     return table(["Depth", "Domains", "made", "with a commit", "Tasks that committed"], rows)
 
@@ -124,14 +124,14 @@ def entries(it: Figures, listing: Listing = NO_LISTING) -> list[str]:
     rows = []
     for address, _ in most:
         counts = it.tasks.entries[address]
-        rows.append([listing.labelled(address), counted(counts.commits), counted(counts.useful),
-                     counted(counts.taken_back), counted(counts.wasted)])
+        rows.append([listing.address_text(address), count_cell(counts.commits), count_cell(counts.useful),
+                     count_cell(counts.taken_back), count_cell(counts.wasted)])
     return table(["Tasks that begin at", "committed", "useful instructions", "taken back", "wasted"], rows)
 
 
 def accesses(it: Figures) -> list[str]:
     """Loads and stores that were made, by tile."""
-    rows = [[str(tile), counted(counts["load"]), counted(counts["store"])]
+    rows = [[str(tile), count_cell(counts["load"]), count_cell(counts["store"])]
             for tile, counts in enumerate(it.tasks.accesses)]
     return table(["Tile", "loads", "stores"], rows)
 
@@ -141,7 +141,7 @@ def occupancy(it: Figures) -> list[str]:
     room = {"task queues": it.head["tiles"] * it.head["task_queue"], "running": it.head["tiles"] * it.head["cores"],
             "commit queues": it.head["tiles"] * it.head["commit_queue"]}
     means, greatest = it.occupancy.curve.means(), it.occupancy.greatest
-    rows = [[name, counted(room.get(name)), f"{means[place]:.1f}", counted(greatest[place])]
+    rows = [[name, count_cell(room.get(name)), f"{means[place]:.1f}", count_cell(greatest[place])]
             for place, name in enumerate(PLACES)]
     return table(["Tasks", "room", f"mean over {it.occupancy.over()}", "greatest"], rows)
 

@@ -6,7 +6,7 @@ from collections.abc import Iterator, Mapping
 from typing import Callable, Optional
 
 from yotarimu.common.tables import plain_ratio, ratio, table
-from yotarimu.courses.schedules import DONE, NUMBERS, REFUSALS, Played, is_commit
+from yotarimu.courses.schedules import DONE, NUMBERS, REFUSALS, PlayedScript, is_commit
 
 # The curve of commits has so many points at most.
 MOST_POINTS = 60
@@ -16,7 +16,7 @@ class Tally:
     """The acts of a played schedule by answer, the tasks that they took back, and the commits over acts. What was asked
     after the end of the run, and answered `ended`, is counted apart."""
 
-    def __init__(self, played: Played, acts_a_round: Optional[int] = None) -> None:
+    def __init__(self, played: PlayedScript, acts_a_round: Optional[int] = None) -> None:
         self.replies: dict[str, collections.Counter[str]] = {}
         self.taken_back: collections.Counter[str] = collections.Counter()
         self.end = played.report.end

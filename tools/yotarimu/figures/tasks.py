@@ -9,7 +9,7 @@ from yotarimu.figures.spread import Spread
 from yotarimu.lines.times import Time
 
 if TYPE_CHECKING:
-    from yotarimu.lines.replay import Access, Task, Told
+    from yotarimu.lines.replay import Access, Task, ToldLine
 
 # Why a step stalls, by what its task asked for; and a split.
 STALLS = {"enqueue": "step, for a task queue", "end": "step, for the commit queue", "split": "split"}
@@ -51,7 +51,7 @@ class TaskFigures:
         # The makers of the domains in which the last task committed that did, from the root down.
         self.makers: list[Time] = []
 
-    def note_place(self, told: Told) -> None:
+    def note_place(self, told: ToldLine) -> None:
         self.spilled_at_opening += "new" not in told.line
 
     def note_access(self, task: Task, access: Access) -> None:

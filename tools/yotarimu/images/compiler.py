@@ -7,7 +7,7 @@ import shutil
 import subprocess
 from typing import Optional
 
-from yotarimu.common.outcome import Refused
+from yotarimu.common.outcome import Refusal
 from yotarimu.common.places import EXAMPLES_FOLDER
 
 # What a source includes, and what compilers call although no source does.
@@ -51,7 +51,7 @@ ADVICE = (
 def need_compiler(compiler: str) -> None:
     """Refuses a compiler that isn't there."""
     if not shutil.which(compiler):
-        raise Refused(f"{compiler} isn't in the path; it compiles C (Debian's package {PACKAGES[compiler]} has it).")
+        raise Refusal(f"{compiler} isn't in the path; it compiles C (Debian's package {PACKAGES[compiler]} has it).")
 
 
 def compiler_of(compiler: str, path: pathlib.Path) -> str:

@@ -7,11 +7,11 @@ import pathlib
 import sys
 
 from yotarimu.common.files import read_bytes, read_written
-from yotarimu.common.outcome import Refused
+from yotarimu.common.outcome import Refusal
 from yotarimu.common.words import number_in
 from yotarimu.images.image import DATA, Image
 from yotarimu.images.image_line import Line, label_of
-from yotarimu.images.source import Assembled
+from yotarimu.images.source import Assembly
 
 # What a file of numbers is called, how many bytes each may have, and how Python's arrays name these.
 NUMBERS = ".csv"
@@ -27,14 +27,14 @@ class Part:
     line: Line
 
 
-class Filling:
+class FilledData:
     """The initial data of an image, of which files fill parts."""
 
     def __init__(self, image: Image) -> None:
         self.image = image
         self.parts: list[Part] = []
 
-    def fill(self, line: Line, assembled: Assembled) -> None:
+    def fill(self, line: Line, assembled: Assembly) -> None:
         """Reads `data LABEL FILE [bytes|halves|words]`, and puts the file's bytes where the label stands."""
         if len(line.words) not in (3, 4):
             line.refuse_form()
@@ -51,10 +51,10 @@ class Filling:
             if part.start < other.end and other.start < part.end:
                 line.refuse(f"{other.line.place} fills a part of this too")
         self.parts.append(part)
-        self.image.initial = spliced(self.image.initial, start, content)
+        self.image.initial = splice(self.image.initial, start, content)
 
 
-def spliced(data: bytes, start: int, content: bytes) -> bytes:
+def splice(data: bytes, start: int, content: bytes) -> bytes:
     """Bytes with others in the place of some of them, behind zeros where these begin later."""
     return data[:start] + bytes(max(0, start - len(data))) + content + data[start + len(content):]
 
@@ -93,6 +93,6 @@ def odd_numbers(path: pathlib.Path, text: str, width: int) -> list[int]:
             sign, digits = (-1, word[1:]) if word[0] == "-" else (1, word)
             value = number_in(digits, 0, most if sign > 0 else -least)
             if value is None:
-                raise Refused(f"{path}:{place}: `{word}` is no number from {least} to {most}, in decimal or after 0x.")
+                raise Refusal(f"{path}:{place}: `{word}` is no number from {least} to {most}, in decimal or after 0x.")
             numbers.append(sign * value & most)
     return numbers

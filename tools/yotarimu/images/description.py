@@ -3,23 +3,23 @@ from __future__ import annotations
 
 from typing import Sequence
 
-from yotarimu.common.outcome import Refused
-from yotarimu.images.contents import Filling
+from yotarimu.common.outcome import Refusal
+from yotarimu.images.contents import FilledData
 from yotarimu.images.image import DATA, DATA_BYTES, INITIAL_TASKS, TEXT_WORDS, VERSIONS, WINDOW_WORDS, Image
 from yotarimu.images.image_line import Line, description, form, label_of, FORMS
 from yotarimu.images.initial_tasks import initial_task, initial_tasks
-from yotarimu.images.source import Assembled, Source
+from yotarimu.images.source import Assembly, Source
 
 
-def described(sources: Sequence[Source], assembled: Assembled) -> Image:
+def describe(sources: Sequence[Source], assembled: Assembly) -> Image:
     """The image of assembled sources, as their lines describe it."""
     image = Image(True, assembled.text, assembled.initial, -(-assembled.size // 4) * 4, 0, 0, [])
     image.version = max(VERSIONS) if any(source.is_compiled for source in sources) else min(VERSIONS)
-    filling, window = Filling(image), None
+    filling, window = FilledData(image), None
     for line in lines_known(sources):
         word = line.words[0]
         if word == "root":
-            image.is_ordered = ordered(line)
+            image.is_ordered = is_ordered(line)
         elif word == "data" and len(line.words) > 2:
             filling.fill(line, assembled)
         elif word == "data":
@@ -60,12 +60,12 @@ def refuse_sizes(place: str, image: Image, source: Source) -> None:
                                ("bytes of data", image.size, DATA_BYTES),
                                ("initial tasks", len(image.tasks), INITIAL_TASKS)):
         if number > most:
-            raise Refused(f"{place}: {number} {what} are more than an image may have, which is {most}.")
+            raise Refusal(f"{place}: {number} {what} are more than an image may have, which is {most}.")
     if not image.tasks:
-        raise Refused(f"{place}: no line tells an initial task: {form('task', source)}.")
+        raise Refusal(f"{place}: no line tells an initial task: {form('task', source)}.")
 
 
-def ordered(line: Line) -> bool:
+def is_ordered(line: Line) -> bool:
     """Reads `root ordered` or `root unordered`."""
     if line.words[1:] not in (["ordered"], ["unordered"]):
         line.refuse_form()
@@ -79,7 +79,7 @@ def version_of(line: Line) -> int:
     return int(line.words[1])
 
 
-def data_size(line: Line, assembled: Assembled) -> int:
+def data_size(line: Line, assembled: Assembly) -> int:
     """Reads `data BYTES`."""
     if len(line.words) != 2:
         line.refuse_form()
@@ -89,7 +89,7 @@ def data_size(line: Line, assembled: Assembled) -> int:
     return size
 
 
-def window_of(line: Line, assembled: Assembled, size: int) -> tuple[int, int]:
+def window_of(line: Line, assembled: Assembly, size: int) -> tuple[int, int]:
     """Reads `window LABEL [WORDS]`: the offset of the window, and how many words it has."""
     if len(line.words) not in (2, 3):
         line.refuse_form()

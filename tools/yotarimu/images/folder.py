@@ -5,10 +5,10 @@ import pathlib
 
 from yotarimu.common.files import write_whole
 from yotarimu.images.compiler import FAST, FOR_DEBUGGING
-from yotarimu.images.description import described
+from yotarimu.images.description import describe
 from yotarimu.images.image import Image, image_bytes
 from yotarimu.images.listing import listing_text
-from yotarimu.images.source import Assembled, assemble, sources_in
+from yotarimu.images.source import Assembly, assemble, sources_in
 from yotarimu.images.stack import check_stack
 
 
@@ -16,11 +16,11 @@ from yotarimu.images.stack import check_stack
 DEBUG_FOLDER = "debug"
 
 
-def build(folder: pathlib.Path, compiler: str, level: str = FAST) -> tuple[Image, Assembled]:
+def build(folder: pathlib.Path, compiler: str, level: str = FAST) -> tuple[Image, Assembly]:
     """Writes the image and the listing of a folder's sources, and hands out the image with what it was made of."""
     sources = sources_in(folder)
     assembled = assemble(sources, compiler, level)
-    image = described(sources, assembled)
+    image = describe(sources, assembled)
     check_stack(assembled, image)
     listing = listing_text(sources, assembled, image).encode("utf-8", "surrogateescape")
     target = image_folder(folder, level)

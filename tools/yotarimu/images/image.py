@@ -7,7 +7,7 @@ import struct
 from typing import Optional
 
 from yotarimu.common.files import FilePath
-from yotarimu.common.outcome import Refused
+from yotarimu.common.outcome import Refusal
 
 TEXT, DATA = 0x10000, 0x10000000
 TEXT_WORDS, DATA_BYTES, WINDOW_WORDS, INITIAL_TASKS = 65_536, 16_777_216, 4_096, 65_536
@@ -71,14 +71,14 @@ def image_bytes(image: Image) -> bytes:
 def read_image(data: bytes, name: FilePath) -> Image:
     """The image at the front of bytes, which came from the file `name`."""
     if len(data) < HEADER.size or data[:4] != b"FRAC":
-        raise Refused(f"{name}: this is no image: it doesn't begin with the letters FRAC and a header of 32 bytes.")
+        raise Refusal(f"{name}: this is no image: it doesn't begin with the letters FRAC and a header of 32 bytes.")
     _, version, root, words, initial, size, window, window_words, count = HEADER.unpack_from(data)
     if version not in VERSIONS or root > 1:
-        raise Refused(f"{name}: this is no image of version 1 or 2 with an ordered or unordered root domain.")
+        raise Refusal(f"{name}: this is no image of version 1 or 2 with an ordered or unordered root domain.")
     text_end = HEADER.size + 4 * words
     tasks_at = text_end + initial
     if words > TEXT_WORDS or initial > size or size > DATA_BYTES or len(data) < tasks_at + TASK.size * count:
-        raise Refused(f"{name}: this image is cut off, or a number of its header is above its limit.")
+        raise Refusal(f"{name}: this image is cut off, or a number of its header is above its limit.")
     rows = (TASK.unpack_from(data, tasks_at + TASK.size * place) for place in range(count))
     tasks = [InitialTask(entry, timestamp, tuple(arguments)) for entry, timestamp, *arguments in rows]
     return Image(root == 1, data[HEADER.size:text_end], data[text_end:tasks_at], size, window, window_words, tasks,

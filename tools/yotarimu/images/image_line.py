@@ -6,10 +6,10 @@ import pathlib
 import re
 from typing import Iterator, NoReturn, Optional, Sequence
 
-from yotarimu.common.outcome import Refused
+from yotarimu.common.outcome import Refusal
 from yotarimu.common.words import number_in
 from yotarimu.images.elf import Label
-from yotarimu.images.source import Assembled, Source
+from yotarimu.images.source import Assembly, Source
 
 FORMS = {
     "root": ("root ordered", "root unordered"),
@@ -37,7 +37,7 @@ class Line:
 
     def refuse(self, why: str) -> NoReturn:
         """Refuses the line."""
-        raise Refused(f"{self.place}: {why}.")
+        raise Refusal(f"{self.place}: {why}.")
 
     def refuse_form(self, why: str = "this isn't", word: Optional[str] = None) -> NoReturn:
         """Refuses the line as misshapen, and tells how lines on that word are."""
@@ -74,9 +74,9 @@ def description(sources: Sequence[Source]) -> Iterator[Line]:
                 Line(source, number, []).refuse_form("a colon is missing after `image`:", found["word"])
 
 
-def label_of(line: Line, assembled: Assembled, name: str, section_names: Sequence[str], what: str) -> Label:
+def label_of(line: Line, assembled: Assembly, name: str, section_names: Sequence[str], what: str) -> Label:
     """The label of a name, which is to stand in one of these sections."""
-    found = assembled.named(name)
+    found = assembled.labels_named(name)
     if not found:
         line.refuse(f"there is no label `{name}`" + (
             "; a variable stands outside of functions, and is used" if line.source.is_c and what == "data" else ""))

@@ -10,15 +10,15 @@ from yotarimu.images.contents import NUMBERS
 from yotarimu.images.elf import Label
 from yotarimu.images.image import TASK, InitialTask
 from yotarimu.images.image_line import Line, label_of
-from yotarimu.images.source import PLACES, Assembled
+from yotarimu.images.source import PLACES, Assembly
 
 WORD = 0xFFFFFFFF
 
 
-def initial_task(line: Line, assembled: Assembled) -> InitialTask:
+def initial_task(line: Line, assembled: Assembly) -> InitialTask:
     """Reads `task LABEL [ts N] [args A [B [C]]]`."""
     words = list(line.words[1:])
-    if not words or words[0] in ("ts", "args") and not assembled.named(words[0]):
+    if not words or words[0] in ("ts", "args") and not assembled.labels_named(words[0]):
         line.refuse_form("the label is missing:")
     entry, timestamp, arguments, rest = entry_of(line, assembled, words[0]), "0", list[str](), words[1:]
     if rest[:1] == ["ts"]:
@@ -34,7 +34,7 @@ def initial_task(line: Line, assembled: Assembled) -> InitialTask:
     return task_of(line, assembled, entry, timestamp, arguments)
 
 
-def initial_tasks(line: Line, assembled: Assembled) -> list[InitialTask]:
+def initial_tasks(line: Line, assembled: Assembly) -> list[InitialTask]:
     """Reads `tasks FILE`: a row for each task. Where the name ends in .csv a row is LABEL, TIMESTAMP and up to three
     arguments; else it has the 20 bytes of a task in an image."""
     if len(line.words) != 2:
@@ -48,7 +48,7 @@ def initial_tasks(line: Line, assembled: Assembled) -> list[InitialTask]:
     return [InitialTask(row[0], row[1], tuple(row[2:])) for row in TASK.iter_unpack(content)]
 
 
-def tasks_told(line: Line, path: pathlib.Path, assembled: Assembled) -> list[InitialTask]:
+def tasks_told(line: Line, path: pathlib.Path, assembled: Assembly) -> list[InitialTask]:
     """The tasks that the rows of a text tell; empty rows tell none."""
     entries: dict[str, Label] = {}
     tasks = []
@@ -65,7 +65,7 @@ def tasks_told(line: Line, path: pathlib.Path, assembled: Assembled) -> list[Ini
     return tasks
 
 
-def entry_of(line: Line, assembled: Assembled, name: str) -> Label:
+def entry_of(line: Line, assembled: Assembly, name: str) -> Label:
     """The label of a task's entry."""
     entry = label_of(line, assembled, name, (".text",), "text")
     if is_plain_function(assembled, entry):
@@ -73,24 +73,24 @@ def entry_of(line: Line, assembled: Assembled, name: str) -> Label:
     return entry
 
 
-def is_plain_function(assembled: Assembled, label: Label) -> bool:
+def is_plain_function(assembled: Assembly, label: Label) -> bool:
     """Whether a label is a function of C: it would return to nowhere."""
     found = assembled.instructions.get(label.address)
     is_of_c = found is not None and found.source.endswith((".c", ".cpp"))
     return label.is_function and is_of_c and not assembled.is_entry_of_c(label.address)
 
 
-def task_of(line: Line, assembled: Assembled, entry: Label, timestamp: str, arguments: Sequence[str]) -> InitialTask:
+def task_of(line: Line, assembled: Assembly, entry: Label, timestamp: str, arguments: Sequence[str]) -> InitialTask:
     """The task of an entry; arguments that aren't told are 0."""
     numbers = [argument(line, assembled, word) for word in arguments]
     first, second, third = (numbers + [0, 0, 0])[:3]
     return InitialTask(entry.address, line.number_of(timestamp, "the timestamp", WORD), (first, second, third))
 
 
-def argument(line: Line, assembled: Assembled, word: str) -> int:
+def argument(line: Line, assembled: Assembly, word: str) -> int:
     """An argument: a number, or a label for its address."""
     if not word[:1].isalpha() and word[:1] != "_":
         return line.number_of(word, "an argument", WORD)
-    if not assembled.named(word):
+    if not assembled.labels_named(word):
         line.refuse(f"an argument is a number or a label, and there is no label `{word}`")
     return label_of(line, assembled, word, tuple(PLACES), "image").address

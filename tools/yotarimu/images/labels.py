@@ -5,7 +5,7 @@ import pathlib
 from typing import Optional
 
 from yotarimu.common.files import FilePath, read_written
-from yotarimu.common.outcome import Refused
+from yotarimu.common.outcome import Refusal
 from yotarimu.images.image import DATA, Image
 from yotarimu.images.listing import NO_LISTING, Listing, listing_of, read_listing
 from yotarimu.images.source import SUFFIXES, assemble, source_at, sources_in
@@ -24,7 +24,7 @@ def listing_for(image_path: FilePath, image: Image, source: Optional[FilePath]) 
     listing = listing_at(pathlib.Path(source))
     address = differs(listing, image)
     if address is not None:
-        raise Refused(f"{source}: this isn't the image's: at {address:08x} they differ.")
+        raise Refusal(f"{source}: this isn't the image's: at {address:08x} they differ.")
     return listing, None
 
 

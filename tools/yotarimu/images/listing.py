@@ -9,10 +9,10 @@ from collections.abc import Iterable, Sequence
 from typing import Optional
 
 from yotarimu.common.files import FilePath
-from yotarimu.common.outcome import Refused
+from yotarimu.common.outcome import Refusal
 from yotarimu.common.text import printable
 from yotarimu.images.image import DATA, STACK, TEXT, Image
-from yotarimu.images.source import Assembled, Instruction, Source
+from yotarimu.images.source import Assembly, Instruction, Source
 
 # How many bytes of data are shown at most.
 MOST_BYTES = 65_536
@@ -35,7 +35,7 @@ class Listing:
         distance = address - self.places[place]
         return self.labels[self.places[place]] + (f"+{distance}" if distance else "")
 
-    def labelled(self, address: int) -> str:
+    def address_text(self, address: int) -> str:
         """An address by its label, or in hexadecimal where it has none."""
         return self.label(address) or f"{address:08x}"
 
@@ -44,7 +44,7 @@ class Listing:
         arguments = list(arguments)
         while arguments and arguments[-1] == 0:
             arguments.pop()
-        return " ".join([self.labelled(entry), *map(self.argument_word, arguments)])
+        return " ".join([self.address_text(entry), *map(self.argument_word, arguments)])
 
     def argument_word(self, argument: int) -> str:
         """An argument as a number, or as a label where it is the address of data that has one."""
@@ -66,7 +66,7 @@ class Listing:
 NO_LISTING = Listing({}, {}, {}, {})
 
 
-def listing_of(sources: Sequence[Source], assembled: Assembled) -> Listing:
+def listing_of(sources: Sequence[Source], assembled: Assembly) -> Listing:
     """The listing of assembled sources."""
     labels: dict[int, str] = {}
     for label in assembled.labels:
@@ -77,7 +77,7 @@ def listing_of(sources: Sequence[Source], assembled: Assembled) -> Listing:
     return Listing(labels, words, assembled.instructions, lines)
 
 
-def listing_text(sources: Sequence[Source], assembled: Assembled, image: Image) -> str:
+def listing_text(sources: Sequence[Source], assembled: Assembly, image: Image) -> str:
     """The listing as text, a line each for labels, instructions and up to 16 bytes of data."""
     listing = listing_of(sources, assembled)
     names = ", ".join(source.name for source in sources) + (f" by {assembled.compiler}" if assembled.compiler else "")
@@ -93,7 +93,7 @@ def listing_text(sources: Sequence[Source], assembled: Assembled, image: Image) 
     return "\n".join(lines) + "\n"
 
 
-def label_lines(assembled: Assembled, address: int) -> list[str]:
+def label_lines(assembled: Assembly, address: int) -> list[str]:
     return [f"{address:08x} <{label.name}>:" for label in assembled.labels if label.address == address]
 
 
@@ -108,7 +108,7 @@ def instruction_line(listing: Listing, address: int, word: int) -> str:
     return line.rstrip()
 
 
-def data_lines(assembled: Assembled, start: int, data: bytes, title: str) -> list[str]:
+def data_lines(assembled: Assembly, start: int, data: bytes, title: str) -> list[str]:
     """Bytes in rows of at most 16 that begin at each label; of bytes beyond those that are shown the labels alone."""
     if not data:
         return []
@@ -130,7 +130,7 @@ def data_lines(assembled: Assembled, start: int, data: bytes, title: str) -> lis
     return lines
 
 
-def zero_lines(assembled: Assembled, start: int, end: int) -> list[str]:
+def zero_lines(assembled: Assembly, start: int, end: int) -> list[str]:
     """The labels of what begins as zeros."""
     if start == end:
         return []
@@ -149,7 +149,7 @@ def read_listing(text: str, name: FilePath) -> Listing:
         elif found := re.match(r"([0-9a-f]{8})  ([0-9a-f]{8})  (.*)", line):
             read_instruction(listing, int(found[1], 16), int(found[2], 16), found[3])
     if not listing.words:
-        raise Refused(f"{name}: this is no listing that ./fractal build wrote.")
+        raise Refusal(f"{name}: this is no listing that ./fractal build wrote.")
     return listing
 
 

@@ -26,7 +26,7 @@ NO_EDGE = 0xFFFFFFFF
 CELLS = 8
 
 
-def generated(kind: str, seed: int, size: int) -> Image:
+def generate(kind: str, seed: int, size: int) -> Image:
     """The image of a kind, a seed and a size within its limits."""
     return (walk if kind == "walk" else nest)(seed, size)
 

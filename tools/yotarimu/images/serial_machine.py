@@ -27,11 +27,11 @@ FETCH, ILLEGAL, TARGET, LOAD_MULTIPLE, LOAD_RANGE, STORE_MULTIPLE, STORE_RANGE, 
 BAD_CALL, EARLY, NO_SUBDOMAIN, SECOND_SUBDOMAIN, NO_SUPERDOMAIN, TOO_DEEP, CHILD, BYTE, BUDGET = range(9, 18)
 
 
-class Lost(Exception):
+class LostRun(Exception):
     """The tasks can't be followed further; the text says why."""
 
 
-class Trapped(Exception):
+class TaskTrap(Exception):
     """A task traps: its cause, and the address of the load or store that does."""
 
     def __init__(self, cause: int, address: Optional[int] = None) -> None:
@@ -112,16 +112,16 @@ class Machine:
             run = self.run_of(task)
             try:
                 run.go()
-            except Lost as lost:
+            except LostRun as lost:
                 return f"turn {entry.turn} {lost}"
-            except Trapped as trapped:
+            except TaskTrap as trapped:
                 self.is_other = True
                 return f"turn {entry.turn} traps with cause {trapped.cause}; ./fractal check says more"
             if run.inner:
                 self.domains.append(run.inner)
         return None
 
-    def trapped(self, trap: Trap) -> Optional[tuple[Run, Trapped]]:
+    def run_at_trap(self, trap: Trap) -> Optional[tuple[Run, TaskTrap]]:
         """The run of a pending task at its trap, and the trap as it is found here; None where another one is."""
         task = self.tasks.get(trap.name)
         if not task or task.turn:
@@ -129,9 +129,9 @@ class Machine:
         run = self.run_of(task)
         try:
             run.go()
-        except Trapped as found:
+        except TaskTrap as found:
             return (run, found) if (found.cause, run.pc) == (trap.cause, trap.pc) else None
-        except Lost:
+        except LostRun:
             return None
         return None
 
@@ -156,23 +156,23 @@ class Run:
         machine, last = self.machine, self.machine.steps + MOST_BUDGET
         while not self.is_over:
             if machine.steps == last:
-                raise Trapped(BUDGET)
+                raise TaskTrap(BUDGET)
             word = machine.image.word(self.pc)
             if word is None or self.pc % 4:
-                raise Trapped(FETCH)
+                raise TaskTrap(FETCH)
             if machine.steps == MOST_STEPS:
-                raise Lost(f"comes after {MOST_STEPS:,} instructions, and no more are run again for labels")
+                raise LostRun(f"comes after {MOST_STEPS:,} instructions, and no more are run again for labels")
             self.step(word)
             machine.steps += 1
 
     def step(self, word: int) -> None:
-        opcode, target, first, second, kind, immediate, is_other = decoded(word)
+        opcode, target, first, second, kind, immediate, is_other = decode(word)
         registers, result, following = self.registers, None, self.pc + 4
         one = registers[first]
         if opcode == 0x13:
-            result = computed(kind, one, immediate & MASK, is_other and kind == 5)
+            result = compute(kind, one, immediate & MASK, is_other and kind == 5)
         elif opcode == 0x33:
-            result = computed(kind, one, registers[second], is_other)
+            result = compute(kind, one, registers[second], is_other)
         elif opcode == 0x63:
             following = self.pc + immediate if is_met(kind, one, registers[second]) else following
         elif opcode == 0x03:
@@ -190,9 +190,9 @@ class Run:
         elif word == 0x73:
             self.call()
         elif opcode != 0x0F:
-            raise Trapped(BREAK if word == 0x100073 else ILLEGAL)
+            raise TaskTrap(BREAK if word == 0x100073 else ILLEGAL)
         if following % 4:
-            raise Trapped(TARGET)
+            raise TaskTrap(TARGET)
         if result is not None and target:
             registers[target] = result & MASK
         self.pc = following & MASK
@@ -200,28 +200,28 @@ class Run:
     def load(self, kind: int, address: int) -> int:
         width = 1 << (kind & 3)
         if address % width:
-            raise Trapped(LOAD_MULTIPLE, address)
+            raise TaskTrap(LOAD_MULTIPLE, address)
         start, data = self.readable(address)
         place = address - start
         if not 0 <= place <= len(data) - width:
-            raise Trapped(LOAD_RANGE, address)
+            raise TaskTrap(LOAD_RANGE, address)
         value = int.from_bytes(data[place:place + width], "little")
-        return value if kind & 4 else signed(value, 8 * width)
+        return value if kind & 4 else signed_number(value, 8 * width)
 
     def store(self, width: int, address: int, value: int) -> None:
         if address % width:
-            raise Trapped(STORE_MULTIPLE, address)
-        start, data = self.changing(address)
+            raise TaskTrap(STORE_MULTIPLE, address)
+        start, data = self.writable_bytes(address)
         place = address - start
         if not 0 <= place <= len(data) - width:
-            raise Trapped(STORE_RANGE, address)
+            raise TaskTrap(STORE_RANGE, address)
         data[place:place + width] = (value & (1 << 8 * width) - 1).to_bytes(width, "little")
 
     def readable(self, address: int) -> tuple[int, Union[bytes, bytearray]]:
         """The bytes that an address may be read from, and where they begin: the text, the stack, or the data."""
-        return (TEXT, self.machine.image.text) if address < DATA else self.changing(address)
+        return (TEXT, self.machine.image.text) if address < DATA else self.writable_bytes(address)
 
-    def changing(self, address: int) -> tuple[int, bytearray]:
+    def writable_bytes(self, address: int) -> tuple[int, bytearray]:
         """The bytes that an address may belong to, and where they begin: the task's stack, or the data."""
         return (STACK, self.stack) if address >= STACK else (DATA, self.machine.memory)
 
@@ -233,38 +233,38 @@ class Run:
             self.make_subdomain(registers[ENTRY] == 1)
         elif number == 5:
             if self.emitted == MOST_BYTES:
-                raise Trapped(BYTE)
+                raise TaskTrap(BYTE)
             self.emitted += 1
             self.machine.output.append(registers[ENTRY] & 0xFF)
         elif number in (1, 2, 3):
             self.enqueue(number, registers[ENTRY], registers[TIMESTAMP], registers[FIRST_ARGUMENT:FIRST_ARGUMENT + 3])
         else:
-            raise Trapped(BAD_CALL)
+            raise TaskTrap(BAD_CALL)
 
     def make_subdomain(self, is_ordered: bool) -> None:
         own = self.task.domain
         if self.inner:
-            raise Trapped(SECOND_SUBDOMAIN)
+            raise TaskTrap(SECOND_SUBDOMAIN)
         if own.depth == self.limits.depth:
-            raise Trapped(TOO_DEEP)
+            raise TaskTrap(TOO_DEEP)
         self.inner = Domain(own.depth + 1, is_ordered, own, self.task.timestamp)
 
     def enqueue(self, number: int, entry: int, timestamp: int, arguments: Sequence[int]) -> None:
         own = self.task.domain
         domain = {1: own, 2: self.inner, 3: own.outer}[number]
         if domain is None:
-            raise Trapped(NO_SUBDOMAIN if number == 2 else NO_SUPERDOMAIN)
+            raise TaskTrap(NO_SUBDOMAIN if number == 2 else NO_SUPERDOMAIN)
         # A subdomain's timestamps start afresh.
         least = {1: self.task.timestamp, 2: 0, 3: own.floor}[number]
         if domain.is_ordered and timestamp < least:
-            raise Trapped(EARLY)
+            raise TaskTrap(EARLY)
         if self.children == self.limits.children:
-            raise Trapped(CHILD)
+            raise TaskTrap(CHILD)
         self.machine.add(Name(self.turn, self.children), entry, timestamp, arguments, domain)
         self.children += 1
 
 
-def signed(value: int, bits: int) -> int:
+def signed_number(value: int, bits: int) -> int:
     """The low bits of a value as a two's complement number."""
     value &= (1 << bits) - 1
     return value - (1 << bits) if value >> bits - 1 else value
@@ -272,7 +272,7 @@ def signed(value: int, bits: int) -> int:
 
 # An image has no more words.
 @functools.lru_cache(maxsize=65_536)
-def decoded(word: int) -> tuple[int, int, int, int, int, int, bool]:
+def decode(word: int) -> tuple[int, int, int, int, int, int, bool]:
     """The fields of an instruction: opcode, rd, rs1, rs2, funct3, the immediate of its format, and bit 30."""
     opcode = word & 0x7F
     return (opcode, word >> 7 & 31, word >> 15 & 31, word >> 20 & 31, word >> 12 & 7, immediate_of(opcode, word),
@@ -286,39 +286,40 @@ def immediate_of(opcode: int, word: int) -> int:
     if opcode == 0x6F:
         return jump_offset(word)
     if opcode == 0x23:
-        return signed(word >> 25 << 5 | word >> 7 & 31, 12)
-    return word & 0xFFFFF000 if opcode in (0x37, 0x17) else signed(word >> 20, 12)
+        return signed_number(word >> 25 << 5 | word >> 7 & 31, 12)
+    return word & 0xFFFFF000 if opcode in (0x37, 0x17) else signed_number(word >> 20, 12)
 
 
-def computed(kind: int, one: int, two: int, is_other: bool) -> int:
+def compute(kind: int, one: int, two: int, is_other: bool) -> int:
     """The result of a register instruction, or of one with an immediate; `is_other` tells SUB and SRA."""
     if kind == 0:
         return one - two if is_other else one + two
     if kind == 1:
         return one << (two & 31)
     if kind == 2:
-        return signed(one, 32) < signed(two, 32)
+        return signed_number(one, 32) < signed_number(two, 32)
     if kind == 3:
         return one < two
     if kind == 4:
         return one ^ two
     if kind == 5:
-        return (signed(one, 32) if is_other else one) >> (two & 31)
+        return (signed_number(one, 32) if is_other else one) >> (two & 31)
     return one | two if kind == 6 else one & two
 
 
 def is_met(kind: int, one: int, two: int) -> bool:
     """Whether a branch is taken."""
     if kind & 4:
-        is_less = one < two if kind & 2 else signed(one, 32) < signed(two, 32)
+        is_less = one < two if kind & 2 else signed_number(one, 32) < signed_number(two, 32)
         return is_less != bool(kind & 1)
     return (one == two) != bool(kind & 1)
 
 
 def branch_offset(word: int) -> int:
-    return signed((word >> 31) << 12 | (word >> 7 & 1) << 11 | (word >> 25 & 0x3F) << 5 | (word >> 8 & 0xF) << 1, 13)
+    return signed_number((word >> 31) << 12 | (word >> 7 & 1) << 11 | (word >> 25 & 0x3F) << 5 | (word >> 8 & 0xF) << 1,
+                         13)
 
 
 def jump_offset(word: int) -> int:
     bits = (word >> 31) << 20 | (word >> 12 & 0xFF) << 12 | (word >> 20 & 1) << 11 | (word >> 21 & 0x3FF) << 1
-    return signed(bits, 21)
+    return signed_number(bits, 21)

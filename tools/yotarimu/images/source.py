@@ -15,7 +15,7 @@ from collections.abc import Mapping, Sequence
 from typing import NoReturn, Optional
 
 from yotarimu.common.files import read_bytes, read_written
-from yotarimu.common.outcome import Refused, note
+from yotarimu.common.outcome import Refusal, note
 from yotarimu.images import compiler, elf
 from yotarimu.images.elf import Label
 from yotarimu.images.image import DATA, DATA_BYTES, TEXT, TEXT_WORDS
@@ -105,7 +105,7 @@ class Source:
     def refuse_at(self, pattern: str, why: str) -> NoReturn:
         """Refuses the source, at its first line that has a pattern."""
         number = next((number for number, text in enumerate(self.lines, 1) if re.search(pattern, text)), None)
-        raise Refused(f"{self.path}:{number}: {why}." if number else f"{self.path}: {why}.")
+        raise Refusal(f"{self.path}:{number}: {why}." if number else f"{self.path}: {why}.")
 
 
 @dataclasses.dataclass
@@ -117,7 +117,7 @@ class Instruction:
 
 
 @dataclasses.dataclass
-class Assembled:
+class Assembly:
     """What the linker made of the sources; `size` is that of all data, with the zeros after the initial bytes."""
     text: bytes
     initial: bytes
@@ -130,7 +130,7 @@ class Assembled:
     linked: bytes = b""
     paths: dict[str, pathlib.Path] = dataclasses.field(default_factory=dict)
 
-    def named(self, name: str) -> list[Label]:
+    def labels_named(self, name: str) -> list[Label]:
         """The labels of a name: more than one where several sources have their own."""
         return [label for label in self.labels if label.name == name]
 
@@ -155,10 +155,10 @@ def sources_in(folder: pathlib.Path) -> list[Source]:
     """The sources of a folder, by name."""
     paths = sorted(path for path in pathlib.Path(folder).iterdir() if path.suffix in SUFFIXES)
     if not paths:
-        raise Refused(f"{folder}: no source, a file whose name ends in {' or '.join(SUFFIXES)}, is in this folder.")
+        raise Refusal(f"{folder}: no source, a file whose name ends in {' or '.join(SUFFIXES)}, is in this folder.")
     for one, other in itertools.combinations(paths, 2):
         if one.stem == other.stem and OBJECT in (one.suffix, other.suffix):
-            raise Refused(f"{folder}: {one.name} and {other.name} have one name, so one seems to be made of the other; "
+            raise Refusal(f"{folder}: {one.name} and {other.name} have one name, so one seems to be made of the other; "
                           "take one of them away.")
     return [source_at(path) for path in paths]
 
@@ -173,7 +173,7 @@ def tool_prefix() -> str:
     for prefix in PREFIXES:
         if all(shutil.which(prefix + tool) for tool in TOOLS):
             return prefix
-    raise Refused(f"no GNU binutils for RISC-V are in the path: {', '.join(TOOLS)} with one of the prefixes "
+    raise Refusal(f"no GNU binutils for RISC-V are in the path: {', '.join(TOOLS)} with one of the prefixes "
                   f"{', '.join(PREFIXES)} are wanted (Debian's package binutils-riscv64-linux-gnu has them).")
 
 
@@ -194,7 +194,7 @@ def run_tool(words: Sequence[str], folder: str, names: Sequence[Source]) -> str:
         return done.stdout
     if missing := dict.fromkeys(re.findall(r"(?m)^(?:.*: )?(\S.*?:\d+): undefined reference to [`']([^']+)'", said)):
         said = "\n".join(f"{place}: `{name}` is defined nowhere{compiler.where_from(name)}." for place, name in missing)
-    raise Refused(compiler.complaints(said) or said or f"{words[0]} ended with status {done.returncode}.")
+    raise Refusal(compiler.complaints(said) or said or f"{words[0]} ended with status {done.returncode}.")
 
 
 def bound_files() -> None:
@@ -209,7 +209,7 @@ def refuse_size(sources: Sequence[Source]) -> NoReturn:
              for number, text in enumerate(source.lines, 1)]
     most, source, number = max(lines, key=lambda line: line[0])
     place = f"{source.path}:{number}" if most else ", ".join(str(source.path) for source in sources)
-    raise Refused(f"{place}: a section is far larger than an image may have: the text has up to {4 * TEXT_WORDS:,} "
+    raise Refusal(f"{place}: a section is far larger than an image may have: the text has up to {4 * TEXT_WORDS:,} "
                   f"bytes, and the data up to {DATA_BYTES:,}.")
 
 
@@ -223,7 +223,7 @@ def asked_for(text: str) -> int:
     return max((*products, *(int(word, 0) for word in re.findall(number, text))), default=0)
 
 
-def assemble(sources: Sequence[Source], by: str = compiler.GCC, level: str = compiler.FAST) -> Assembled:
+def assemble(sources: Sequence[Source], by: str = compiler.GCC, level: str = compiler.FAST) -> Assembly:
     """Assembles or compiles the sources, C by the compiler that is named, and links them at the image's addresses."""
     prefix, is_compiled = tool_prefix(), any(source.is_compiled for source in sources)
     with tempfile.TemporaryDirectory() as folder:
@@ -246,7 +246,7 @@ def assemble(sources: Sequence[Source], by: str = compiler.GCC, level: str = com
                                "no-aliases", "-j", ".text", "task.elf"], folder, sources)
         else:
             listed = ""
-    assembled = joined({section.name: section for section in sections}, labels, instructions_in(listed))
+    assembled = join_sections({section.name: section for section in sections}, labels, instructions_in(listed))
     assembled.compiler, assembled.linked = compilers_told(sources, by, level), linked
     assembled.paths = {source.name: source.path for source in sources}
     refuse_other_instructions(assembled)
@@ -254,7 +254,7 @@ def assemble(sources: Sequence[Source], by: str = compiler.GCC, level: str = com
     return assembled
 
 
-def tell_entries(assembled: Assembled, sources: Sequence[Source]) -> None:
+def tell_entries(assembled: Assembly, sources: Sequence[Source]) -> None:
     """Gives the instructions of each entry that TASK made the line of that TASK, which no compiler tells."""
     for label in assembled.tasks_of_c():
         lines = ((source.name, number) for source in sources if source.is_c
@@ -272,7 +272,7 @@ def object_of(source: Source, target: pathlib.Path, prefix: str, how: tuple[str,
     if source.path.suffix == OBJECT:
         made = read_bytes(source.path)
         if not elf.is_object(made):
-            raise Refused(f"{source.path}: this is no object file of a RISC-V machine of 32 bits.")
+            raise Refusal(f"{source.path}: this is no object file of a RISC-V machine of 32 bits.")
         target.write_bytes(made)
         return made
     run_tool(source_words(source, target, prefix, *how), str(target.parent), sources)
@@ -322,13 +322,13 @@ def refuse_other_machine(source: Source, data: bytes) -> None:
                          f"this asks for {asked}, and the machine has RV32I alone")
 
 
-def refuse_other_instructions(assembled: Assembled) -> None:
+def refuse_other_instructions(assembled: Assembly) -> None:
     """Refuses an instruction that isn't one of RV32I; words that the source gives as data aren't looked at."""
     for address, found in assembled.instructions.items():
         name = found.words.partition(" ")[0]
         if name in UNKNOWN or name not in INSTRUCTIONS and not name.startswith((".", "0x")):
             place = assembled.place(address) or f"at {address:08x}"
-            raise Refused(f"{place}: `{found.words if name in UNKNOWN else name}` is no instruction of RV32I.")
+            raise Refusal(f"{place}: `{found.words if name in UNKNOWN else name}` is no instruction of RV32I.")
 
 
 def section_names(source: Source, data: bytes) -> list[str]:
@@ -336,7 +336,7 @@ def section_names(source: Source, data: bytes) -> list[str]:
     sections = [it for it in elf.read_elf(data)[0] if it.size > 0]
     for it in sections:
         if it.kind in (elf.BITS, elf.NO_BITS) and not it.is_allocated and not it.name.startswith(NOT_FOR_MEMORY):
-            raise Refused(f"{source.path}: the section {it.name} has no flags, so it is no part of memory; "
+            raise Refusal(f"{source.path}: the section {it.name} has no flags, so it is no part of memory; "
                           f'write .section {it.name}, "aw", or "a" for constants.')
     names = [it.name for it in sections if it.is_allocated and not it.name.startswith(UNWINDING)]
     known = [place for places in PLACES.values() for place in places]
@@ -397,8 +397,8 @@ def is_library(path: str) -> bool:
     return os.path.dirname(os.path.normpath(path)) == str(compiler.LIBRARY)
 
 
-def joined(sections: Mapping[str, elf.Section], labels: Sequence[Label],
-           instructions: dict[int, Instruction]) -> Assembled:
+def join_sections(sections: Mapping[str, elf.Section], labels: Sequence[Label],
+                  instructions: dict[int, Instruction]) -> Assembly:
     """The image's parts from the linked file's sections."""
     empty = elf.Section("", 0, True, 0, 0, b"")
     text, fixed, data, zeros = (sections.get(name, empty) for name in PLACES)
@@ -408,4 +408,4 @@ def joined(sections: Mapping[str, elf.Section], labels: Sequence[Label],
     whole += bytes(-len(whole) % 4)
     end = max((section.address + section.size for section in (data, zeros) if section.size), default=DATA)
     places = [label for label in labels if label.section in PLACES]
-    return Assembled(bytes(whole), data.data, end - DATA, places, instructions, text.size)
+    return Assembly(bytes(whole), data.data, end - DATA, places, instructions, text.size)

@@ -5,11 +5,11 @@ import bisect
 import dataclasses
 from typing import NamedTuple, Optional
 
-from yotarimu.common.outcome import Refused, note
+from yotarimu.common.outcome import Refusal, note
 from yotarimu.images.elf import Label
 from yotarimu.images.image import TEXT, Image
-from yotarimu.images.serial_machine import branch_offset, jump_offset, signed
-from yotarimu.images.source import Assembled
+from yotarimu.images.serial_machine import branch_offset, jump_offset, signed_number
+from yotarimu.images.source import Assembly
 
 RA, SP, FRAME = 1, 2, 8
 LUI, AUIPC, JAL, JALR, BRANCH, IMMEDIATE, REGISTER, SYSTEM = 0x37, 0x17, 0x6F, 0x67, 0x63, 0x13, 0x33, 0x73
@@ -98,11 +98,11 @@ class Function:
         above, register = self.word(at - 4), word >> 15 & 31
         if at == self.start or above & 0x7F != AUIPC or above >> 7 & 31 != register:
             return None
-        return at - 4 + signed(above >> 12 << 12, 32) + signed(word >> 20, 12) & 0xFFFFFFFF
+        return at - 4 + signed_number(above >> 12 << 12, 32) + signed_number(word >> 20, 12) & 0xFFFFFFFF
 
     def after_change(self, at: int, word: int, taken: int) -> int:
         """The bytes that are taken once an instruction has changed the stack pointer."""
-        opcode, rs1, rs2, immediate = word & 0x7F, word >> 15 & 31, word >> 20 & 31, signed(word >> 20, 12)
+        opcode, rs1, rs2, immediate = word & 0x7F, word >> 15 & 31, word >> 20 & 31, signed_number(word >> 20, 12)
         if opcode == IMMEDIATE and word >> 12 & 7 == 0 and rs1 == SP:
             return taken - immediate
         # The frame pointer of both compilers is the stack pointer of the caller.
@@ -126,10 +126,10 @@ class Function:
             if rd != register or opcode in WRITES_NOTHING:
                 continue
             if opcode == LUI:
-                return signed(number + (word & 0xFFFFF000), 32)
+                return signed_number(number + (word & 0xFFFFF000), 32)
             if opcode != IMMEDIATE or word >> 12 & 7 != 0 or rs1 not in (0, register):
                 return None
-            number += signed(word >> 20, 12)
+            number += signed_number(word >> 20, 12)
             if rs1 == 0:
                 return number
         return None
@@ -138,7 +138,7 @@ class Function:
 class Stacks:
     """The stacks of all functions of a linked program, in an image whose tasks have so many bytes each."""
 
-    def __init__(self, assembled: Assembled, most: int) -> None:
+    def __init__(self, assembled: Assembly, most: int) -> None:
         self.assembled, self.most = assembled, most
         labels = sorted((label for label in assembled.labels
                          if label.is_function and label.size and label.section == ".text"),
@@ -223,7 +223,7 @@ def parts_text(way: Optional[Way]) -> str:
     return ", ".join(parts[:MOST_PARTS] + more)
 
 
-def check_stack(assembled: Assembled, image: Image) -> None:
+def check_stack(assembled: Assembly, image: Image) -> None:
     """Refuses a task of C that surely needs more stack than it has, and tells of what can't be counted."""
     stacks = Stacks(assembled, image.limits.stack)
     for task in assembled.tasks_of_c():
@@ -232,5 +232,5 @@ def check_stack(assembled: Assembled, image: Image) -> None:
         if entry and size > image.limits.stack:
             body = assembled.place(entry.calls[0][1])
             has = f"has {image.limits.stack:,}" if image.limits.stack else f"has none in version {image.version}"
-            raise Refused(f"{body + ': ' if body else ''}the task `{task.name}` needs {size:,} bytes of stack, "
+            raise Refusal(f"{body + ': ' if body else ''}the task `{task.name}` needs {size:,} bytes of stack, "
                           f"and {has}: {parts_text(way)}.")

@@ -7,8 +7,8 @@ import re
 from typing import Iterator, Mapping
 
 from yotarimu.common.data import Data
-from yotarimu.common.outcome import Refused
-from yotarimu.common.text import counted
+from yotarimu.common.outcome import Refusal
+from yotarimu.common.text import count_text
 from yotarimu.images.image import DATA, Image
 from yotarimu.images.listing import Listing
 
@@ -38,16 +38,16 @@ def piece_of(word: str, known: Mapping[str, tuple[int, int]], width: int) -> Pie
     """The piece that NAME, NAME[PLACE] or NAME[FROM..TO] asks for."""
     found = WORD.fullmatch(word)
     if not found:
-        raise Refused(f"`{word}` is no NAME, NAME[PLACE] or NAME[FROM..TO].")
+        raise Refusal(f"`{word}` is no NAME, NAME[PLACE] or NAME[FROM..TO].")
     name = found[1]
     if name not in known:
-        raise Refused(f"there is no variable `{name}` in the data{likely(name, known)}.")
+        raise Refusal(f"there is no variable `{name}` in the data{likely(name, known)}.")
     start, end = known[name]
     count = (end - start) // width
     first = int(found[2] or 0)
     last = int(found[3] or found[2] or count - 1)
     if not first <= last < count:
-        raise Refused(f"`{word}`: `{name}` has the places 0 to {count - 1}.")
+        raise Refusal(f"`{word}`: `{name}` has the places 0 to {count - 1}.")
     return Piece(name, start, first, last + 1, width)
 
 
@@ -57,10 +57,10 @@ def likely(name: str, known: Mapping[str, tuple[int, int]]) -> str:
     return f"; {' or '.join(near)} may be meant" if near else ""
 
 
-def told(piece: Piece, data: Data, is_hex: bool) -> Iterator[str]:
+def piece_lines(piece: Piece, data: Data, is_hex: bool) -> Iterator[str]:
     """The lines of a piece: the place of the first number of each, and the numbers."""
     address = DATA + piece.offset + piece.first * piece.width
-    numbers, width = counted(piece.end - piece.first, "number"), counted(piece.width, "byte")
+    numbers, width = count_text(piece.end - piece.first, "number"), count_text(piece.width, "byte")
     yield f"{piece.name}: {numbers} of {width} from {address:08x} on"
     step = OF_A_LINE[piece.width]
     for place in range(piece.first, piece.end, step):

@@ -19,7 +19,7 @@ from typing import Callable, Iterable, Iterator, Optional
 
 from yotarimu.images.image import DATA
 from yotarimu.images.listing import NO_LISTING, Listing
-from yotarimu.lines.replay import Access, Taken, Task, Told
+from yotarimu.lines.replay import Access, TakenTask, Task, ToldLine
 from yotarimu.lines.times import Time
 
 # A task's filter has so many bits for lines.
@@ -69,7 +69,7 @@ class Cause:
     """Why one task was taken back. `by` is the task behind it: the one that asked for the event, or the member of the
     set that this one goes with; None where no task asked. `sharing` is the widest of its whole way, `before` the cause
     of the member that it goes with, and `event` the word of the root."""
-    taken: Taken
+    taken: TakenTask
     kind: Kind
     by: Optional[Task]
     meeting: Optional[Meeting]
@@ -95,18 +95,18 @@ class Cause:
         return self.sharing is not Sharing.TRUE
 
 
-def root_word(told: Told) -> str:
+def root_word(told: ToldLine) -> str:
     """The word for the root of what an event took back."""
     return ROOTS[told.line.get("asks", told.line["do"])]
 
 
-def causes_of(told: Told, line_size: int) -> list[Cause]:
+def causes_of(told: ToldLine, line_size: int) -> list[Cause]:
     """The cause of each task that an event took back, the least task first."""
     found = Cascade(told, line_size)
     return [found.take(taken) for taken in sorted(told.taken, key=time_of)]
 
 
-def time_of(taken: Taken) -> Time:
+def time_of(taken: TakenTask) -> Time:
     return taken.time
 
 
@@ -114,12 +114,12 @@ class Cascade:
     """The causes found so far of one event. Members come in the order of their times, since each goes with a lesser
     one; of each byte, line and bit that members wrote the best store is kept."""
 
-    def __init__(self, told: Told, line_size: int) -> None:
+    def __init__(self, told: ToldLine, line_size: int) -> None:
         self.told, self.line_size, self.event = told, line_size, root_word(told)
         self.causes: dict[int, Cause] = {}
         self.written: tuple[dict[int, tuple[Cause, Access]], ...] = ({}, {}, {})
 
-    def take(self, taken: Taken) -> Cause:
+    def take(self, taken: TakenTask) -> Cause:
         """Finds the cause of the next member."""
         cause = min(self.ways(taken), key=lambda it: it.sharing)
         self.causes[id(taken.task)] = cause
@@ -128,16 +128,16 @@ class Cascade:
                 self.keep(cause, access)
         return cause
 
-    def ways(self, taken: Taken) -> list[Cause]:
+    def ways(self, taken: TakenTask) -> list[Cause]:
         """All that takes a member back, first of all what the event itself does."""
         ways = [way for way in (self.by_event(taken), self.by_creator(taken), self.by_touch(taken)) if way]
         # Of a filter of another kind no line tells which bits it has in common.
         kind = Kind.ACCESS if self.told.access else Kind.TOUCHED
         return ways or [Cause(taken, kind, self.told.task, None, Sharing.ALIAS, None, self.event)]
 
-    def by_event(self, taken: Taken) -> Optional[Cause]:
+    def by_event(self, taken: TakenTask) -> Optional[Cause]:
         if self.told.access is not None:
-            meeting = self.met(taken.accesses, self.told.access)
+            meeting = self.meeting_with(taken.accesses, self.told.access)
             by = self.told.task
             if meeting is None:
                 return None
@@ -149,25 +149,25 @@ class Cascade:
             return Cause(taken, Kind.ROOM, self.told.task, None, Sharing.TRUE, None, self.event)
         return Cause(taken, Kind.ABORT, None, None, Sharing.TRUE, None, self.event)
 
-    def met(self, accesses: Iterable[Access], other: Access) -> Optional[Meeting]:
+    def meeting_with(self, accesses: Iterable[Access], other: Access) -> Optional[Meeting]:
         """The access that shares the most with another one, the first of several. A load meets stores alone."""
         best: Optional[Meeting] = None
         for own in accesses:
             if own.is_store or other.is_store:
-                sharing = shared(own, other, self.line_size)
+                sharing = sharing_of(own, other, self.line_size)
                 if sharing is Sharing.TRUE:
                     return Meeting(own, other, sharing)
                 if sharing is not None and (best is None or sharing < best.sharing):
                     best = Meeting(own, other, sharing)
         return best
 
-    def by_creator(self, taken: Taken) -> Optional[Cause]:
+    def by_creator(self, taken: TakenTask) -> Optional[Cause]:
         before = self.causes.get(id(taken.task.creator)) if taken.is_gone else None
         if before is None:
             return None
         return Cause(taken, Kind.CHILD, before.task, None, before.sharing, before, self.event)
 
-    def by_touch(self, taken: Taken) -> Optional[Cause]:
+    def by_touch(self, taken: TakenTask) -> Optional[Cause]:
         """It touched what another member wrote: the way that shares the most, the first of several."""
         best: Optional[Cause] = None
         for own in taken.accesses:
@@ -200,7 +200,7 @@ def line_of(access: Access, line_size: int) -> int:
     return (access.address - DATA) // line_size
 
 
-def shared(one: Access, other: Access, line_size: int) -> Optional[Sharing]:
+def sharing_of(one: Access, other: Access, line_size: int) -> Optional[Sharing]:
     """What two accesses share; None where it isn't even a bit."""
     if one.address < other.address + other.bytes and other.address < one.address + one.bytes:
         return Sharing.TRUE
@@ -213,7 +213,7 @@ def shared(one: Access, other: Access, line_size: int) -> Optional[Sharing]:
 # ---- in words
 
 
-class Telling:
+class CauseSentences:
     """How causes are said: by the names of tasks, the labels and source lines of a listing, and the bytes of a line."""
 
     def __init__(self, named: Callable[[Task], str], line_size: int, listing: Listing = NO_LISTING) -> None:
@@ -234,7 +234,7 @@ class Telling:
     def meeting_told(self, cause: Cause, meeting: Meeting) -> str:
         own, other, sharing = meeting.own, meeting.other, meeting.sharing
         by = self.name_behind(cause)
-        place = "there" if sharing is Sharing.TRUE else f"at {self.listing.labelled(other.address)}"
+        place = "there" if sharing is Sharing.TRUE else f"at {self.listing.address_text(other.address)}"
         if cause.kind is Kind.ACCESS:
             did = f"{by} {'stores' if other.is_store else 'loads'} {place}{self.spot(other)}"
         else:
@@ -243,7 +243,7 @@ class Telling:
 
     def did(self, own: Access) -> str:
         """What a task did by an access of its own."""
-        label = self.listing.labelled(own.address)
+        label = self.listing.address_text(own.address)
         return (f"it stored {own.value} to {label}{self.spot(own)}" if own.is_store
                 else f"it loaded {own.old} from {label}{self.spot(own)}")
 
@@ -259,7 +259,7 @@ class Telling:
         """Where in the source an access stands, if that is known."""
         place = self.listing.place(access.pc)
         if place is None:
-            return f" at {self.listing.labelled(access.pc)}" if self.listing is not NO_LISTING else ""
+            return f" at {self.listing.address_text(access.pc)}" if self.listing is not NO_LISTING else ""
         where, _, text = place.partition(": ")
         return f" at {where} (`{text}`)" if text else f" at {where}"
 

@@ -4,12 +4,12 @@ from __future__ import annotations
 from collections.abc import Iterable, Iterator, Sequence
 from typing import Optional
 
-from yotarimu.common.text import counted, printable
+from yotarimu.common.text import count_text, printable
 from yotarimu.images.image import DATA
 from yotarimu.images.listing import Listing
 from yotarimu.lines.fields import Line
-from yotarimu.lines.replay import TRAPPED, Machine, Task, Told
-from yotarimu.lines.sentences import label_of, listed
+from yotarimu.lines.replay import TRAPPED, Machine, Task, ToldLine
+from yotarimu.lines.sentences import label_of, list_text
 
 # Of longer lists the rest is counted.
 MOST_TASKS, MOST_WORDS, MOST_ENTRIES = 16, 16, 8
@@ -19,7 +19,7 @@ WIDTH = 14
 class Display:
     """What stands behind an act: the machine, the act's line with what it did, the journal and the output so far."""
 
-    def __init__(self, machine: Machine, told: Optional[Told], entries: Sequence[str], output: bytes,
+    def __init__(self, machine: Machine, told: Optional[ToldLine], entries: Sequence[str], output: bytes,
                  listing: Listing) -> None:
         self.machine, self.told, self.entries, self.output, self.listing = machine, told, entries, output, listing
         self.back = {id(taken.task) for taken in told.taken} if told else set()
@@ -40,14 +40,14 @@ class Display:
             yield f"tile {tile}: no task"
             return
         yield f"tile {tile}"
-        yield titled("task queue", f"{len(queue)} of {head['task_queue']}")
+        yield title_line("task queue", f"{len(queue)} of {head['task_queue']}")
         yield from self.task_lines(queue)
         for core in range(head["cores"]):
-            yield titled(f"core {core}", self.core_told(tile, core))
+            yield title_line(f"core {core}", self.core_told(tile, core))
         finished = [self.machine.tasks[number] for number in self.machine.finished[tile]]
         labels = behind(label_of(task) for task in finished)
-        yield titled("commit queue", f"{len(finished)} of {head['commit_queue']}{labels}")
-        yield titled("block", f"{counted(len(block), 'task')}{behind(label_of(task) for task in block)}")
+        yield title_line("commit queue", f"{len(finished)} of {head['commit_queue']}{labels}")
+        yield title_line("block", f"{count_text(len(block), 'task')}{behind(label_of(task) for task in block)}")
 
     def task_lines(self, queue: Sequence[Task]) -> Iterator[str]:
         rows = [self.task_row(task) for task in queue[:MOST_TASKS]]
@@ -69,8 +69,8 @@ class Display:
         if number is None:
             return "free"
         task = self.machine.tasks[number]
-        last = f", stopped at {self.listing.labelled(task.pc)}" if task.work or task.state is TRAPPED else ""
-        return f"{label_of(task)} ({counted(task.work, 'instruction')}{last})"
+        last = f", stopped at {self.listing.address_text(task.pc)}" if task.work or task.state is TRAPPED else ""
+        return f"{label_of(task)} ({count_text(task.work, 'instruction')}{last})"
 
     # ---- what all tiles share
 
@@ -91,7 +91,7 @@ class Display:
 
     def journal_lines(self) -> Iterator[str]:
         if self.entries:
-            yield f"journal, {counted(len(self.entries), 'commit')}"
+            yield f"journal, {count_text(len(self.entries), 'commit')}"
             for entry in self.entries[-MOST_ENTRIES:]:
                 yield f"       {entry}"
         else:
@@ -100,12 +100,12 @@ class Display:
             yield f"output: {printable(self.output)}"
 
 
-def titled(title: str, text: str) -> str:
+def title_line(title: str, text: str) -> str:
     return f"  {title:<{WIDTH}}{text}"
 
 
 def behind(labels: Iterable[str]) -> str:
-    told = listed(list(labels))
+    told = list_text(list(labels))
     return f": {told}" if told else ""
 
 

@@ -39,7 +39,7 @@ Kind = Callable[[object], bool]
 Fields = tuple[tuple[str, Kind], ...]
 
 
-class Wrong(Exception):
+class WrongLine(Exception):
     """A line isn't what it has to be. Its text says why, without the place."""
 
 
@@ -158,7 +158,7 @@ def act_fields(line: Line) -> Fields:
     if word == "place":
         return PLACED
     if word not in PLACES:
-        raise Wrong("`do` names neither an event nor an act")
+        raise WrongLine("`do` names neither an event nor an act")
     return (("at", NUMBER), ("do", one_of(word)), *PLACES[word], *leg_fields(line),
             ("reply", one_of(*replies_of(line))), ("n", NUMBER), *change_fields(line))
 
@@ -176,7 +176,7 @@ def fields_of(line: Line) -> Fields:
         return VIEW
     if first == "fault":
         return FAULT
-    raise Wrong("it is no line that the second program tells")
+    raise WrongLine("it is no line that the second program tells")
 
 
 def need_fields(line: Line) -> None:
@@ -187,15 +187,15 @@ def need_fields(line: Line) -> None:
         name = field.removesuffix(MAYBE)
         if place < len(names) and names[place] == name:
             if not is_right(line[name]):
-                raise Wrong(f"`{name}` is `{shown(line[name])}`")
+                raise WrongLine(f"`{name}` is `{value_text(line[name])}`")
             place += 1
         elif name == field:
-            raise Wrong(f"`{name}` isn't where it has to stand")
+            raise WrongLine(f"`{name}` isn't where it has to stand")
     if place < len(names):
-        raise Wrong(f"`{names[place]}` stands where it mustn't")
+        raise WrongLine(f"`{names[place]}` stands where it mustn't")
 
 
-def shown(value: object) -> str:
+def value_text(value: object) -> str:
     """The beginning of a value, for a sentence."""
     text = value if isinstance(value, str) else json.dumps(value)
     return text if len(text) <= MOST_SHOWN else f"{text[:MOST_SHOWN]}.."
@@ -214,9 +214,9 @@ class Shapes:
         try:
             decoded, end = DECODER.raw_decode(text)
         except ValueError:
-            raise Wrong(f"`{shown(text)}` is no JSON") from None
+            raise WrongLine(f"`{value_text(text)}` is no JSON") from None
         except RecursionError:
-            raise Wrong("it is nested too deep") from None
+            raise WrongLine("it is nested too deep") from None
         skeleton = DIGITS.sub("0", text)
         if skeleton not in self.known or end != len(text):
             need_shape(text, decoded)
@@ -229,7 +229,7 @@ class Shapes:
 
 def need_shape(text: str, line: object) -> None:
     if not isinstance(line, dict):
-        raise Wrong("it is no object of JSON")
+        raise WrongLine("it is no object of JSON")
     need_fields(line)
     if json.dumps(line, separators=(",", ":")) != text:
-        raise Wrong("it is written otherwise than the second program writes it")
+        raise WrongLine("it is written otherwise than the second program writes it")

@@ -9,13 +9,13 @@ from typing import TYPE_CHECKING, Any
 
 from yotarimu.images import serial_machine
 from yotarimu.images.image import DATA, STACK, Image
-from yotarimu.images.serial_machine import Run, Trapped, signed
-from yotarimu.lines.fields import Wrong
+from yotarimu.images.serial_machine import Run, TaskTrap, signed_number
+from yotarimu.lines.fields import WrongLine
 from yotarimu.lines.times import Domain
 from yotarimu.reports.report import Name
 
 if TYPE_CHECKING:
-    from yotarimu.lines.replay import Task, Told
+    from yotarimu.lines.replay import Task, ToldLine
 
 CHILDREN = {1: "same", 2: "sub", 3: "super"}
 FETCH, BUDGET = 1, 17
@@ -73,16 +73,16 @@ class Core(Run):
         try:
             while count < quantum:
                 if count == left:
-                    raise Trapped(BUDGET)
+                    raise TaskTrap(BUDGET)
                 word = word_at(self.pc)
                 if word is None or self.pc & 3:
-                    raise Trapped(FETCH)
+                    raise TaskTrap(FETCH)
                 step(word)
                 passed.add(self.pc)
                 count += 1
         except Stops as stops:
             asked = stops.fields
-        except Trapped as trapped:
+        except TaskTrap as trapped:
             asked = {"asks": "trap", "cause": trapped.cause}
         self.used, self.passed = self.used + count, passed
         return {"leg": count, "pc": self.pc, **asked}
@@ -103,7 +103,7 @@ class Core(Run):
         width = 1 << (kind & 3)
         if not self.is_granted:
             raise Stops(asks="load", addr=address, bytes=width)
-        return self.found if kind & 4 else signed(self.found, 8 * width)
+        return self.found if kind & 4 else signed_number(self.found, 8 * width)
 
     def store(self, width: int, address: int, value: int) -> None:
         super().store(width, address, value)
@@ -142,9 +142,9 @@ class Legs:
                "data": image.size, "window": [image.window_offset, image.window_words], "tasks": len(image.tasks)}
         for name, value in own.items():
             if head[name] != value:
-                raise Wrong(f"`{name}` is {head[name]}, and of the image it is {value}")
+                raise WrongLine(f"`{name}` is {head[name]}, and of the image it is {value}")
 
-    def note(self, told: Told) -> None:
+    def note(self, told: ToldLine) -> None:
         """Takes a line, once the machine has done what it tells."""
         line = told.line
         if line.get("do") == "place":
@@ -159,11 +159,11 @@ class Legs:
     def need_initial(self, line: dict[str, Any]) -> None:
         place = line["name"][1]
         if place >= len(self.image.tasks):
-            raise Wrong(f"the image has no task {place}")
+            raise WrongLine(f"the image has no task {place}")
         task = self.image.tasks[place]
         timestamp = task.timestamp if self.image.is_ordered else 0
         if [line["entry"], line["ts"], line["args"]] != [task.entry, timestamp, list(task.arguments)]:
-            raise Wrong(f"the image's task {place} is another one")
+            raise WrongLine(f"the image's task {place} is another one")
 
     def need_leg(self, task: Task, line: dict[str, Any]) -> None:
         core = self.cores.get(task)
@@ -175,8 +175,8 @@ class Legs:
         told = {name: line[name] for name in FIELDS if name in line}
         if told != wanted:
             name = next(it for it in FIELDS if told.get(it) != wanted.get(it))
-            raise Wrong(f"`{name}` is {told.get(name, 'missing')}, and by the image's text it is "
-                        f"{wanted.get(name, 'missing')}")
+            raise WrongLine(f"`{name}` is {told.get(name, 'missing')}, and by the image's text it is "
+                            f"{wanted.get(name, 'missing')}")
         if before is not None:
             core.pc, core.registers, core.stack[:], core.used = before
         elif line["asks"] not in ("go", "trap"):

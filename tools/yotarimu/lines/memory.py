@@ -4,7 +4,7 @@ from __future__ import annotations
 from collections.abc import Iterable, Iterator
 from typing import TYPE_CHECKING, Optional
 
-from yotarimu.lines.fields import Wrong
+from yotarimu.lines.fields import WrongLine
 
 if TYPE_CHECKING:
     from yotarimu.lines.replay import Access
@@ -35,20 +35,20 @@ class Memory:
         place = address - DATA_START
         return self.data[place] if 0 <= place < len(self.data) and self.touched[place] else None
 
-    def known(self, place: int) -> Optional[int]:
+    def known_byte(self, place: int) -> Optional[int]:
         return self.data[place] if self.is_image_known or self.touched[place] else None
 
     def meet(self, address: int, count: int, old: int) -> None:
         """Takes what stood at an address before an access; Wrong where something else stood there."""
         if old >> 8 * count:
-            raise Wrong(f"{old} are more than {count} bytes")
+            raise WrongLine(f"{old} are more than {count} bytes")
         place = address - DATA_START
         told = old.to_bytes(count, "little")
         if self.data[place:place + count] != told:
             for more, byte in enumerate(told, place):
-                known = self.known(more)
+                known = self.known_byte(more)
                 if known not in (None, byte):
-                    raise Wrong(f"at {DATA_START + more:08x} it finds the byte {byte}, and {known} stands there")
+                    raise WrongLine(f"at {DATA_START + more:08x} it finds the byte {byte}, and {known} stands there")
             self.data[place:place + count] = told
         self.touched[place:place + count] = TOUCHED * count
 
@@ -83,10 +83,10 @@ class Memory:
         """Holds the words of a window, which begins so far in the data, against the bytes that are known."""
         for number, word in enumerate(words):
             for place in range(4):
-                known = self.known(offset + 4 * number + place)
+                known = self.known_byte(offset + 4 * number + place)
                 if known not in (None, word >> 8 * place & 0xFF):
-                    raise Wrong(f"word {number} of the window is {word}, and at "
-                                f"{DATA_START + offset + 4 * number + place:08x} the byte {known} stands")
+                    raise WrongLine(f"word {number} of the window is {word}, and at "
+                                    f"{DATA_START + offset + 4 * number + place:08x} the byte {known} stands")
 
 
 def event_of(access: Access) -> int:

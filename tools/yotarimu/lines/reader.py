@@ -1,9 +1,9 @@
 """A run that the second program told, read line by line, while the machine of the lines follows.
 
-`open_watched` opens a text, and `Watched` reads it. Each turn of its loop is a line behind the head, after the machine
+`open_lines` opens a text, and a `Reader` reads it. Each turn of its loop is a line behind the head, after the machine
 has done what it tells:
 
-    with open_watched("lines") as watched:
+    with open_lines("lines") as watched:
         for told in watched:
             told.number, told.line           # the line's number in the text, and its fields by name
             told.task, told.taken, ...       # what it did, as objects
@@ -19,11 +19,11 @@ import sys
 from typing import IO, Iterator, Optional
 
 from yotarimu.common.files import MOST_READ, FilePath
-from yotarimu.common.outcome import Refused
+from yotarimu.common.outcome import Refusal
 from yotarimu.courses.schedules import MOST_CORES, MOST_TILES
 from yotarimu.images.image import Image
-from yotarimu.lines.fields import Line, Shapes, Wrong
-from yotarimu.lines.replay import Machine, Told
+from yotarimu.lines.fields import Line, Shapes, WrongLine
+from yotarimu.lines.replay import Machine, ToldLine
 
 # The values that the numbers of a head may have: docs/guest/FORMATS.md.
 RANGES = {
@@ -37,7 +37,7 @@ RANGES = {
 MOST_WINDOW = 4_096
 
 
-class Watched:
+class Reader:
     """A text that is read, line by line. `is_cut_allowed` says whether it may break off before its end."""
 
     def __init__(self, file: IO[bytes], name: FilePath, is_cut_allowed: bool = False,
@@ -53,36 +53,36 @@ class Watched:
     def read_head(self) -> Line:
         text = self.next_text()
         if text is None:
-            raise Refused(f"{self.name}: it has no whole line, so it isn't what the second program tells.")
+            raise Refusal(f"{self.name}: it has no whole line, so it isn't what the second program tells.")
         with self.place_told():
             head = self.shapes.line_of(text)
             need_head(head)
         return head
 
-    def __iter__(self) -> Iterator[Told]:
+    def __iter__(self) -> Iterator[ToldLine]:
         follow, line_of = self.machine.follow, self.shapes.line_of
         with self.place_told():
             while (text := self.next_text()) is not None:
-                told = Told(self.number, line_of(text))
+                told = ToldLine(self.number, line_of(text))
                 if self.end is not None:
-                    raise Wrong("nothing may follow on the end")
+                    raise WrongLine("nothing may follow on the end")
                 if "end" in told.line:
                     self.machine.close(told.line)
                     self.end = told.line
                     continue
                 if "at" not in told.line and "view" not in told.line:
-                    raise Wrong("this line may only stand alone or first")
+                    raise WrongLine("this line may only stand alone or first")
                 follow(told)
                 yield told
         if self.end is None and not self.is_cut_allowed:
-            raise Refused(f"{self.name}: it has no end: it was cut behind line {self.number}.")
+            raise Refusal(f"{self.name}: it has no end: it was cut behind line {self.number}.")
 
     def next_text(self) -> Optional[str]:
         """The next line without its newline; None where there is no whole line any more."""
         data = self.file.readline(MOST_READ)
         if not data.endswith(b"\n"):
             if data and not self.is_cut_allowed:
-                raise Refused(f"{self.name}:{self.number + 1}: this line isn't whole: no newline ends it.")
+                raise Refusal(f"{self.name}:{self.number + 1}: this line isn't whole: no newline ends it.")
             return None
         self.number += 1
         return data[:-1].decode("ascii", "replace")
@@ -92,34 +92,34 @@ class Watched:
         """Tells what is wrong with the line that was read last, with its number."""
         try:
             yield
-        except Wrong as wrong:
-            raise Refused(f"{self.name}:{self.number}: {wrong}.") from None
+        except WrongLine as wrong:
+            raise Refusal(f"{self.name}:{self.number}: {wrong}.") from None
 
 
 def need_head(head: Line) -> None:
     """Refuses a first line that is no head, or is that of no machine."""
     if "fault" in head:
         told = " ".join(str(value) for value in head.values())
-        raise Wrong(f"the program told no run, but a fault: {told}")
+        raise WrongLine(f"the program told no run, but a fault: {told}")
     if "watch" not in head:
-        raise Wrong("the first line isn't the head of what the second program tells")
+        raise WrongLine("the first line isn't the head of what the second program tells")
     if head["watch"] != 1:
-        raise Wrong(f"these are lines of version {head['watch']}, and 1 is known")
+        raise WrongLine(f"these are lines of version {head['watch']}, and 1 is known")
     odd = next((name for name, values in RANGES.items() if name in head and head[name] not in values), None)
     if odd is not None:
-        raise Wrong(f"no machine has {head[odd]} as `{odd}`")
+        raise WrongLine(f"no machine has {head[odd]} as `{odd}`")
     offset, words = head["window"]
     if offset % 4 or words > MOST_WINDOW or offset + 4 * words > head["data"]:
-        raise Wrong(f"the data has no window of {words} words from {offset} on")
+        raise WrongLine(f"the data has no window of {words} words from {offset} on")
 
 
 @contextlib.contextmanager
-def open_watched(path: FilePath, is_cut_allowed: bool = False, image: Optional[Image] = None) -> Iterator[Watched]:
+def open_lines(path: FilePath, is_cut_allowed: bool = False, image: Optional[Image] = None) -> Iterator[Reader]:
     """Opens a text that the second program told; `-` is standard input."""
     if str(path) != "-":
         with open(path, "rb") as file:
-            yield Watched(file, path, is_cut_allowed, image)
+            yield Reader(file, path, is_cut_allowed, image)
         return
     if sys.stdin is None:
-        raise Refused("standard input is closed.")
-    yield Watched(sys.stdin.buffer, path, is_cut_allowed, image)
+        raise Refusal("standard input is closed.")
+    yield Reader(sys.stdin.buffer, path, is_cut_allowed, image)

@@ -14,7 +14,7 @@ from typing import Callable, Iterator, NamedTuple, Optional
 
 from yotarimu.images.image import Image
 from yotarimu.lines.dispatch_numbers import DispatchNumbers
-from yotarimu.lines.fields import EVENTS, Line, Wrong
+from yotarimu.lines.fields import EVENTS, Line, WrongLine
 from yotarimu.lines.legs import Legs
 from yotarimu.lines.memory import DATA_START, Memory
 from yotarimu.lines.rounds import Rounds
@@ -81,9 +81,9 @@ class Task:
     def domain_of_child(self, to: str) -> Domain:
         """The domain of a child: its own, its subdomain or its superdomain."""
         if to == "sub" and self.subdomain is None:
-            raise Wrong("it makes a child for a subdomain that isn't there")
+            raise WrongLine("it makes a child for a subdomain that isn't there")
         if to == "super" and self.depth == 1:
-            raise Wrong("it makes a child for a superdomain that isn't there")
+            raise WrongLine("it makes a child for a superdomain that isn't there")
         if to == "sub":
             return self.domain.inner(self.time(), self.subdomain == ORDERED)
         return self.domain.outer() if to == "super" else self.domain
@@ -108,7 +108,7 @@ class Task:
         return f"child {self.index} of a task without a name"
 
 
-class Taken(NamedTuple):
+class TakenTask(NamedTuple):
     """A task that was taken back, and what it had done and been before that."""
     task: Task
     time: Time
@@ -120,7 +120,7 @@ class Taken(NamedTuple):
     is_gone: bool
 
 
-class Told:
+class ToldLine:
     """A line behind the head, and what it did: the task that it is about, those that were taken back, those of them
     that are gone, those that were spilled, the one that came, and the one that committed."""
 
@@ -132,7 +132,7 @@ class Told:
         self.arrived: Optional[Task] = None
         self.committed: Optional[Task] = None
         self.access: Optional[Access] = None
-        self.taken: Sequence[Taken] = ()
+        self.taken: Sequence[TakenTask] = ()
         self.gone: Sequence[Task] = ()
         self.spilled: Sequence[Task] = ()
 
@@ -174,11 +174,11 @@ class Machine:
     def arrive(self, task: Task, number: int) -> None:
         """A task comes last into the task queue of its tile, with an id."""
         if number in self.tasks:
-            raise Wrong(f"id {number} is that of a task which is still there")
+            raise WrongLine(f"id {number} is that of a task which is still there")
         need_below(task.tile, self.head["tiles"], "a tile")
         queue = self.queues[task.tile]
         if len(queue) >= self.head["task_queue"]:
-            raise Wrong(f"the task queue of tile {task.tile} is full")
+            raise WrongLine(f"the task queue of tile {task.tile} is full")
         self.tasks[number] = task
         queue.append(number)
         self.queued += 1
@@ -205,7 +205,7 @@ class Machine:
     def task_at(self, number: int) -> Task:
         task = self.tasks.get(number)
         if task is None:
-            raise Wrong(f"no task has the id {number}")
+            raise WrongLine(f"no task has the id {number}")
         return task
 
     def need_tile(self, line: Line) -> int:
@@ -215,7 +215,7 @@ class Machine:
 
     # Lines.
 
-    def follow(self, told: Told) -> None:
+    def follow(self, told: ToldLine) -> None:
         """Does what a line tells."""
         line = told.line
         if "view" in line:
@@ -227,12 +227,12 @@ class Machine:
         if self.legs is not None:
             self.legs.note(told)
 
-    def place(self, told: Told, line: Line) -> None:
+    def place(self, told: ToldLine, line: Line) -> None:
         """A task of the image stands in a queue, or in a block."""
         if self.acts or line["at"] or line["name"][0] or self.placed == self.head["tasks"]:
-            raise Wrong("no task of the image is placed here")
+            raise WrongLine("no task of the image is placed here")
         if line["hint"] != line["name"][1]:
-            raise Wrong("the hint of an image's task is its place in the image")
+            raise WrongLine("the hint of an image's task is its place in the image")
         tile = self.need_tile(line)
         task = told.arrived = Task(line, None, line["name"][1], self.root)
         self.placed += 1
@@ -241,11 +241,11 @@ class Machine:
         else:
             self.arrive(task, task.id)
 
-    def act(self, told: Told, line: Line) -> None:
+    def act(self, told: ToldLine, line: Line) -> None:
         self.count_act(line)
         told.is_made = line["reply"] == "ok" and line["do"] in EVENTS
         if line["n"] != self.events + told.is_made:
-            raise Wrong(f"it tells {line['n']} events, and {self.events + told.is_made} were made")
+            raise WrongLine(f"it tells {line['n']} events, and {self.events + told.is_made} were made")
         if "tile" in line:
             self.need_tile(line)
         if "core" in line:
@@ -253,14 +253,14 @@ class Machine:
         if "task" in line:
             told.task = self.task_at(line["task"])
         if line["do"] == "take" and line["reply"] == "ok" and self.cores[line["tile"]][line["core"]] is None:
-            raise Wrong(f"core {line['core']} of tile {line['tile']} holds no task")
+            raise WrongLine(f"core {line['core']} of tile {line['tile']} holds no task")
         if "leg" in line:
             if told.task is None:
-                raise Wrong("no task is told that takes this leg")
+                raise WrongLine("no task is told that takes this leg")
             self.need_leg(told.task, line)
         reasons = REFUSALS.get(line["do"], {})
         if line["reply"] in reasons and not reasons[line["reply"]](self, line["tile"]):
-            raise Wrong(f"the tile has no reason to answer `{line['reply']}`")
+            raise WrongLine(f"the tile has no reason to answer `{line['reply']}`")
         if told.is_made:
             self.events += 1
             self.force(told, line)
@@ -272,10 +272,10 @@ class Machine:
         """A leg of a whole quantum goes on, whatever stands next, and no other does. None goes beyond the budget."""
         leg, asks = line["leg"], line["asks"]
         if leg > self.head["quantum"] or (leg == self.head["quantum"]) != (asks == "go"):
-            raise Wrong(f"a leg of {leg} instructions doesn't stop so, as a quantum has {self.head['quantum']}")
+            raise WrongLine(f"a leg of {leg} instructions doesn't stop so, as a quantum has {self.head['quantum']}")
         left = self.head["budget"] - task.work - leg
         if left < (asks not in NOT_EXECUTED) or asks == "trap" and (line["cause"] == OVER_BUDGET) != (left == 0):
-            raise Wrong(f"of {self.head['budget']} instructions that a task may execute {left} would be left")
+            raise WrongLine(f"of {self.head['budget']} instructions that a task may execute {left} would be left")
 
     def has_no_idle(self, tile: int) -> bool:
         return all(self.tasks[number].state is not IDLE for number in self.queues[tile])
@@ -291,29 +291,29 @@ class Machine:
 
     def count_act(self, line: Line) -> None:
         if self.placed < self.head["tasks"]:
-            raise Wrong(f"{self.placed} of {self.head['tasks']} tasks of the image are placed before the first act")
+            raise WrongLine(f"{self.placed} of {self.head['tasks']} tasks of the image are placed before the first act")
         is_next = line["at"] == self.acts + 1 if self.rounds is None else line["at"] > self.acts
         if not is_next:
-            raise Wrong(f"act {line['at']} can't follow on act {self.acts}")
+            raise WrongLine(f"act {line['at']} can't follow on act {self.acts}")
         if self.rounds is not None:
             self.rounds.need(line)
         self.acts = line["at"]
 
-    def force(self, told: Told, line: Line) -> None:
+    def force(self, told: ToldLine, line: Line) -> None:
         """What an event forces: tasks are taken back, some of them leave, and tasks are spilled."""
         if "back" in line:
             self.take_back(told, line)
         elif "gone" in line or "aborted" in line:
-            raise Wrong("it takes tasks back and doesn't say which")
+            raise WrongLine("it takes tasks back and doesn't say which")
         if "spilled" in line:
             told.spilled = [self.spill_by_name(*row) for row in line["spilled"]]
 
-    def take_back(self, told: Told, line: Line) -> None:
+    def take_back(self, told: ToldLine, line: Line) -> None:
         if line.get("asks", line["do"]) not in TAKING_BACK:
-            raise Wrong("such an act takes no task back")
+            raise WrongLine("such an act takes no task back")
         gone, back = set(line.get("gone", ())), {row[0] for row in line["back"]}
         if line.get("aborted") != len(line["back"]) or len(back) < len(line["back"]) or not gone <= back:
-            raise Wrong("how many tasks it takes back, and which, don't go together")
+            raise WrongLine("how many tasks it takes back, and which, don't go together")
         told.taken = [self.taken_of(number, work, number in gone) for number, work in line["back"]]
         self.memory.undo(access for taken in told.taken for access in taken.accesses)
         for taken in told.taken:
@@ -325,17 +325,17 @@ class Machine:
             self.traps.pop(taken.task, None)
         told.gone = [taken.task for taken in told.taken if taken.is_gone]
 
-    def taken_of(self, number: int, work: int, is_gone: bool) -> Taken:
+    def taken_of(self, number: int, work: int, is_gone: bool) -> TakenTask:
         task = self.task_at(number)
         if task.work != work:
-            raise Wrong(f"task {number} executed {task.work} instructions, and not {work}")
-        return Taken(task, task.time(), task.work, task.accesses, task.children, task.state, task.core, is_gone)
+            raise WrongLine(f"task {number} executed {task.work} instructions, and not {work}")
+        return TakenTask(task, task.time(), task.work, task.accesses, task.children, task.state, task.core, is_gone)
 
     def spill_by_name(self, number: int, creator: int, index: int) -> Task:
         task = self.task_at(number)
         is_heirs = task.name is None and creator == self.commits + 1
         if task.state is not IDLE or not (task.name == (creator, index) or is_heirs and task.index == index):
-            raise Wrong(f"task {number} can't be spilled as {creator}.{index}")
+            raise WrongLine(f"task {number} can't be spilled as {creator}.{index}")
         self.leave(task, SPILLED)
         task.id = None
         self.spill(task, task.tile, (creator, index))
@@ -345,49 +345,49 @@ class Machine:
         """A task stands in a block, by its name."""
         task.name = name
         if name in self.blocks[tile]:
-            raise Wrong(f"task {task.told_name()} is in that block already")
+            raise WrongLine(f"task {task.told_name()} is in that block already")
         task.state = SPILLED
         self.blocks[tile][name] = task
         self.spilled += 1
 
     # Events, behind what they force.
 
-    def dispatch(self, told: Told, line: Line) -> None:
+    def dispatch(self, told: ToldLine, line: Line) -> None:
         task, core = told.task, line["core"]
         if task is None or task.state is not IDLE or task.tile != line["tile"]:
-            raise Wrong("it dispatches no idle task of its tile")
+            raise WrongLine("it dispatches no idle task of its tile")
         need_below(core, self.head["cores"], "a core")
         if self.cores[task.tile][core] is not None:
-            raise Wrong(f"core {core} of tile {task.tile} holds a task")
+            raise WrongLine(f"core {core} of tile {task.tile} holds a task")
         number = self.numbers.give(self.all_tasks())
         if line["number"] != number:
-            raise Wrong(f"it gives the dispatch number {line['number']}, and {number} is the next")
+            raise WrongLine(f"it gives the dispatch number {line['number']}, and {number} is the next")
         task.state, task.core, task.number = RUNNING, core, number
         self.dispatches += 1
         task.dispatch = self.dispatches
         self.cores[task.tile][core] = task.id
         self.running += 1
 
-    def step(self, told: Told, line: Line) -> None:
+    def step(self, told: ToldLine, line: Line) -> None:
         task, asks = told.task, line.get("asks")
         if asks is None or task is None or task.state is not RUNNING:
-            raise Wrong("no task runs that takes this leg")
+            raise WrongLine("no task runs that takes this leg")
         if (task.tile, task.core) != (line["tile"], line["core"]):
-            raise Wrong(f"task {task.id} runs on another core")
+            raise WrongLine(f"task {task.id} runs on another core")
         task.pc = line["pc"]
         task.work += line["leg"] + (asks not in NOT_EXECUTED)
         task.steps += 1
         if asks in REQUESTS:
             REQUESTS[asks](self, told, task, line)
 
-    def load_or_store(self, told: Told, task: Task, line: Line) -> None:
+    def load_or_store(self, told: ToldLine, task: Task, line: Line) -> None:
         """An access. A load makes the bytes known that stand there, a store those that it leaves."""
         is_store = line["asks"] == "store"
         address, count, old = line["addr"], line["bytes"], line["old"]
         if count not in (1, 2, 4) or not 0 <= address - DATA_START <= self.head["data"] - count:
-            raise Wrong(f"the data has no {count} bytes at {address}")
+            raise WrongLine(f"the data has no {count} bytes at {address}")
         if address % count:
-            raise Wrong(f"{address} is no multiple of {count}")
+            raise WrongLine(f"{address} is no multiple of {count}")
         self.memory.meet(address, count, old)
         value = line["value"] & (1 << 8 * count) - 1 if is_store else old
         told.access = Access(is_store, address, count, old, value, task.work - 1, self.events, line["pc"],
@@ -396,50 +396,51 @@ class Machine:
         if is_store:
             self.memory.write(address, count, value)
 
-    def enqueue(self, told: Told, task: Task, line: Line) -> None:
+    def enqueue(self, told: ToldLine, task: Task, line: Line) -> None:
         child = told.arrived = Task(line, task, len(task.children), task.domain_of_child(line["to"]))
         self.arrive(child, line["new"])
         task.children.append(child)
 
-    def make_subdomain(self, _told: Told, task: Task, line: Line) -> None:
+    def make_subdomain(self, _told: ToldLine, task: Task, line: Line) -> None:
         if task.subdomain is not None:
-            raise Wrong(f"task {task.id} has a subdomain already")
+            raise WrongLine(f"task {task.id} has a subdomain already")
         task.subdomain = line["asks"]
 
-    def emit(self, _told: Told, task: Task, line: Line) -> None:
+    def emit(self, _told: ToldLine, task: Task, line: Line) -> None:
         if line["byte"] > 0xFF:
-            raise Wrong(f"{line['byte']} is no byte")
+            raise WrongLine(f"{line['byte']} is no byte")
         task.emitted.append(line["byte"])
 
-    def finish(self, _told: Told, task: Task, _line: Line) -> None:
+    def finish(self, _told: ToldLine, task: Task, _line: Line) -> None:
         self.put_off(task)
         if len(self.finished[task.tile]) == self.head["commit_queue"]:
-            raise Wrong(f"the commit queue of tile {task.tile} is full")
+            raise WrongLine(f"the commit queue of tile {task.tile} is full")
         task.state = FINISHED
         self.finished[task.tile].append(id_of(task))
         self.waiting += 1
 
-    def trap(self, _told: Told, task: Task, line: Line) -> None:
+    def trap(self, _told: ToldLine, task: Task, line: Line) -> None:
         task.state = TRAPPED
         self.traps[task] = line["cause"]
 
-    def split(self, told: Told, line: Line) -> None:
+    def split(self, told: ToldLine, line: Line) -> None:
         task = told.arrived = self.blocks[line["tile"]].pop((line["name"][0], line["name"][1]), None)
         if task is None or line["in"] != line["tile"]:
-            raise Wrong(f"no such task is in the block of tile {line['tile']}")
+            raise WrongLine(f"no such task is in the block of tile {line['tile']}")
         self.spilled -= 1
         task.id, task.state = line["new"], IDLE
         self.arrive(task, line["new"])
 
-    def commit(self, told: Told, line: Line) -> None:
+    def commit(self, told: ToldLine, line: Line) -> None:
         task = told.committed = told.task
         if task is None or task.state is not FINISHED:
-            raise Wrong("it commits no finished task")
+            raise WrongLine("it commits no finished task")
         if (task.name, task.depth, task.timestamp) != (tuple(line["name"]), line["depth"], line["ts"]):
-            raise Wrong(f"the task that commits is {task.told_name()}, and another name, depth or timestamp is told")
+            raise WrongLine(f"the task that commits is {task.told_name()}, and another name, depth or timestamp is "
+                            "told")
         output = line.get("output", "")
         if output != bytes(task.emitted).hex():
-            raise Wrong("the task that commits has emitted other bytes")
+            raise WrongLine("the task that commits has emitted other bytes")
         self.output.update(output.encode())
         self.leave(task, COMMITTED)
         self.numbers.path = task.time()
@@ -447,11 +448,11 @@ class Machine:
         for child in task.children:
             child.name, child.creator = (self.commits, child.index), None
 
-    def abort(self, told: Told, _line: Line) -> None:
+    def abort(self, told: ToldLine, _line: Line) -> None:
         if told.task is None:
-            raise Wrong("it takes no task back")
+            raise WrongLine("it takes no task back")
 
-    def nothing_more(self, _told: Told, _line: Line) -> None:
+    def nothing_more(self, _told: ToldLine, _line: Line) -> None:
         """An event that is whole with what it forces."""
 
     # The whole.
@@ -459,26 +460,26 @@ class Machine:
     def compare(self, line: Line) -> None:
         """Holds a view against the machine."""
         if line["next"] != self.numbers.next:
-            raise Wrong(f"the next dispatch number is {self.numbers.next}, and {line['next']} is told")
+            raise WrongLine(f"the next dispatch number is {self.numbers.next}, and {line['next']} is told")
         if line["view"] != self.events or len(line["tiles"]) != self.head["tiles"]:
-            raise Wrong("the view isn't that of the machine which the lines before it leave")
+            raise WrongLine("the view isn't that of the machine which the lines before it leave")
         for tile, told in enumerate(line["tiles"]):
             tasks = [self.tasks[number] for number in self.queues[tile]]
             rows = [[task.id, task.state, task.timestamp, task.number] for task in tasks]
             whole = told["queue"], told["cores"], told["finished"], told["block"]
             if whole != (rows, self.cores[tile], self.finished[tile], len(self.blocks[tile])):
-                raise Wrong(f"in tile {tile} the view isn't what the lines before it leave")
+                raise WrongLine(f"in tile {tile} the view isn't what the lines before it leave")
 
     def close(self, line: Line) -> None:
         """Holds the last line against the machine."""
         self.need_end(line)
         if (line["n"], line["journal"]) != (self.events, self.commits):
-            raise Wrong(f"it tells {line['n']} events and {line['journal']} commits, and {self.events} and "
-                        f"{self.commits} were told before it")
+            raise WrongLine(f"it tells {line['n']} events and {line['journal']} commits, and {self.events} and "
+                            f"{self.commits} were told before it")
         if hashlib.sha256(line["output"].encode()).digest() != self.output.digest():
-            raise Wrong("the output isn't that of the tasks which committed")
+            raise WrongLine("the output isn't that of the tasks which committed")
         if len(line["window"]) != self.head["window"][1]:
-            raise Wrong(f"the window has {self.head['window'][1]} words, and {len(line['window'])} are told")
+            raise WrongLine(f"the window has {self.head['window'][1]} words, and {len(line['window'])} are told")
         # What is left is taken back before the window is told.
         stores = [access for task in self.tasks.values() for access in task.accesses if access.is_store]
         memory = self.memory.copy() if stores else self.memory
@@ -489,24 +490,24 @@ class Machine:
         """Holds how a run ended against what is left."""
         end, left = line["end"], len(self.tasks) + self.spilled
         if (end == "normal") != (left == 0):
-            raise Wrong(f"the end is {end}, and {left} tasks are left")
+            raise WrongLine(f"the end is {end}, and {left} tasks are left")
         if left and (end == "limit") != (self.commits == self.head["commits"]):
-            raise Wrong(f"the end is {end}, and {self.commits} of {self.head['commits']} tasks have committed")
+            raise WrongLine(f"the end is {end}, and {self.commits} of {self.head['commits']} tasks have committed")
         if end == "trap":
             found = [list(task.name or ()) for task, cause in self.traps.items()
                      if (cause, task.pc) == (line["cause"], line["pc"])]
             if line["name"] not in found:
-                raise Wrong("no task has trapped so")
+                raise WrongLine("no task has trapped so")
 
 
 # Whether a tile may refuse so, by the event and the reply.
 REFUSALS: dict[str, dict[str, Callable[[Machine, int], bool]]] = {
     "dispatch": {"empty": Machine.has_no_idle, "busy": Machine.has_no_core},
     "split": {"empty": Machine.has_no_block, "stall": Machine.has_no_room}}
-MADE: dict[str, Callable[[Machine, Told, Line], None]] = {
+MADE: dict[str, Callable[[Machine, ToldLine, Line], None]] = {
     "dispatch": Machine.dispatch, "step": Machine.step, "abort": Machine.abort, "commit": Machine.commit,
     "coalesce": Machine.nothing_more, "split": Machine.split}
-REQUESTS: dict[str, Callable[[Machine, Told, Task, Line], None]] = {
+REQUESTS: dict[str, Callable[[Machine, ToldLine, Task, Line], None]] = {
     "load": Machine.load_or_store, "store": Machine.load_or_store, "enqueue": Machine.enqueue,
     "ordered": Machine.make_subdomain, "unordered": Machine.make_subdomain, "emit": Machine.emit,
     "end": Machine.finish, "trap": Machine.trap}
@@ -514,11 +515,11 @@ REQUESTS: dict[str, Callable[[Machine, Told, Task, Line], None]] = {
 
 def need_below(number: int, count: int, what: str) -> None:
     if number >= count:
-        raise Wrong(f"{number} is {what} that the machine hasn't")
+        raise WrongLine(f"{number} is {what} that the machine hasn't")
 
 
 def id_of(task: Task) -> int:
     """The id of a task that stands in a queue."""
     if task.id is None:
-        raise Wrong("a task of a block is in no queue")
+        raise WrongLine("a task of a block is in no queue")
     return task.id

@@ -4,7 +4,7 @@ from __future__ import annotations
 from typing import Any, Dict
 
 from yotarimu.courses.schedules import Act, Shuffle, round_of
-from yotarimu.lines.fields import Wrong
+from yotarimu.lines.fields import WrongLine
 
 # What brings the least task on, by how that stands.
 BRINGS_ON = ("dispatch", "step", "commit", "split")
@@ -17,7 +17,7 @@ class Rounds:
 
     def __init__(self, head: Dict[str, Any]) -> None:
         self.count, self.most, self.shuffle = head["rounds"], head["barren"], Shuffle(head["seed"])
-        self.acts = self.shuffle.shuffled(round_of(head["tiles"], head["cores"]))
+        self.acts = self.shuffle.shuffle(round_of(head["tiles"], head["cores"]))
         # How many rounds came before the one that goes on or comes next, and the number of the act that it begins with.
         self.number, self.first = 0, 1
         # How many tasks had committed where it began, and how many have by now.
@@ -42,7 +42,7 @@ class Rounds:
         self.barren = self.barren + 1 if self.commits == self.begun else 0
         self.longest = max(self.longest, self.barren)
         self.number, self.first, self.begun = self.number + 1, self.first + len(self.acts), self.commits
-        self.acts = self.shuffle.shuffled(self.acts)
+        self.acts = self.shuffle.shuffle(self.acts)
         if self.barren == self.most:
             self.barren, self.is_brought_on = 0, True
 
@@ -53,15 +53,15 @@ class Rounds:
 
     def need_act(self, line: Dict[str, Any]) -> None:
         if self.number >= self.count:
-            raise Wrong(f"act {line['at']} is of no round, as there are {self.count}")
+            raise WrongLine(f"act {line['at']} is of no round, as there are {self.count}")
         act: Act = self.acts[line["at"] - self.first]
         if (line["do"], line.get("tile"), line.get("core") if act.core is not None else None) != (
                 act.word, act.tile, act.core):
-            raise Wrong(f"act {line['at']} of these rounds is `{act}`, and another one is told")
+            raise WrongLine(f"act {line['at']} of these rounds is `{act}`, and another one is told")
 
     def need_advance(self, line: Dict[str, Any]) -> None:
         if line["at"] != self.first or line["do"] not in BRINGS_ON:
-            raise Wrong(f"act {self.first} brings the least task on, and another one is told")
+            raise WrongLine(f"act {self.first} brings the least task on, and another one is told")
         self.first, self.advances = self.first + 1, self.advances + 1
 
     def note_commits(self, commits: int) -> None:

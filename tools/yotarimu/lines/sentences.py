@@ -9,13 +9,13 @@ from __future__ import annotations
 from collections.abc import Iterable, Sequence
 from typing import Callable, Optional, TypeVar
 
-from yotarimu.common.sentences import SENTENCES, filled
-from yotarimu.common.text import counted, printable
+from yotarimu.common.sentences import SENTENCES, fill
+from yotarimu.common.text import count_text, printable
 from yotarimu.images.image import DATA, Limits
 from yotarimu.images.listing import NO_LISTING, Listing
-from yotarimu.lines.causes import Cause, Telling, causes_of
+from yotarimu.lines.causes import Cause, CauseSentences, causes_of
 from yotarimu.lines.fields import Line
-from yotarimu.lines.replay import Machine, Task, Told
+from yotarimu.lines.replay import Machine, Task, ToldLine
 from yotarimu.reports.meanings import ENDS, cause_told
 
 Thing = TypeVar("Thing")
@@ -27,30 +27,31 @@ DONE, REQUESTS, REFUSALS, WISHES = (SENTENCES[key] for key in ("done", "requests
 DOMAINS = SENTENCES["domains"]
 # What a sentence names, beside the fields of its line.
 Values = dict[str, object]
-Naming = Callable[[Told, Machine, Listing, Optional[Limits]], Values]
+Naming = Callable[[ToldLine, Machine, Listing, Optional[Limits]], Values]
 
 
-def sentence_of(told: Told, machine: Machine, listing: Listing = NO_LISTING, limits: Optional[Limits] = None) -> str:
+def sentence_of(told: ToldLine, machine: Machine, listing: Listing = NO_LISTING,
+                limits: Optional[Limits] = None) -> str:
     """What an act's line says, by the machine behind it; `limits` are those of the image's version, if known."""
     if told.line["reply"] != "ok":
         return refused_told(told, machine)
     word = told.line["do"]
     values = VALUES[word](told, machine, listing, limits) if word in VALUES else {}
-    return f"{filled(DONE[word], **{**told.line, **values})}.{back_told(told, machine, listing)}{spilled_told(told)}"
+    return f"{fill(DONE[word], **{**told.line, **values})}.{back_told(told, machine, listing)}{spilled_told(told)}"
 
 
 def opening_told(head: Line) -> str:
     """What stands before the first act."""
     count = head["tasks"]
-    return filled(SENTENCES["opening"], tasks=counted(count, "task"), are=is_or_are(count))
+    return fill(SENTENCES["opening"], tasks=count_text(count, "task"), are=is_or_are(count))
 
 
 def end_told(end: Line, listing: Listing = NO_LISTING, limits: Optional[Limits] = None) -> str:
     """What the last line says."""
     if end["end"] != "trap":
         return str(ENDS[end["end"]])
-    return filled(SENTENCES["ends"]["trap"], name=name_told(end["name"]), place=listing.labelled(end["pc"]),
-                  trap=trap_told(end, limits))
+    return fill(SENTENCES["ends"]["trap"], name=name_told(end["name"]), place=listing.address_text(end["pc"]),
+                trap=trap_told(end, limits))
 
 
 # ---- names
@@ -72,9 +73,9 @@ def label_of(task: Task) -> str:
     return name_told(named.name if named and named.name else ()) + "".join(reversed(places))
 
 
-def listed(parts: Sequence[str]) -> str:
+def list_text(parts: Sequence[str]) -> str:
     if len(parts) > MOST_NAMED:
-        more = filled(SENTENCES["more"], count=f"{len(parts) - MOST_NAMED:,}")
+        more = fill(SENTENCES["more"], count=f"{len(parts) - MOST_NAMED:,}")
         parts = [*parts[:MOST_NAMED], more]
     return ", ".join(parts)
 
@@ -92,21 +93,21 @@ def its(found: Optional[Thing]) -> Thing:
     return found
 
 
-def of_its_task(told: Told, _machine: Machine, _listing: Listing, _limits: Optional[Limits]) -> Values:
+def of_its_task(told: ToldLine, _machine: Machine, _listing: Listing, _limits: Optional[Limits]) -> Values:
     return {"task": label_of(its(told.task))}
 
 
-def of_step(told: Told, machine: Machine, listing: Listing, limits: Optional[Limits]) -> Values:
+def of_step(told: ToldLine, machine: Machine, listing: Listing, limits: Optional[Limits]) -> Values:
     return {"leg": leg_told(told), "request": request_told(told, machine, listing, limits)}
 
 
-def of_take(told: Told, machine: Machine, _listing: Listing, _limits: Optional[Limits]) -> Values:
+def of_take(told: ToldLine, machine: Machine, _listing: Listing, _limits: Optional[Limits]) -> Values:
     return {"task": label_of(machine.tasks[its(machine.cores[told.line["tile"]][told.line["core"]])])}
 
 
-def of_commit(told: Told, machine: Machine, _listing: Listing, _limits: Optional[Limits]) -> Values:
+def of_commit(told: ToldLine, machine: Machine, _listing: Listing, _limits: Optional[Limits]) -> Values:
     line, texts = told.line, SENTENCES["commit"]
-    output = filled(texts["output"], text=printable(bytes.fromhex(line["output"]))) if "output" in line else ""
+    output = fill(texts["output"], text=printable(bytes.fromhex(line["output"]))) if "output" in line else ""
     return {"name": name_told(line["name"]), "turn": machine.commits, "output": output,
             "children": children_named(len(its(told.committed).children), machine.commits)}
 
@@ -115,10 +116,10 @@ def children_named(count: int, turn: int) -> str:
     """What the children of a task that committed are named from then on."""
     if not count:
         return ""
-    return filled(SENTENCES["commit"]["child" if count == 1 else "children"], turn=turn, count=count, last=count - 1)
+    return fill(SENTENCES["commit"]["child" if count == 1 else "children"], turn=turn, count=count, last=count - 1)
 
 
-def of_split(told: Told, _machine: Machine, _listing: Listing, _limits: Optional[Limits]) -> Values:
+def of_split(told: ToldLine, _machine: Machine, _listing: Listing, _limits: Optional[Limits]) -> Values:
     return {"name": name_told(told.line["name"])}
 
 
@@ -130,53 +131,53 @@ VALUES: dict[str, Naming] = {
 # ---- a leg, and what the task asks for at its end
 
 
-def leg_told(told: Told) -> str:
+def leg_told(told: ToldLine) -> str:
     line, texts = told.line, SENTENCES["leg"]
-    who = filled(texts["who"], **{**line, "task": label_of(its(told.task))})
+    who = fill(texts["who"], **{**line, "task": label_of(its(told.task))})
     if not line["leg"]:
         return who
-    return filled(texts["plain"], who=who, instructions=counted(line["leg"], "plain instruction"))
+    return fill(texts["plain"], who=who, instructions=count_text(line["leg"], "plain instruction"))
 
 
-def request_told(told: Told, machine: Machine, listing: Listing, limits: Optional[Limits]) -> str:
+def request_told(told: ToldLine, machine: Machine, listing: Listing, limits: Optional[Limits]) -> str:
     """What the task did at the end of its leg."""
     line = told.line
     values = REQUESTED[line["asks"]](told, machine, listing, limits) if line["asks"] in REQUESTED else {}
-    return filled(REQUESTS[line["asks"]], **{**line, **values})
+    return fill(REQUESTS[line["asks"]], **{**line, **values})
 
 
-def of_go(told: Told, _machine: Machine, listing: Listing, _limits: Optional[Limits]) -> Values:
-    return {"place": listing.labelled(told.line["pc"])}
+def of_go(told: ToldLine, _machine: Machine, listing: Listing, _limits: Optional[Limits]) -> Values:
+    return {"place": listing.address_text(told.line["pc"])}
 
 
-def of_load(told: Told, machine: Machine, listing: Listing, _limits: Optional[Limits]) -> Values:
+def of_load(told: ToldLine, machine: Machine, listing: Listing, _limits: Optional[Limits]) -> Values:
     return {"access": access_told(told.line, machine, listing)}
 
 
-def of_store(told: Told, machine: Machine, listing: Listing, _limits: Optional[Limits]) -> Values:
+def of_store(told: ToldLine, machine: Machine, listing: Listing, _limits: Optional[Limits]) -> Values:
     return {"value": its(told.access).value, "access": access_told(told.line, machine, listing)}
 
 
 def access_told(line: Line, machine: Machine, listing: Listing) -> str:
     address = line["addr"]
     label = listing.label(address)
-    place = filled(SENTENCES["labelled"], address=f"{address:08x}", label=label) if label else f"{address:08x}"
-    return filled(SENTENCES["access"], bytes=counted(line["bytes"], "byte"), place=place,
-                  line=(address - DATA) // machine.head["line"])
+    place = fill(SENTENCES["labelled"], address=f"{address:08x}", label=label) if label else f"{address:08x}"
+    return fill(SENTENCES["access"], bytes=count_text(line["bytes"], "byte"), place=place,
+                line=(address - DATA) // machine.head["line"])
 
 
-def of_enqueue(told: Told, _machine: Machine, listing: Listing, _limits: Optional[Limits]) -> Values:
+def of_enqueue(told: ToldLine, _machine: Machine, listing: Listing, _limits: Optional[Limits]) -> Values:
     line, child = told.line, its(told.arrived)
     return {"index": child.index, "domain": DOMAINS[line["to"]], "child": label_of(child),
             "words": listing.task_words(line["entry"], line["args"])}
 
 
-def of_emit(told: Told, _machine: Machine, _listing: Listing, _limits: Optional[Limits]) -> Values:
+def of_emit(told: ToldLine, _machine: Machine, _listing: Listing, _limits: Optional[Limits]) -> Values:
     return {"text": printable(bytes([told.line["byte"]]))}
 
 
-def of_trap(told: Told, _machine: Machine, listing: Listing, limits: Optional[Limits]) -> Values:
-    return {"place": listing.labelled(told.line["pc"]), "trap": trap_told(told.line, limits)}
+def of_trap(told: ToldLine, _machine: Machine, listing: Listing, limits: Optional[Limits]) -> Values:
+    return {"place": listing.address_text(told.line["pc"]), "trap": trap_told(told.line, limits)}
 
 
 REQUESTED: dict[str, Naming] = {
@@ -184,60 +185,60 @@ REQUESTED: dict[str, Naming] = {
 
 
 def trap_told(line: Line, limits: Optional[Limits]) -> str:
-    return filled(SENTENCES["trap"], cause=line["cause"], meaning=cause_told(line["cause"], limits)[0])
+    return fill(SENTENCES["trap"], cause=line["cause"], meaning=cause_told(line["cause"], limits)[0])
 
 
 # ---- what was taken back, and what moved
 
 
-def back_told(told: Told, machine: Machine, listing: Listing) -> str:
+def back_told(told: ToldLine, machine: Machine, listing: Listing) -> str:
     """Which tasks were taken back, the least first, why, and which of them are gone."""
     count = len(told.taken)
     if not count:
         return ""
     line_size = machine.head["line"]
-    telling, causes = Telling(label_of, line_size, listing), causes_of(told, line_size)
-    more = filled(SENTENCES["taken"]["more"], count=f"{count - MOST_NAMED:,}") if count > MOST_NAMED else ""
-    return filled(SENTENCES["back"], tasks=counted(count, "task"), are=is_or_are(count), more=more,
-                  list="".join(taken_told(cause, telling) for cause in causes[:MOST_NAMED]))
+    telling, causes = CauseSentences(label_of, line_size, listing), causes_of(told, line_size)
+    more = fill(SENTENCES["taken"]["more"], count=f"{count - MOST_NAMED:,}") if count > MOST_NAMED else ""
+    return fill(SENTENCES["back"], tasks=count_text(count, "task"), are=is_or_are(count), more=more,
+                list="".join(taken_told(cause, telling) for cause in causes[:MOST_NAMED]))
 
 
-def taken_told(cause: Cause, telling: Telling) -> str:
+def taken_told(cause: Cause, telling: CauseSentences) -> str:
     """A task that was taken back, with the work that this undid, and why."""
     texts, taken = SENTENCES["taken"], cause.taken
-    return filled(texts["worked" if taken.work else "idle"], task=label_of(taken.task), cause=telling.sentence(cause),
-                  instructions=counted(taken.work, "instruction"),
-                  discarded=texts["discarded"] if taken.is_gone else "")
+    return fill(texts["worked" if taken.work else "idle"], task=label_of(taken.task), cause=telling.sentence(cause),
+                instructions=count_text(taken.work, "instruction"),
+                discarded=texts["discarded"] if taken.is_gone else "")
 
 
-def spilled_told(told: Told) -> str:
+def spilled_told(told: ToldLine) -> str:
     """Which tasks moved to a block."""
     count = len(told.spilled)
     if not count:
         return ""
-    return filled(SENTENCES["spilled"], tasks=counted(count, "task"), are=is_or_are(count), tile=told.spilled[0].tile,
-                  list=listed([label_of(task) for task in told.spilled]))
+    return fill(SENTENCES["spilled"], tasks=count_text(count, "task"), are=is_or_are(count), tile=told.spilled[0].tile,
+                list=list_text([label_of(task) for task in told.spilled]))
 
 
 # ---- what was refused
 
 
-def refused_told(told: Told, machine: Machine) -> str:
+def refused_told(told: ToldLine, machine: Machine) -> str:
     """What an act was to do that came to nothing, and why."""
-    return filled(SENTENCES["refused"], wish=wish_told(told), reply=told.line["reply"], why=why_refused(told, machine))
+    return fill(SENTENCES["refused"], wish=wish_told(told), reply=told.line["reply"], why=why_refused(told, machine))
 
 
-def wish_told(told: Told) -> str:
+def wish_told(told: ToldLine) -> str:
     line = told.line
     asks = line.get("asks")
     if asks in ("enqueue", "end"):
-        return filled(WISHES[asks], leg=leg_told(told), domain=DOMAINS.get(line.get("to")))
+        return fill(WISHES[asks], leg=leg_told(told), domain=DOMAINS.get(line.get("to")))
     if line["do"] == "step" and told.task is not None:
-        return filled(WISHES["leg"], **{**line, "task": label_of(told.task)})
-    return filled(WISHES[line["do"]], **line)
+        return fill(WISHES["leg"], **{**line, "task": label_of(told.task)})
+    return fill(WISHES[line["do"]], **line)
 
 
-def why_refused(told: Told, machine: Machine) -> str:
+def why_refused(told: ToldLine, machine: Machine) -> str:
     line = told.line
     if line["reply"] == "ended":
         return str(REFUSALS["ended"])
@@ -246,11 +247,11 @@ def why_refused(told: Told, machine: Machine) -> str:
     return str(REFUSALS[f"{line.get('asks', line['do'])} {line['reply']}"])
 
 
-def why_stale(told: Told, machine: Machine) -> str:
+def why_stale(told: ToldLine, machine: Machine) -> str:
     """Why no leg is taken on a core, or none is run there."""
     if told.task is not None:
         return str(REFUSALS["stale leg"])
     holder = machine.cores[told.line["tile"]][told.line["core"]]
     if holder is None:
         return str(REFUSALS["stale free"])
-    return filled(REFUSALS["stale trapped"], task=label_of(machine.tasks[holder]))
+    return fill(REFUSALS["stale trapped"], task=label_of(machine.tasks[holder]))

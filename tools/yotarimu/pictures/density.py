@@ -7,7 +7,7 @@ from collections.abc import Iterable, Iterator
 from typing import Callable
 from xml.sax.saxutils import escape
 
-from yotarimu.courses.schedules import DONE, Act, Played, Said, acts_a_round, is_commit
+from yotarimu.courses.schedules import DONE, Act, PlayedScript, ActAnswer, acts_a_round, is_commit
 
 MOST_COLUMNS = 120
 MARGIN, TOP, FOOT, COLUMN, LANE, COMMIT_LANE, GAP = 96, 40, 78, 9, 34, 60, 6
@@ -27,7 +27,7 @@ class Cell:
     taken_back: int = 0
     commits: int = 0
 
-    def add(self, act: Act, said: Said) -> None:
+    def add(self, act: Act, said: ActAnswer) -> None:
         self.taken_back += said.taken_back
         self.commits += is_commit(act, said)
         self.done += said.reply in DONE
@@ -37,7 +37,7 @@ class Cell:
     def all_acts(self) -> int:
         return self.done + self.stalled + self.idle
 
-    def told(self) -> str:
+    def text(self) -> str:
         return (f"{self.done:,} done, {self.stalled:,} stalled, {self.idle:,} with nothing to do, "
                 f"{self.taken_back:,} taken back")
 
@@ -45,7 +45,7 @@ class Cell:
 class Grid:
     """The cells of a schedule, by lane and column; acts without a tile are in the last lane."""
 
-    def __init__(self, played: Played) -> None:
+    def __init__(self, played: PlayedScript) -> None:
         self.round = acts_a_round(played.acts)
         # Where the script has no rounds, columns go by acts.
         self.unit, self.name = (self.round, "round") if self.round else (1, "act")
@@ -69,7 +69,7 @@ class Grid:
         return max(1, *(what(cell) for lane in self.cells[:-1] for cell in lane))
 
 
-def drawn(played: Played) -> str:
+def draw(played: PlayedScript) -> str:
     """The picture of a played schedule."""
     grid = Grid(played)
     width = MARGIN + COLUMN * max(grid.columns, 60) + 16
@@ -106,7 +106,7 @@ def lane_of(grid: Grid, tile: int, y: float, asked: int, taken: int, width: int)
                 (y + LANE - scale * (cell.done + cell.stalled), scale * cell.stalled, STALLED_COLOUR),
                 (y + LANE - scale * cell.all_acts(), scale * cell.idle, IDLE_COLOUR),
                 (y, TAKEN_PART * LANE * cell.taken_back / taken, TAKEN_COLOUR)]
-        yield from cell_of(x, bars, f"{grid.span(column)}, tile {tile}: {cell.told()}")
+        yield from cell_of(x, bars, f"{grid.span(column)}, tile {tile}: {cell.text()}")
 
 
 def band(y: float, height: int, width: int, colour: str) -> str:
@@ -126,7 +126,7 @@ def commits_of(grid: Grid, y: float, width: int) -> Iterator[str]:
     most = max((cell.commits for cell in lane), default=0) or 1
     for column, cell in enumerate(lane):
         size = (COMMIT_LANE - 8) * cell.commits / most
-        told = f"{grid.span(column)}: {cell.commits:,} commits; {cell.told()}"
+        told = f"{grid.span(column)}: {cell.commits:,} commits; {cell.text()}"
         yield from cell_of(MARGIN + COLUMN * column, [(y + COMMIT_LANE - size, size, COMMIT_COLOUR)], told)
 
 
@@ -143,7 +143,7 @@ def cell_of(x: float, bars: Iterable[tuple[float, float, str]], told: str) -> It
     yield "</g>"
 
 
-def footer(played: Played, grid: Grid, taken: int) -> Iterator[str]:
+def footer(played: PlayedScript, grid: Grid, taken: int) -> Iterator[str]:
     """The whole in numbers, and what the bars mean."""
     commits, back = len(played.report.entries), sum(said.taken_back for said in played.said)
     most = max(cell.commits for cell in grid.cells[-1])

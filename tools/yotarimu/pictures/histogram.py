@@ -3,20 +3,20 @@ from __future__ import annotations
 
 from collections.abc import Sequence
 
-from yotarimu.pictures.plot import BOTTOM, HEIGHT, LEFT, RIGHT, TOP, WIDTH, Axis, framed, number
+from yotarimu.pictures.plot import BOTTOM, HEIGHT, LEFT, RIGHT, TOP, WIDTH, Axis, picture_with_axes, number
 from yotarimu.pictures.tree import COLOURS
 
 # Between bars some of the stretch stays free.
 GAP = 0.1
 
 
-def drawn(bars: Sequence[tuple[int, int, int]], x_name: str, y_name: str) -> str:
+def draw(bars: Sequence[tuple[int, int, int]], x_name: str, y_name: str) -> str:
     """The histogram of bars: the first and the last value of each, and how many numbers it has. Values are whole, so a
     bar stands from half below its first value to half above its last."""
     edges = [edge for first, last, _ in bars for edge in (first - 0.5, last + 0.5)] or [-0.5, 0.5]
     x_axis = Axis(edges, LEFT, WIDTH - RIGHT)
     y_axis = Axis([0, *(count for _, _, count in bars)], HEIGHT - BOTTOM, TOP)
-    return framed(x_axis, y_axis, x_name, y_name, [rectangle(bar, x_axis, y_axis) for bar in bars])
+    return picture_with_axes(x_axis, y_axis, x_name, y_name, [rectangle(bar, x_axis, y_axis) for bar in bars])
 
 
 def rectangle(bar: tuple[int, int, int], x_axis: Axis, y_axis: Axis) -> str:

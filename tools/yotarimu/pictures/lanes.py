@@ -6,8 +6,8 @@ from collections.abc import Iterator, Sequence
 from typing import Optional
 from xml.sax.saxutils import escape
 
-from yotarimu.common.text import counted
-from yotarimu.courses.schedules import DONE, NUMBERS, Act, Played, Said
+from yotarimu.common.text import count_text
+from yotarimu.courses.schedules import DONE, NUMBERS, Act, PlayedScript, ActAnswer
 from yotarimu.pictures import density
 from yotarimu.reports.report import Entry
 
@@ -49,11 +49,11 @@ class Mark:
     """An act as it is drawn."""
     number: int
     act: Act
-    said: Said
+    said: ActAnswer
     entry: Optional[Entry]
 
     def title(self) -> str:
-        taken = f", {counted(self.said.taken_back, 'task')} taken back" if self.said.taken_back else ""
+        taken = f", {count_text(self.said.taken_back, 'task')} taken back" if self.said.taken_back else ""
         name = f", commit {self.entry.turn}: {self.entry.name}" if self.entry else ""
         return f"{self.number}: {self.act}: {self.said.reply}{taken}{name}"
 
@@ -74,10 +74,10 @@ def paint_of(fill: str, stroke: str) -> str:
     return f'fill="{fill}" stroke="{stroke}" stroke-width="1.6"'
 
 
-def drawn(played: Played) -> str:
+def draw(played: PlayedScript) -> str:
     """The picture of a played schedule."""
     if len(played.acts) > MOST_WITH_MARKS:
-        return density.drawn(played)
+        return density.draw(played)
     commits = played.commits()
     marks = [Mark(place + 1, act, said, commits.get(place)) for place, (act, said) in enumerate(played.pairs())]
     style = LARGE if len(marks) <= MOST_WITH_WORDS else SMALL
@@ -90,13 +90,13 @@ def drawn(played: Played) -> str:
              f'viewBox="0 0 {width} {total}" font-family="sans-serif" font-size="12">',
              f'<rect width="{width}" height="{total}" fill="white"/>']
     for place, band in enumerate(bands):
-        parts += [f'<g transform="translate(0 {place * height})">', *drawn_band(band, tiles, width, style), "</g>"]
+        parts += [f'<g transform="translate(0 {place * height})">', *draw_band(band, tiles, width, style), "</g>"]
     parts += [f'<g transform="translate(0 {height * len(bands)})">', *footer(played, style), "</g>",
               "</svg>"]
     return "\n".join(parts) + "\n"
 
 
-def drawn_band(marks: Sequence[Mark], tiles: int, width: int, style: Style) -> Iterator[str]:
+def draw_band(marks: Sequence[Mark], tiles: int, width: int, style: Style) -> Iterator[str]:
     """Some acts, one beside the other, each in its lane."""
     bottom = TOP + style.lane * (tiles + 1)
     for lane in range(tiles + 1):
@@ -116,11 +116,11 @@ def drawn_band(marks: Sequence[Mark], tiles: int, width: int, style: Style) -> I
         lane = tiles if mark.act.tile is None else mark.act.tile
         x, middle = MARGIN + style.column * (place + 0.5), TOP + style.lane * (lane + 0.5)
         yield f"<g><title>{escape(mark.title())}</title>"
-        yield from drawn_mark(mark, x, middle - 6 if style.has_words else middle, style)
+        yield from draw_mark(mark, x, middle - 6 if style.has_words else middle, style)
         yield "</g>"
 
 
-def drawn_mark(mark: Mark, x: float, y: float, style: Style) -> Iterator[str]:
+def draw_mark(mark: Mark, x: float, y: float, style: Style) -> Iterator[str]:
     """A mark with its act above it, and the answer below."""
     size = style.size
     if mark.said.taken_back:
@@ -161,12 +161,12 @@ def text(x: float, y: float, words: str, colour: str, size: int, anchor: str, is
             f"{escape(words)}</text>")
 
 
-def footer(played: Played, style: Style) -> Iterator[str]:
+def footer(played: PlayedScript, style: Style) -> Iterator[str]:
     """The whole in numbers, and what the marks mean."""
     taken = sum(said.taken_back for said in played.said)
     commits = len(played.report.entries)
-    told = [counted(len(played.acts), "act"), counted(commits, "commit"), f"{counted(taken, 'task')} taken back",
-            f"end {played.report.end}"]
+    told = [count_text(len(played.acts), "act"), count_text(commits, "commit"),
+            f"{count_text(taken, 'task')} taken back", f"end {played.report.end}"]
     yield text(12, 14, "; ".join(told), "#333333", 12, "start", True)
     blue = paint_of(DONE_COLOUR, DONE_COLOUR)
     kinds = [("step", blue, "done; a leg has its core's number" if style.has_words else "done"),

@@ -13,14 +13,14 @@ import re
 from typing import Optional
 
 from yotarimu.common.files import FilePath, read_written
-from yotarimu.common.outcome import Refused
+from yotarimu.common.outcome import Refusal
 from yotarimu.images.image import DATA, TEXT
 from yotarimu.images.listing import NO_LISTING, Listing, read_listing
 from yotarimu.lines.fields import Line
-from yotarimu.lines.reader import open_watched
-from yotarimu.lines.replay import Access, Machine, Task, Told
+from yotarimu.lines.reader import open_lines
+from yotarimu.lines.replay import Access, Machine, Task, ToldLine
 from yotarimu.lines.sentences import end_told, name_told, opening_told, sentence_of
-from yotarimu.web.bundling import recorded_page, within
+from yotarimu.web.bundle import recorded_page, within
 
 MOST_ACTS = 50_000
 # So many entries of the journal before the page's first act stand on it.
@@ -28,14 +28,14 @@ MOST_ENTRIES = 12
 CUT = "Here the text breaks off."
 
 
-class Passed:
+class Totals:
     """What was counted so far: the work of committed tasks and of those taken back, the journal, and the output."""
 
     def __init__(self) -> None:
         self.useful = self.wasted = self.emitted = 0
         self.entries: collections.deque[list[object]] = collections.deque(maxlen=MOST_ENTRIES)
 
-    def follow(self, told: Told) -> None:
+    def follow(self, told: ToldLine) -> None:
         self.wasted += sum(taken.work for taken in told.taken)
         if told.committed is not None:
             line = told.line
@@ -49,13 +49,13 @@ class Excerpt:
 
     def __init__(self, name: FilePath, head: Line, first: int, last: float) -> None:
         self.name, self.head, self.first, self.last = name, head, first, last
-        self.passed = Passed()
+        self.passed = Totals()
         # The machine where the page begins, once it was found.
         self.opening: Optional[str] = None
         self.lines: list[str] = []
         self.sentences: list[str] = []
 
-    def follow(self, told: Told, machine: Machine, listing: Listing) -> None:
+    def follow(self, told: ToldLine, machine: Machine, listing: Listing) -> None:
         """Takes a line that was read: it is passed, or the page begins behind it, or it is one of the page's acts."""
         if not told.is_act():
             if self.first == 0 and machine.placed == self.head["tasks"] and self.opening is None:
@@ -72,9 +72,9 @@ class Excerpt:
         self.opening = within(opening_of(machine, self.passed))
         self.sentences.append(sentence)
 
-    def take(self, told: Told, machine: Machine, listing: Listing) -> None:
+    def take(self, told: ToldLine, machine: Machine, listing: Listing) -> None:
         if len(self.lines) == MOST_ACTS:
-            raise Refused(f"{self.name}: these are more than {MOST_ACTS:,} acts, which no page shows; --from ACT and "
+            raise Refusal(f"{self.name}: these are more than {MOST_ACTS:,} acts, which no page shows; --from ACT and "
                           "--to ACT choose some of them.")
         self.lines.append(json.dumps(told.line, separators=(",", ":")))
         self.sentences.append(sentence_of(told, machine, listing))
@@ -82,9 +82,9 @@ class Excerpt:
     def close(self, machine: Machine, end: Optional[Line], listing: Listing) -> None:
         """What is said behind the page's last act, where the text ends there too."""
         if self.opening is None and self.first:
-            raise Refused(f"{self.name}: its last act is {machine.acts:,}, so no page begins behind {self.first:,}.")
+            raise Refusal(f"{self.name}: its last act is {machine.acts:,}, so no page begins behind {self.first:,}.")
         if self.opening is None:
-            raise Refused(f"{self.name}: it is cut before the image's tasks are placed, so there is nothing to show.")
+            raise Refusal(f"{self.name}: it is cut before the image's tasks are placed, so there is nothing to show.")
         if machine.acts <= self.last:
             self.sentences.append(CUT if end is None else end_told(end, listing))
 
@@ -92,7 +92,7 @@ class Excerpt:
 # ---- the machine before the page's first act
 
 
-def opening_of(machine: Machine, passed: Passed) -> dict[str, object]:
+def opening_of(machine: Machine, passed: Totals) -> dict[str, object]:
     """The machine as the page takes it."""
     tasks = list(machine.tasks.values())
     stores = ((task.id, [store_of(access) for access in task.accesses if access.is_store]) for task in tasks)
@@ -134,7 +134,7 @@ def read_rows(path: Optional[FilePath], head: Line) -> tuple[Listing, list[list[
     end = TEXT + 4 * head["text"]
     beyond = next((address for address in sorted(listing.words) if end <= address < DATA), None)
     if beyond is not None:
-        raise Refused(f"{path}: this is the listing of another image: it has an instruction at {beyond:08x}, and the "
+        raise Refusal(f"{path}: this is the listing of another image: it has an instruction at {beyond:08x}, and the "
                       f"text of this one ends at {end:08x}.")
     return listing, [[row_address(line), line] for line in text.splitlines()]
 
@@ -150,7 +150,7 @@ def row_address(line: str) -> Optional[int]:
 def page_of(path: FilePath, listing_path: Optional[FilePath], first: int = 0, last: float = float("inf"),
             is_cut_allowed: bool = False) -> str:
     """The page of a text's acts: those behind the act `first`, up to the act `last`."""
-    with open_watched(path, is_cut_allowed) as watched:
+    with open_lines(path, is_cut_allowed) as watched:
         listing, rows = read_rows(listing_path, watched.head)
         excerpt = Excerpt(path, watched.head, first, last)
         for told in watched:

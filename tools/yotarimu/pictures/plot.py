@@ -5,7 +5,7 @@ import math
 from collections.abc import Iterable, Iterator, Mapping, Sequence
 from xml.sax.saxutils import escape
 
-from yotarimu.common.outcome import Refused
+from yotarimu.common.outcome import Refusal
 from yotarimu.common.text import without_controls
 from yotarimu.pictures.tree import COLOURS
 
@@ -22,17 +22,18 @@ class Axis:
     def __init__(self, values: Sequence[float], start: float, end: float, is_logarithmic: bool = False) -> None:
         least, most = min(values), max(values)
         if is_logarithmic and least <= 0:
-            raise Refused(f"a logarithmic axis has no place for {number(least)}.")
+            raise Refusal(f"a logarithmic axis has no place for {number(least)}.")
         self.is_logarithmic = is_logarithmic
         self.start, self.end = start, end
         self.ticks = decades(least, most) if self.is_logarithmic else steps(least, most)
-        self.least, self.most = self.scaled(min(least, self.ticks[0])), self.scaled(max(most, self.ticks[-1]))
+        self.least = self.scaled_value(min(least, self.ticks[0]))
+        self.most = self.scaled_value(max(most, self.ticks[-1]))
 
-    def scaled(self, value: float) -> float:
+    def scaled_value(self, value: float) -> float:
         return math.log10(value) if self.is_logarithmic else value
 
     def place(self, value: float) -> float:
-        return self.start + (self.scaled(value) - self.least) / (self.most - self.least) * (self.end - self.start)
+        return self.start + (self.scaled_value(value) - self.least) / (self.most - self.least) * (self.end - self.start)
 
 
 def decades(least: float, most: float) -> list[float]:
@@ -51,7 +52,7 @@ def steps(least: float, most: float) -> list[float]:
     return [place * step for place in range(first, last + 1)]
 
 
-def drawn(series: Mapping[str, Sequence[tuple[float, float]]], x_name: str, y_name: str, logarithmic: str = "") -> str:
+def draw(series: Mapping[str, Sequence[tuple[float, float]]], x_name: str, y_name: str, logarithmic: str = "") -> str:
     """The plot of a dictionary from names to lists of points, with linear axes but for those that are named."""
     points = [point for list_of in series.values() for point in list_of]
     x_axis = Axis([x for x, _ in points], LEFT, WIDTH - RIGHT, "x" in logarithmic)
@@ -63,10 +64,10 @@ def drawn(series: Mapping[str, Sequence[tuple[float, float]]], x_name: str, y_na
             parts += legend(name, place)
     if len(series) > MOST_NAMES:
         parts.append(text(WIDTH - RIGHT + 20, TOP + 20 * MOST_NAMES + 12, f"and {len(series) - MOST_NAMES} more"))
-    return framed(x_axis, y_axis, x_name, y_name, parts)
+    return picture_with_axes(x_axis, y_axis, x_name, y_name, parts)
 
 
-def framed(x_axis: Axis, y_axis: Axis, x_name: str, y_name: str, parts: Iterable[str]) -> str:
+def picture_with_axes(x_axis: Axis, y_axis: Axis, x_name: str, y_name: str, parts: Iterable[str]) -> str:
     """A picture with two axes, and these parts within."""
     middle = (TOP + HEIGHT - BOTTOM) / 2
     frame = [f'<svg xmlns="http://www.w3.org/2000/svg" width="{WIDTH}" height="{HEIGHT}" '

@@ -39,7 +39,7 @@ class Style:
     has_labels: bool
 
 
-def drawn(nodes: Sequence[Node], total: int) -> str:
+def draw(nodes: Sequence[Node], total: int) -> str:
     """The picture of the first tasks of a run that has `total`; `creator` is a place in the list, or -1."""
     style = style_of(nodes)
     depths = max((node.depth for node in nodes), default=1)
@@ -139,7 +139,7 @@ def nodes_of(report: Report, machine: Machine, listing: Listing) -> list[Node]:
     found = (machine.tasks.get(entry.name) for entry in report.entries[:MOST_DOTS])
     shown = [task for task in found if task and task.turn]
     for task in shown:
-        label = listing.labelled(task.entry)
+        label = listing.address_text(task.entry)
         colour = colours.setdefault(label, COLOURS[len(colours) % len(COLOURS)])
         nodes.append(node(task, f"{task.turn}: {task.name}", listing, colour, len(nodes)))
     trapped = machine.tasks.get(report.trap.name) if report.trap else None

@@ -11,7 +11,7 @@ import tempfile
 from collections.abc import Iterator
 from typing import NamedTuple, Optional
 
-from yotarimu.common.outcome import Refused
+from yotarimu.common.outcome import Refusal
 from yotarimu.common.places import EXAMPLES_FOLDER
 from yotarimu.programs.examples import words_of
 from yotarimu.programs.limits import KILLED, NO_MEMORY, OUT_OF_MEMORY, WHOLE
@@ -27,9 +27,9 @@ def compile_to(path: pathlib.Path) -> None:
     try:
         done = subprocess.run(words, capture_output=True, text=True, stdin=subprocess.DEVNULL)
     except FileNotFoundError:
-        raise Refused("the C compiler cc isn't in the path.") from None
+        raise Refusal("the C compiler cc isn't in the path.") from None
     if done.returncode != 0:
-        raise Refused(f"cc makes no library of {SOURCE.name}: {done.stderr.strip()[:300]}")
+        raise Refusal(f"cc makes no library of {SOURCE.name}: {done.stderr.strip()[:300]}")
 
 
 class Call(NamedTuple):
@@ -70,7 +70,7 @@ class Refuser:
                                   stderr=subprocess.DEVNULL, pass_fds=[self.library],
                                   env={**os.environ, "LD_PRELOAD": f"/proc/self/fd/{self.library}", **variables})
         except OSError as error:
-            raise Refused(f"{call.program}: it can't be run: {error.strerror}.") from None
+            raise Refusal(f"{call.program}: it can't be run: {error.strerror}.") from None
         return Answer(done.returncode, done.stdout)
 
     def count(self, call: Call) -> tuple[int, Answer]:
@@ -80,7 +80,7 @@ class Refuser:
         said = self.answer(call, COUNTED_ALLOCATIONS=str(place))
         count = int.from_bytes(place.read_bytes(), sys.byteorder) if place.exists() else 0
         if not 0 < count <= MOST:
-            raise Refused(f"{call.program}: no allocations are counted; a program without the GNU C library, or with "
+            raise Refusal(f"{call.program}: no allocations are counted; a program without the GNU C library, or with "
                           "an allocator of its own, can't be watched so.")
         return count, said
 
@@ -125,7 +125,7 @@ def refuse_each(name: str, program: pathlib.Path,
     call = call_of(name, program)
     count, whole = library.count(call)
     if whole.status != 0:
-        raise Refused(f"{program}: with all allocations the schedule {name} has the status {whole.status}, and not 0.")
+        raise Refusal(f"{program}: with all allocations the schedule {name} has the status {whole.status}, and not 0.")
     counts: collections.Counter[Optional[str]] = collections.Counter()
     faults = []
     for number, outcome, said in library.refused_in_turn(call, count, whole):

@@ -9,7 +9,7 @@ import threading
 from collections.abc import Iterator, Sequence
 from typing import IO, Callable, Optional, TypeVar, Union
 
-from yotarimu.common.outcome import Refused
+from yotarimu.common.outcome import Refusal
 from yotarimu.programs.program import PROGRAM, Answer
 
 # What a shell tells of a program that it can't start.
@@ -19,23 +19,23 @@ Item = TypeVar("Item")
 Made = TypeVar("Made")
 
 
-def built(program: pathlib.Path) -> pathlib.Path:
+def need_program(program: pathlib.Path) -> pathlib.Path:
     """The absolute path of a built program; a refusal where there is none."""
     if not program.is_file():
-        raise Refused(f"{program}: the program isn't built; ./fractal prove builds it.")
+        raise Refusal(f"{program}: the program isn't built; ./fractal prove builds it.")
     return program.absolute()
 
 
 def program_at(word: Optional[str]) -> pathlib.Path:
     """The built program that a word names, or the one of this clone."""
-    return built(PROGRAM if word is None else pathlib.Path(word))
+    return need_program(PROGRAM if word is None else pathlib.Path(word))
 
 
 class Calls:
     """Calls of a built program, all of which can be ended."""
 
     def __init__(self, program: pathlib.Path) -> None:
-        self.program = built(program)
+        self.program = need_program(program)
         self.running: set[subprocess.Popen[bytes]] = set()
         self.lock, self.is_stopped = threading.Lock(), False
 
@@ -86,7 +86,7 @@ class Calls:
         return Answer(self.status_of(process), written)
 
     def read(self, words: Sequence[str], data: bytes,
-             reader: Callable[[IO[bytes]], Made]) -> tuple[int, Union[Made, Refused, None]]:
+             reader: Callable[[IO[bytes]], Made]) -> tuple[int, Union[Made, Refusal, None]]:
         """The status of a call of the program, and what `reader` makes of what it writes, as it comes; or what it
         refuses that for."""
         with tempfile.TemporaryFile() as given:
@@ -98,8 +98,8 @@ class Calls:
             assert process.stdout is not None
             with process.stdout as written:
                 try:
-                    made: Union[Made, Refused] = reader(written)
-                except Refused as refused:
+                    made: Union[Made, Refusal] = reader(written)
+                except Refusal as refused:
                     made = refused
                     # The status is to be the program's own.
                     while written.read(MOST_AT_ONCE):

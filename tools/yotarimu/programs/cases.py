@@ -15,7 +15,7 @@ import time
 from collections.abc import Iterator, Sequence
 from typing import IO, Optional
 
-from yotarimu.common.outcome import Refused, is_at_terminal, say
+from yotarimu.common.outcome import Refusal, is_at_terminal, say
 from yotarimu.common.places import EXAMPLES_FOLDER
 from yotarimu.programs.answers import Case
 from yotarimu.programs.examples import SCHEDULES, words_of
@@ -87,7 +87,7 @@ def play_built(cases: Sequence[Case]) -> Iterator[tuple[Case, Optional[str]]]:
 def play_unproved(cases: Sequence[Case]) -> Iterator[tuple[Case, Optional[str]]]:
     """Each case with what is wrong with its answer, by one run of rt that proves nothing."""
     if shutil.which("rt") is None:
-        raise Refused("the program isn't built, and that wants the command rt of the Rattle toolchain, which isn't in "
+        raise Refusal("the program isn't built, and that wants the command rt of the Rattle toolchain, which isn't in "
                       "the path.")
     with tempfile.TemporaryDirectory(prefix="fractal-") as folder:
         names = {f"case{place:04}": case for place, case in enumerate(cases)}
@@ -99,7 +99,7 @@ def play_unproved(cases: Sequence[Case]) -> Iterator[tuple[Case, Optional[str]]]
         said = try_cases(folder)
         found = dict(re.findall(r"^case=(case[0-9]{4}) run=(.*)$", said, re.MULTILINE))
         if not found:
-            raise Refused("\n".join(["the unproved run gave no answer; this is the last of what rt said:",
+            raise Refusal("\n".join(["the unproved run gave no answer; this is the last of what rt said:",
                                      *said.splitlines()[-MOST_LINES:]]))
         for name, case in names.items():
             yield case, fault_in_line(case, found.get(name, "nothing"))

@@ -10,7 +10,7 @@ from collections.abc import Sequence
 from typing import Callable
 
 from yotarimu.common.files import write_whole
-from yotarimu.common.outcome import Refused
+from yotarimu.common.outcome import Refusal
 from yotarimu.common.places import EXAMPLES_FOLDER
 from yotarimu.images import large_programs
 from yotarimu.images.compiler import need_compiler
@@ -44,14 +44,14 @@ KINDS = {
 def need_tools(compiler: str) -> None:
     """Refuses where what compiles the tasks or the plain program isn't there."""
     if not shutil.which(HOST_COMPILER):
-        raise Refused(f"{HOST_COMPILER} isn't in the path; it compiles the plain program for this machine.")
+        raise Refusal(f"{HOST_COMPILER} isn't in the path; it compiles the plain program for this machine.")
     need_compiler(compiler)
     tool_prefix()
 
 
 def write_sources(name: str, kind: Kind, folder: pathlib.Path, size: int, seed: int) -> None:
     if folder.exists() and (not folder.is_dir() or any(folder.iterdir())):
-        raise Refused(f"{folder}: it is there and not empty.")
+        raise Refusal(f"{folder}: it is there and not empty.")
     (folder / "plain").mkdir(parents=True, exist_ok=True)
     sources = EXAMPLES_FOLDER / "c" / "large"
     write_whole({folder / kind.data: kind.made(size, seed).encode(),
@@ -68,7 +68,7 @@ def plain_words(folder: pathlib.Path) -> list[int]:
         for words in ([HOST_COMPILER, "-O2", "-I", str(folder), "-o", program, str(source)], [program]):
             done = subprocess.run(words, capture_output=True, text=True, errors="replace", stdin=subprocess.DEVNULL)
             if done.returncode != 0:
-                raise Refused(f"{source}: {done.stderr.strip() or done.returncode}")
+                raise Refusal(f"{source}: {done.stderr.strip() or done.returncode}")
     return [int(word, 16) for word in done.stdout.split()]
 
 
@@ -82,20 +82,20 @@ def words_left(calls: Calls, image: Image, label: Label) -> tuple[list[int], Rep
         written = answer_of(calls, ["run"], image_bytes(image))
         report = read_report(written.decode("ascii", "replace"), "run")
         if report.end != "normal":
-            raise Refused(f"the run ended otherwise: {written.splitlines()[-1].decode('ascii')}.")
+            raise Refusal(f"the run ended otherwise: {written.splitlines()[-1].decode('ascii')}.")
         if len(report.window) != image.window_words:
-            raise Refused(f"the run tells {len(report.window):,} words, and not {image.window_words:,}.")
+            raise Refusal(f"the run tells {len(report.window):,} words, and not {image.window_words:,}.")
         words += [value for _, value in report.window]
     told = answer_of(calls, ["check"], image_bytes(image) + written)
     if told != b"check ok %d\n" % len(report.entries):
-        raise Refused(f"the report is refused: {told.decode('ascii', 'replace').strip()}.")
+        raise Refusal(f"the report is refused: {told.decode('ascii', 'replace').strip()}.")
     return words, report
 
 
 def answer_of(calls: Calls, words: Sequence[str], data: bytes) -> bytes:
     status, written = calls.call(words, data)
     if status != 0 or written.startswith(b"fault"):
-        raise Refused(f"`{' '.join(words)}` ended with status {status}.")
+        raise Refusal(f"`{' '.join(words)}` ended with status {status}.")
     return written
 
 
@@ -106,11 +106,11 @@ def events_of(calls: Calls, image: Image, commits: int) -> int:
         written = answer_of(calls, ["steps"], image_bytes(image) + b"advance\n" * advances)
         replies, head, _ = written.partition(b"fractal 1\n")
         if not head:
-            raise Refused("`steps` wrote no report.")
+            raise Refusal("`steps` wrote no report.")
         if ended := replies.count(b"ended "):
             return advances - ended
         advances *= 2
-    raise Refused(f"the run has no end within {MOST_ADVANCES:,} events.")
+    raise Refusal(f"the run has no end within {MOST_ADVANCES:,} events.")
 
 
 def compare(calls: Calls, image: Image, result: Label, folder: pathlib.Path) -> None:
@@ -120,8 +120,8 @@ def compare(calls: Calls, image: Image, result: Label, folder: pathlib.Path) -> 
     print(f"{len(report.entries):,} tasks took their turns, in {events:,} events; `check` accepts the report.")
     plain = plain_words(folder)
     if len(plain) != len(words):
-        raise Refused(f"the plain program tells {len(plain):,} words, and not {len(words):,}.")
+        raise Refusal(f"the plain program tells {len(plain):,} words, and not {len(words):,}.")
     for place, (word, other) in enumerate(zip(words, plain)):
         if word != other:
-            raise Refused(f"the word {place} of `{result.name}` is {word:08x}, and {other:08x} by the plain program.")
+            raise Refusal(f"the word {place} of `{result.name}` is {word:08x}, and {other:08x} by the plain program.")
     print(f"{len(words):,} words of `{result.name}` are those of the plain program.")

@@ -101,7 +101,7 @@ def leading_words(table: Table) -> str:
 
 
 def option_text(option: Option) -> str:
-    return f"--{option.name}=[{option.purpose}]:{option.told()}:({values_of(option)})"
+    return f"--{option.name}=[{option.purpose}]:{option.range_text()}:({values_of(option)})"
 
 
 def zsh_text(text: str) -> str:
@@ -125,7 +125,7 @@ def man(table: Table) -> str:
     lines += [".SH OPTIONS", "Each stands at most once, as", f"{DASHES}\\fIOPTION VALUE\\fR",
               "or", f"{DASHES}\\fIOPTION\\fR=\\fIVALUE\\fR."]
     for option in table.options.values():
-        lines += entry(f"--{option.name}", f"{option.purpose} ({option.told()}; {option.default} unless given)")
+        lines += entry(f"--{option.name}", f"{option.purpose} ({option.range_text()}; {option.default} unless given)")
     lines.append(".SH GENERATED IMAGES")
     for name, (sizes, purpose) in table.kinds.items():
         lines += entry(name, f"{purpose}; SIZE is {sizes[0]} to {sizes[-1]}")

@@ -60,7 +60,7 @@ def full(words: Sequence[str], given: bytes) -> Answer:
         return call_launcher(words, given, stdout=sink)
 
 
-def unread(words: Sequence[str], given: bytes) -> Answer:
+def unread_output(words: Sequence[str], given: bytes) -> Answer:
     """The output is a pipe that nobody reads any more."""
     reader, writer = os.pipe()
     os.close(reader)
@@ -75,7 +75,7 @@ def scarce(words: Sequence[str], given: bytes) -> Answer:
 
 
 INPUT, FULL, GONE, MEMORY = "an unreadable input", "a full device", "a pipe without a reader", "little memory"
-FAILING = {INPUT: unreadable, FULL: full, GONE: unread, MEMORY: scarce}
+FAILING = {INPUT: unreadable, FULL: full, GONE: unread_output, MEMORY: scarce}
 
 
 def devices() -> Iterator[Device]:

@@ -5,7 +5,7 @@ import pathlib
 from collections.abc import Iterable
 
 from yotarimu.common.files import read_text
-from yotarimu.common.outcome import Refused
+from yotarimu.common.outcome import Refusal
 from yotarimu.common.places import EXAMPLES_FOLDER
 
 EXAMPLES = ("hello", "fork_join", "pipeline", "reduction", "nested", "trap", "recursion", "shortest_paths") + tuple(
@@ -30,7 +30,7 @@ def words_in(path: pathlib.Path) -> list[str]:
     """The words of a call that a file has."""
     words = read_text(path).split()
     if not words or not all(word.isascii() and word.isprintable() for word in words):
-        raise Refused(f"{path}: these are no words of a call, as `steps --tiles 2` is one.")
+        raise Refusal(f"{path}: these are no words of a call, as `steps --tiles 2` is one.")
     return words
 
 

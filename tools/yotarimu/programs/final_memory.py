@@ -7,7 +7,7 @@ import struct
 from typing import Dict
 
 from yotarimu.common.data import Data
-from yotarimu.common.outcome import Refused
+from yotarimu.common.outcome import Refusal
 from yotarimu.images.image import HEADER, WINDOW_WORDS
 from yotarimu.programs.calls import Calls
 from yotarimu.programs.comparison import answer_of
@@ -23,7 +23,7 @@ WINDOW_AT = 20
 
 
 @dataclasses.dataclass(frozen=True)
-class Left:
+class FinalMemory:
     """The data, how many bytes they are, and how the run ended."""
     data: Data
     size: int
@@ -52,7 +52,7 @@ class Windows:
             image = self.image[:WINDOW_AT] + window + self.image[WINDOW_AT + len(window):]
             report = answer_of(self.calls, ["run"], image)
             if not report.endswith(b"\nend normal\n"):
-                raise Refused(f"the run ended otherwise: `{report.splitlines()[-1].decode('ascii')}`.")
+                raise Refusal(f"the run ended otherwise: `{report.splitlines()[-1].decode('ascii')}`.")
             values = [int(line[-8:], 16) for line in report.splitlines() if line.startswith(b"window ")]
             self.known[number] = struct.pack(f"<{len(values)}I", *values)
         return self.known[number]
@@ -64,12 +64,12 @@ def size_of(image: bytes) -> int:
     return size
 
 
-def memory_left(first: pathlib.Path, second: Calls, image: bytes) -> Left:
+def memory_left(first: pathlib.Path, second: Calls, image: bytes) -> FinalMemory:
     """The memory that a run of an image leaves. A second program that has no word for that leaves it to the first."""
     status, data = second.call(list(LEAST), image)
     end = next((end for end, its_status in STATUSES.items() if its_status == status), None)
     if end is not None:
-        return Left(data, len(data), end)
+        return FinalMemory(data, len(data), end)
     if status != NO_WORD:
-        raise Refused(f"`watch {' '.join(LEAST)}` ended with status {status}; ./fractal help tells what that means.")
-    return Left(Windows(Calls(first), image), size_of(image), "normal")
+        raise Refusal(f"`watch {' '.join(LEAST)}` ended with status {status}; ./fractal help tells what that means.")
+    return FinalMemory(Windows(Calls(first), image), size_of(image), "normal")

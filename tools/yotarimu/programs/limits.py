@@ -8,7 +8,7 @@ from collections.abc import Iterator, Sequence
 from typing import NamedTuple, Optional
 
 from yotarimu.common.files import FilePath
-from yotarimu.common.outcome import Refused
+from yotarimu.common.outcome import Refusal
 from yotarimu.programs.program import Answer
 
 NO_MEMORY = 5
@@ -57,7 +57,7 @@ class Call:
         self.has_threads = "--workers" in words
         first = answer(program, words, data)
         if first is None or first.status < 0:
-            raise Refused(f"{program}: it can't be run with `{' '.join(words)}`.")
+            raise Refusal(f"{program}: it can't be run with `{' '.join(words)}`.")
         (self.status, self.written), self.answers = first, {first}
 
     def fall(self) -> Iterator[tuple[int, Outcome]]:
@@ -75,7 +75,7 @@ class Call:
         """A limit under which the answer is whole, where a page less is too little."""
         ample, scarce = MOST, 0
         if self.outcome(ample).kind is not WHOLE:
-            raise Refused(f"`{' '.join(self.words)}` has no whole answer in {MOST >> 30} GiB of address space.")
+            raise Refusal(f"`{' '.join(self.words)}` has no whole answer in {MOST >> 30} GiB of address space.")
         while ample - scarce > PAGE:
             middle = (ample + scarce) // 2 // PAGE * PAGE
             if self.outcome(middle).kind is WHOLE:

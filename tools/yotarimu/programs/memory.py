@@ -9,7 +9,7 @@ from typing import NamedTuple, Optional
 from yotarimu.common.outcome import is_at_terminal
 from yotarimu.common.places import EXAMPLES_FOLDER
 from yotarimu.images.image import image_bytes
-from yotarimu.images.loads import generated
+from yotarimu.images.loads import generate
 from yotarimu.programs.examples import SCHEDULES
 from yotarimu.programs.limits import NO_MEMORY, OUT_OF_MEMORY, Call
 
@@ -38,7 +38,7 @@ def calls_of(name: str, program: pathlib.Path) -> list[NamedCall]:
                 NamedCall("nest", (name, "nest", "0", "50", *FEW), b"")]
     example = (EXAMPLES_FOLDER / EXAMPLE / "image.bin").read_bytes()
     kind, seed, size = WALK
-    walk = image_bytes(generated(kind, int(seed), int(size)))
+    walk = image_bytes(generate(kind, int(seed), int(size)))
     if name == "save":
         return [NamedCall(EXAMPLE, (name, "--commits", CUT), example),
                 NamedCall(EXAMPLE, (name, "--commits", NESTED), example),

@@ -12,7 +12,7 @@ from collections.abc import Iterator, Mapping, Sequence
 from typing import Optional
 
 from yotarimu.common.files import FilePath, read_bytes, write_whole
-from yotarimu.common.outcome import Refused
+from yotarimu.common.outcome import Refusal
 from yotarimu.images.image import read_image
 from yotarimu.images.serial_machine import Machine, Task
 from yotarimu.reports.report import Name, Report, read_report
@@ -42,7 +42,7 @@ class Folder:
     def __init__(self, path: FilePath, image: bytes, words: Sequence[str]) -> None:
         self.path = pathlib.Path(path)
         if self.path.exists() and not self.path.is_dir():
-            raise Refused(f"{path}: this is no folder.")
+            raise Refusal(f"{path}: this is no folder.")
         self.path.mkdir(parents=True, exist_ok=True)
         self.keep({self.name(WORDS): " ".join(words).encode() + b"\n", self.name(IMAGE, 1): image})
 
@@ -56,9 +56,9 @@ class Folder:
             if not path.exists():
                 missing[path] = data
             elif path.is_dir() or read_bytes(path) != data:
-                raise Refused(f"{path}: this folder has the pieces of another run; name a new folder.")
+                raise Refusal(f"{path}: this folder has the pieces of another run; name a new folder.")
         if self.name(IMAGE, 1) in missing and any(self.path.iterdir()):
-            raise Refused(f"{self.path}: this folder holds other files; name a new folder.")
+            raise Refusal(f"{self.path}: this folder holds other files; name a new folder.")
         write_whole(missing)
 
     def image(self, number: int) -> bytes:
@@ -92,7 +92,7 @@ def replay(image: bytes, report: Report, name: FilePath) -> Machine:
     machine = Machine(read_image(image, name))
     lost = machine.follow(report.entries)
     if lost:
-        raise Refused(f"{name}: its tasks can't be run again: {lost}.")
+        raise Refusal(f"{name}: its tasks can't be run again: {lost}.")
     return machine
 
 
@@ -106,12 +106,12 @@ def names_in(machine: Machine, following: bytes, name: FilePath) -> list[Name]:
     """The names of the tasks that pend, which are those of the saved image in its order; else a refusal."""
     saved, pending = read_image(following, name), pending_of(machine)
     if len(saved.tasks) != len(pending):
-        raise Refused(f"{name}: it has {len(saved.tasks):,} tasks, and {len(pending):,} pend after the piece before.")
+        raise Refusal(f"{name}: it has {len(saved.tasks):,} tasks, and {len(pending):,} pend after the piece before.")
     for place, (task, other) in enumerate(zip(saved.tasks, pending)):
         if (task.entry, task.timestamp, task.arguments) != (other.entry, other.timestamp, other.arguments):
-            raise Refused(f"{name}: its task {place} isn't {other.name}, which pends after the piece before.")
+            raise Refusal(f"{name}: its task {place} isn't {other.name}, which pends after the piece before.")
     if saved.initial != bytes(machine.memory):
-        raise Refused(f"{name}: its data aren't the memory that the piece before left.")
+        raise Refusal(f"{name}: its data aren't the memory that the piece before left.")
     return [task.name for task in pending]
 
 
@@ -122,7 +122,7 @@ def next_cut(image: bytes, report: Report, after: int, name: FilePath) -> Option
     for count, entry in enumerate(report.entries, 1):
         lost = machine.follow([entry])
         if lost:
-            raise Refused(f"{name}: its tasks can't be run again: {lost}.")
+            raise Refusal(f"{name}: its tasks can't be run again: {lost}.")
         pending = pending_of(machine) if count > after else []
         if pending and len(pending) <= MOST_TASKS and all(task.domain.depth == 1 for task in pending):
             return count
@@ -157,7 +157,7 @@ def name_in_whole(name: Name, names: Optional[Sequence[Name]], turns: int) -> Na
     if names is None:
         return name
     if name.index >= len(names):
-        raise Refused(f"after turn {turns} a piece has the task {name}, and its image has {len(names):,} tasks.")
+        raise Refusal(f"after turn {turns} a piece has the task {name}, and its image has {len(names):,} tasks.")
     return names[name.index]
 
 

@@ -6,8 +6,8 @@ from collections.abc import Sequence
 from typing import Optional
 
 from yotarimu.common.files import read_bytes, write_whole
-from yotarimu.common.outcome import Refused, is_at_terminal, say
-from yotarimu.common.text import counted
+from yotarimu.common.outcome import Refusal, is_at_terminal, say
+from yotarimu.common.text import count_text
 from yotarimu.images.image import read_image
 from yotarimu.programs import pieces
 from yotarimu.programs.calls import Calls
@@ -33,7 +33,7 @@ class Resumption:
             if not self.folder.has_run(number):
                 self.run_piece(number, turns)
             turns += len(self.report(number).entries)
-            show_progress(f"{counted(turns, 'commit')} in {counted(number, 'piece')}")
+            show_progress(f"{count_text(turns, 'commit')} in {count_text(number, 'piece')}")
             number += 1
         show_progress("")
 
@@ -76,7 +76,7 @@ class Resumption:
         rest = "nor anywhere behind, so the rest is one piece"
         if commits:
             rest = f"the next cut is after {turns + commits:,}"
-        say(NAME, f"after {counted(turns + self.every, 'commit')} the run can't be cut ({why}); {rest}.")
+        say(NAME, f"after {count_text(turns + self.every, 'commit')} the run can't be cut ({why}); {rest}.")
         return commits
 
     def need(self, command: str, image: bytes, commits: int, statuses: set[int]) -> bytes:
@@ -86,13 +86,13 @@ class Resumption:
     def need_status(self, command: str, status: int, written: bytes, statuses: set[int]) -> bytes:
         if status not in statuses:
             text = written[:200].decode("utf-8", "backslashreplace").strip()
-            raise Refused(f"`{command}` ended with status {status}{f' and said `{text}`' if text else ''}.")
+            raise Refusal(f"`{command}` ended with status {status}{f' and said `{text}`' if text else ''}.")
         return written
 
     def need_end(self, command: str, status: int, report: bytes) -> None:
         """Holds that a report ends as its status says, before it is kept."""
         if STATUSES.get(end_of(report)) != status:
-            raise Refused(f"`{command}` ended with status {status}, and with no such report.")
+            raise Refusal(f"`{command}` ended with status {status}, and with no such report.")
 
     def join(self) -> tuple[int, int]:
         """The pieces as one report, which is checked and kept."""
@@ -117,7 +117,7 @@ class Resumption:
         commits = turns if end_of(report) == "limit" else pieces.MOST_COMMITS
         status, told = self.call("check", image + report, max(commits, 1))
         if status != 0:
-            raise Refused(f"{what} was refused: {told.decode('ascii', 'replace').strip()}.")
+            raise Refusal(f"{what} was refused: {told.decode('ascii', 'replace').strip()}.")
 
 
 def show_progress(text: str) -> None:

@@ -5,7 +5,7 @@ import dataclasses
 import subprocess
 from collections.abc import Sequence
 
-from yotarimu.common.outcome import Refused
+from yotarimu.common.outcome import Refusal
 from yotarimu.programs.program import LAUNCHER
 
 
@@ -18,7 +18,7 @@ class Option:
     default: int
     purpose: str
 
-    def told(self) -> str:
+    def range_text(self) -> str:
         if isinstance(self.values, range):
             return f"{self.values[0]} to {self.values[-1]}"
         return f"one of {', '.join(map(str, self.values))}"
@@ -70,7 +70,7 @@ def table_lines() -> list[str]:
     try:
         done = subprocess.run([LAUNCHER, "table"], capture_output=True, text=True, check=True, stdin=subprocess.DEVNULL)
     except subprocess.CalledProcessError as error:
-        raise Refused(f"{LAUNCHER} tells no table: it ended with status {error.returncode}.") from None
+        raise Refusal(f"{LAUNCHER} tells no table: it ended with status {error.returncode}.") from None
     return done.stdout.splitlines()
 
 

@@ -5,7 +5,7 @@ from collections.abc import Sequence
 
 from yotarimu.common.files import FilePath
 from yotarimu.common.text import printable
-from yotarimu.courses.schedules import Said
+from yotarimu.courses.schedules import ActAnswer
 from yotarimu.images.image import DATA, STACK, TEXT, Image
 from yotarimu.images.listing import Listing
 from yotarimu.images.serial_machine import REGISTERS, Machine
@@ -38,7 +38,7 @@ def tree_lines(report: Report, machine: Machine, listing: Listing) -> list[str]:
     return lines
 
 
-def reply_lines(replies: Sequence[Said]) -> list[str]:
+def reply_lines(replies: Sequence[ActAnswer]) -> list[str]:
     """What the acts of a script were answered: each of a few, else how often which."""
     if not replies:
         return []
@@ -53,7 +53,7 @@ def reply_lines(replies: Sequence[Said]) -> list[str]:
     return [*lines, ""]
 
 
-def reply_text(said: Said) -> str:
+def reply_text(said: ActAnswer) -> str:
     back = f", {said.taken_back:,} taken back" if said.taken_back else ""
     return f"{said.reply}{meaning(said.reply)}{back}"
 
@@ -105,7 +105,7 @@ def end_lines(report: Report, machine: Machine, listing: Listing) -> list[str]:
 
 def state_lines(machine: Machine, listing: Listing, trap: Trap) -> list[str]:
     """The address and the registers of the trap, where running the task again comes to it."""
-    found = machine.trapped(trap)
+    found = machine.run_at_trap(trap)
     if not found:
         return []
     run, trapped = found
@@ -120,9 +120,9 @@ def state_lines(machine: Machine, listing: Listing, trap: Trap) -> list[str]:
 def address_text(listing: Listing, image: Image, address: int) -> str:
     """An address, with what is there."""
     if TEXT <= address < TEXT + len(image.text):
-        place = f"{listing.labelled(address)}, in the text"
+        place = f"{listing.address_text(address)}, in the text"
     elif DATA <= address < DATA + image.size:
-        place = f"{listing.labelled(address)}, in the data"
+        place = f"{listing.address_text(address)}, in the data"
     elif STACK <= address < STACK + image.limits.stack:
         place = "in the stack"
     elif image.limits.stack and STACK - BELOW_STACK <= address < STACK:
@@ -134,7 +134,7 @@ def address_text(listing: Listing, image: Image, address: int) -> str:
     return f"{address:08x}, {place}"
 
 
-def text_of(image_path: FilePath, image: Image, replies: Sequence[Said], report: Report, machine: Machine,
+def text_of(image_path: FilePath, image: Image, replies: Sequence[ActAnswer], report: Report, machine: Machine,
             listing: Listing) -> list[str]:
     """All that is told, for people."""
     return [image_line(image_path, image), f"{tasks_told(len(report.entries))}.", "", *reply_lines(replies),

@@ -8,7 +8,7 @@ from typing import Optional, TextIO, TypedDict
 
 from yotarimu.common.files import FilePath
 from yotarimu.common.text import printable
-from yotarimu.courses.schedules import Said
+from yotarimu.courses.schedules import ActAnswer
 from yotarimu.images.image import DATA
 from yotarimu.images.listing import Listing
 from yotarimu.images.serial_machine import REGISTERS, Machine
@@ -54,7 +54,7 @@ def other_run(report: Report, machine: Machine, lost: Optional[str]) -> Optional
     return None
 
 
-def all_of(image_path: FilePath, replies: Sequence[Said], report: Report, machine: Machine, listing: Listing,
+def all_of(image_path: FilePath, replies: Sequence[ActAnswer], report: Report, machine: Machine, listing: Listing,
            remarks: Sequence[str]) -> dict[str, object]:
     """All that is told, in lists, dictionaries, numbers and texts."""
     image = machine.image
@@ -88,7 +88,7 @@ def end_of(report: Report, machine: Machine, listing: Listing) -> dict[str, obje
     """The end of the run; of a trap all that is known."""
     if not report.trap:
         return {"kind": report.end}
-    trap, found = report.trap, machine.trapped(report.trap)
+    trap, found = report.trap, machine.run_at_trap(report.trap)
     meaning, usual = cause_told(trap.cause, machine.image.limits)
     told: dict[str, object] = {
         "kind": "trap", "cause": trap.cause, "meaning": meaning, "usually": usual, "pc": trap.pc,

@@ -6,7 +6,7 @@ import struct
 from collections.abc import Iterable, Sequence
 from typing import Optional
 
-from yotarimu.common.outcome import Refused
+from yotarimu.common.outcome import Refusal
 from yotarimu.common.text import printable
 from yotarimu.common.words import need_number, take_option
 from yotarimu.courses.schedules import NUMBERS
@@ -201,10 +201,10 @@ MOST_LINES = 2 ** 32
 def why(told: str, words: Sequence[str], data: bytes) -> str:
     found = re.fullmatch("fault (script|journal) ([1-9][0-9]{0,9})", told)
     if not found:
-        raise Refused(f"`{told[:40]}` isn't what the program says of a script or of a report.")
+        raise Refusal(f"`{told[:40]}` isn't what the program says of a script or of a report.")
     text, number = text_behind_image(data), need_number("LINE", found[2], 1, MOST_LINES)
     if text is None:
-        raise Refused("the input begins with no whole image.")
+        raise Refusal("the input begins with no whole image.")
     line, what = line_of(text, number), "report" if found[1] == "journal" else "script"
     if found[1] == "journal":
         fault: Optional[str] = report_fault(text, number)

@@ -6,7 +6,7 @@ import re
 from typing import NoReturn, Optional
 
 from yotarimu.common.files import FilePath
-from yotarimu.common.outcome import Refused
+from yotarimu.common.outcome import Refusal
 
 NUMBER = "([0-9]{1,10})"
 # From 1 to 16.
@@ -66,7 +66,7 @@ class Lines:
         return self.take(pattern) or self.refuse(f"{what} is wanted")
 
     def refuse(self, why: str) -> NoReturn:
-        raise Refused(f"{self.name}:{self.taken + 1}: this is no report: {why}.")
+        raise Refusal(f"{self.name}:{self.taken + 1}: this is no report: {why}.")
 
 
 def read_report(text: str, name: FilePath, start: int = 0) -> Report:

@@ -47,7 +47,7 @@ class Place {
 }
 
 /** A sentence on a line of a source. */
-function refuseLine(place, why) { throw new Refused(`${place.told}: ${why}.`); }
+function refuseLine(place, why) { throw new Refusal(`${place.told}: ${why}.`); }
 
 // ---- words of instructions
 

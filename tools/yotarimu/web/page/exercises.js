@@ -30,7 +30,7 @@ async function runOf(image) {
 async function playedOf(image, acts, words) {
   const {output} = await machines.call("sim", words, withBehind(image, scriptText(acts)));
   const text = new TextDecoder().decode(output);
-  if (text.startsWith("fault")) throw new Refused(`The program refused it: ${text.trim()}.`);
+  if (text.startsWith("fault")) throw new Refusal(`The program refused it: ${text.trim()}.`);
   const said = text.split("\n").slice(0, acts.length).map((line) => line.split(" "));
   return {said: said.map(([reply, count]) => ({reply, count: Number(count)})), report: reportRead(text)};
 }
@@ -44,7 +44,7 @@ async function judgeJournal({image}, answer) {
                   .filter(([, fields]) => fields.length);
   const odd = given.find(([, fields]) => fields.length !== texts.fields.length);
   if (odd)
-    throw new Refused(`Line ${odd[0]}: ${filled(texts.misshapen, {text: odd[1].join(" ").slice(0, MOST_SHOWN)})}.`);
+    throw new Refusal(`Line ${odd[0]}: ${filled(texts.misshapen, {text: odd[1].join(" ").slice(0, MOST_SHOWN)})}.`);
   const {entries, output} = await runOf(image);
   given.slice(0, entries.length).forEach(([line, fields], place) => {
     const wrong = texts.fields.filter((_, field) => fields[field] !== entries[place][field]);

@@ -10,12 +10,12 @@ const actWords = {dispatch: 1, step: 2, take: 2, give: 2, abort: 1, commit: 0, c
 // Replies to what nothing asked for, in rounds.
 const NOT_ASKED_FOR = ["empty", "busy", "stale", "ended"];
 
-let machines, telling = new Telling();
+let machines, toldRun = new ToldRun();
 let subject = {name: "", image: new Uint8Array(0), listing: [], labels: new Labels([])};
 let script = [], undoLengths = [], lastOptions = null;
 
 /** What can't be done: its text is the sentence for the person. */
-class Refused extends Error {}
+class Refusal extends Error {}
 
 const tell = (sentence) => { at("message").textContent = sentence; };
 
@@ -41,8 +41,8 @@ function perform(action) {
 }
 
 function failureTold(error) {
-  if (error instanceof Refused) return error.message;
-  if (error instanceof Stopped) return "It was stopped, and nothing has changed.";
+  if (error instanceof Refusal) return error.message;
+  if (error instanceof Interruption) return "It was stopped, and nothing has changed.";
   return `The machine gave no answer: ${error.message}.`;
 }
 
@@ -90,11 +90,11 @@ function withBehind(image, text) {
 
 /** All that decides what is played, and what was told of it. */
 function stateNow() {
-  return {subject, script, telling, options: optionsNow(), course: courseNow()};
+  return {subject, script, toldRun, options: optionsNow(), course: courseNow()};
 }
 
 function setState(state) {
-  ({subject, script, telling} = state);
+  ({subject, script, toldRun} = state);
   setOptions(state.options);
   setCourse(state.course);
 }
@@ -108,25 +108,25 @@ async function play(place = Infinity) {
   const {status, output} = await machines.call("watch", words, input);
   const milliseconds = performance.now() - begin;
   const text = new TextDecoder().decode(output.subarray(0, 200));
-  if (text.startsWith('{"fault"')) throw new Refused(faultTold(JSON.parse(text.split("\n")[0])));
-  if (!output.length) throw new Refused(`${statusTold(status)}: status ${status}.`);
-  const had = telling.course, kept = await telling.take(output);
-  showAnswer({isNew: telling.course !== had, kept, place});
+  if (text.startsWith('{"fault"')) throw new Refusal(faultTold(JSON.parse(text.split("\n")[0])));
+  if (!output.length) throw new Refusal(`${statusTold(status)}: status ${status}.`);
+  const had = toldRun.course, kept = await toldRun.take(output);
+  showAnswer({isNew: toldRun.course !== had, kept, place});
   const size = `${plural(output.length, "byte")}, ${milliseconds.toFixed(0)} ms`;
   at("call").textContent
-    = `fractal watch ${words.join(" ")}: status ${status}, ${size}.${telling.end ? "" : brokenOff(status)}`;
+    = `fractal watch ${words.join(" ")}: status ${status}, ${size}.${toldRun.end ? "" : brokenOff(status)}`;
   lastOptions = {options: optionsNow(), course: courseNow()};
   clearTexts();
 }
 
 function showAnswer({isNew, kept, place}) {
-  ({course} = telling);
-  const sayer = new Sayer(telling.head, subject.labels);
+  ({course} = toldRun);
+  const sayer = new Sayer(toldRun.head, subject.labels);
   saying = (act, before, behind) => sentenceAt(sayer, act, before, behind);
   lastShown = null;
   if (isNew) {
     build(subject.listing);
-    buildPlaces(telling.head);
+    buildPlaces(toldRun.head);
   } else if (kept !== course.length || at("slider").max !== String(course.length)) {
     buildCurves();
   }
@@ -137,7 +137,7 @@ function showAnswer({isNew, kept, place}) {
 
 function sentenceAt(sayer, act, before, behind) {
   const told = act === 0 ? sayer.opening() : sayer.sentence(course.acts[act - 1], before, behind);
-  return act === course.length && telling.end ? `${told} ${sayer.end(telling.end)}` : told;
+  return act === course.length && toldRun.end ? `${told} ${sayer.end(toldRun.end)}` : told;
 }
 
 /** Tries a change of what is played; where that is refused, it is taken back. */
@@ -230,7 +230,7 @@ function runMany(count) {
       setCourse({kind: "steps"});
     });
     await dropReplies(before, ["ended"]);
-    if (script.length === before) throw new Refused("The run is over, so no event is left.");
+    if (script.length === before) throw new Refusal("The run is over, so no event is left.");
   });
 }
 
@@ -243,14 +243,14 @@ function runRounds(count) {
       ...each(tiles, (tile) => [`dispatch ${tile}`, ...each(cores, (core) => `step ${tile} ${core}`)]).flat(),
       ...each(tiles, () => "commit"), ...each(tiles, (tile) => `split ${tile}`)
     ];
-    if (count * round.length > 200000) throw new Refused("So many rounds at once are too many; make fewer.");
+    if (count * round.length > 200000) throw new Refusal("So many rounds at once are too many; make fewer.");
     await change(() => {
       undoLengths.push(script.length);
       script = [...actsSoFar(), ...Array(count).fill(round).flat()];
       setCourse({kind: "steps"});
     });
     await dropReplies(before, NOT_ASKED_FOR);
-    if (script.length === before) throw new Refused("Nothing is left to do in a round.");
+    if (script.length === before) throw new Refusal("Nothing is left to do in a round.");
   });
 }
 
@@ -264,8 +264,8 @@ async function dropReplies(before, replies) {
 
 function undo(count) {
   return perform(() => {
-    if (courseNow().kind !== "steps") throw new Refused("The machine made these acts; choose another course.");
-    if (!script.length) throw new Refused("No act is left to undo.");
+    if (courseNow().kind !== "steps") throw new Refusal("The machine made these acts; choose another course.");
+    if (!script.length) throw new Refusal("No act is left to undo.");
     return change(() => { script = script.slice(0, Math.max(0, script.length - count)); });
   });
 }
@@ -289,7 +289,7 @@ function doTyped() {
 function addTyped(text) {
   const [word, ...numbers] = text.split(" ");
   const isAct = Object.hasOwn(actWords, word) && numbers.length === actWords[word];
-  return isAct ? addActs([text]) : perform(() => { throw new Refused(actFault(text)); });
+  return isAct ? addActs([text]) : perform(() => { throw new Refusal(actFault(text)); });
 }
 
 // ---- what is opened
@@ -305,7 +305,7 @@ function open({name, image, listing = [], acts = [], options = {}, course: wante
     undoLengths = [];
     setOptions(options);
     setCourse(wanted);
-    telling = new Telling();
+    toldRun = new ToldRun();
   }, place);
 }
 
@@ -331,7 +331,7 @@ function wordsRead(words) {
 async function openFiles(files) {
   const large = files.find((file) => file.size > MOST_INPUT);
   if (large) {
-    throw new Refused(`${large.name} has ${plural(large.size, "byte")}; an image and its script have at most `
+    throw new Refusal(`${large.name} has ${plural(large.size, "byte")}; an image and its script have at most `
       + `${MOST_INPUT.toLocaleString("en")}.`);
   }
   const read = await Promise.all(
@@ -451,5 +451,5 @@ function actOf(button) {
 function withCount(action) {
   const count = Number(at("count").value);
   if (Number.isInteger(count) && count >= 1 && count <= MOST_AT_ONCE) return action(count);
-  return perform(() => { throw new Refused(`N is 1 to ${MOST_AT_ONCE.toLocaleString("en")}.`); });
+  return perform(() => { throw new Refusal(`N is 1 to ${MOST_AT_ONCE.toLocaleString("en")}.`); });
 }

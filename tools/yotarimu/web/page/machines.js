@@ -4,7 +4,7 @@
 const MOST_OUTPUT = 32 << 20;
 
 /** A call that was stopped by a person. */
-class Stopped extends Error {}
+class Interruption extends Error {}
 
 /** Both programs, in a worker where the browser allows one for a file from a disk, else in the page's own thread. */
 class Machines {
@@ -63,7 +63,7 @@ class Machines {
   async stop() {
     if (!this.worker) return;
     this.worker.terminate();
-    for (const {reject} of this.waiting.values()) reject(new Stopped());
+    for (const {reject} of this.waiting.values()) reject(new Interruption());
     this.waiting.clear();
     await this.start();
   }

@@ -21,7 +21,7 @@ class Described {
     const window = this.seen.get("window");
     if (window) this.window = this.windowOf(window);
     if (!this.tasks.length)
-      throw new Refused("No line tells an initial task: `# image: task LABEL [ts N] [args A [B [C]]]`.");
+      throw new Refusal("No line tells an initial task: `# image: task LABEL [ts N] [args A [B [C]]]`.");
   }
 
   follow(it) {
@@ -129,8 +129,8 @@ function imageOf(assembly) {
   const textBytes = joined([own], Math.ceil(own.length / 4) * 4),
         data = bytesFrom(DATA_START, sectionsAs(assembly, [".data", ".sdata"]));
   if (textBytes.length / 4 > MOST_TEXT_WORDS)
-    throw new Refused(`${textBytes.length / 4} words of text are more than an image may have.`);
-  if (told.tasks.length > MOST_TASKS) throw new Refused("These are more initial tasks than an image may have.");
+    throw new Refusal(`${textBytes.length / 4} words of text are more than an image may have.`);
+  if (told.tasks.length > MOST_TASKS) throw new Refusal("These are more initial tasks than an image may have.");
   const words = [textBytes.length / 4, data.length, told.dataBytes, ...told.window, told.tasks.length];
   const header = new DataView(new ArrayBuffer(HEADER_BYTES));
   [...MAGIC].forEach((sign, place) => header.setUint8(place, sign.charCodeAt(0)));

@@ -41,7 +41,7 @@ def empty() -> Counts:
             for title, names in ((CALLS_TABLE, COURSES), (ENDS_TABLE, ENDS), (TAKEN_TABLE, LISTED))}
 
 
-def missing(counts: Counts) -> list[str]:
+def missing_kinds(counts: Counts) -> list[str]:
     """The kinds that never came."""
     return [f"{title}: {name}" for title, names in counts.items() for name, times in names.items() if not times]
 

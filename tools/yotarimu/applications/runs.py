@@ -6,9 +6,9 @@ import time
 from typing import Sequence
 
 from yotarimu.applications.application import Problem
-from yotarimu.applications.making import Made
-from yotarimu.applications.memory import Memory, Wrong
-from yotarimu.common.outcome import Refused
+from yotarimu.applications.image import ApplicationImage
+from yotarimu.applications.memory import Memory, WrongMemory
+from yotarimu.common.outcome import Refusal
 from yotarimu.programs.calls import Calls
 from yotarimu.programs.comparison import answer_of
 from yotarimu.programs.final_memory import memory_left
@@ -23,19 +23,19 @@ class Run:
     check_seconds: float
 
 
-def run(calls: Calls, made: Made, options: Sequence[str]) -> Run:
+def run(calls: Calls, made: ApplicationImage, options: Sequence[str]) -> Run:
     """Runs an image, and has its report checked."""
     start = time.monotonic()
     status, report = calls.call(["run", *options], made.image)
     seconds = time.monotonic() - start
     if end_of(report) != "normal":
         how = f"`end {end_of(report)}`" if end_of(report) else f"with status {status}"
-        raise Refused(f"the run ended otherwise: {how}.")
+        raise Refusal(f"the run ended otherwise: {how}.")
     start = time.monotonic()
     commits = commits_of(report)
     judged = answer_of(calls, ["check", *options], made.image + report)
     if judged != b"check ok %d\n" % commits:
-        raise Refused(f"the report is refused: {judged.decode('ascii', 'replace').strip()}.")
+        raise Refusal(f"the report is refused: {judged.decode('ascii', 'replace').strip()}.")
     return Run(commits, seconds, time.monotonic() - start)
 
 
@@ -45,12 +45,12 @@ def commits_of(report: bytes) -> int:
     return int(number) if number.isdigit() else 0
 
 
-def check(first: Calls, second: Calls, made: Made, problem: Problem) -> str:
+def check(first: Calls, second: Calls, made: ApplicationImage, problem: Problem) -> str:
     """Holds the memory that a run leaves against plain programs, and says what was found right."""
     left = memory_left(first.program, second, made.image)
     if left.end != "normal":
-        raise Refused(f"the run ended otherwise: {left.end}.")
+        raise Refusal(f"the run ended otherwise: {left.end}.")
     try:
         return problem.check(Memory(left.data, made.places))
-    except Wrong as wrong:
-        raise Refused(f"what the run left is wrong: {wrong}.") from None
+    except WrongMemory as wrong:
+        raise Refusal(f"what the run left is wrong: {wrong}.") from None

@@ -16,7 +16,7 @@ from yotarimu.debugger.packets import Connection
 from yotarimu.debugger.target import PC, TOLD_AT_STOPS, WORD_BYTES, Signal, signal_of
 from yotarimu.debugger.track import Core, Position, Touch, Track
 from yotarimu.images.image import DATA, STACK
-from yotarimu.images.serial_machine import Trapped
+from yotarimu.images.serial_machine import TaskTrap
 
 # gdb may ask to stop after so many instructions.
 LOOK_EVERY = 4_096
@@ -46,7 +46,7 @@ class Watch:
         is_kind = self.kind == EITHER or self.kind == (WRITTEN if touch.is_store else READ)
         return is_kind and self.address < touch.address + touch.width and touch.address < self.address + self.count
 
-    def told(self) -> str:
+    def sentence(self) -> str:
         return f"{WATCHES[self.kind]}:{self.address:x};"
 
 
@@ -86,7 +86,7 @@ class Here:
         return self.track.bytes_at(address, count, bytes(self.track.core.stack))
 
 
-class Going:
+class Movement:
     """Goes along a track, with breakpoints and watchpoints."""
 
     def __init__(self, track: Track, connection: Connection) -> None:
@@ -115,7 +115,7 @@ class Going:
             is_first = False
             try:
                 self.track.advance()
-            except Trapped as trapped:
+            except TaskTrap as trapped:
                 self.connection.say(self.track.trap_told(trapped))
                 return Stop(signal_of(trapped.cause))
             if order.is_step and not (self.track.core.is_over and not order.is_alone) and self.is_done(order):
@@ -144,8 +144,8 @@ class Going:
         core = self.track.core
         if not is_first and core.pc in self.breaks and not order.is_alone and self.is_break():
             return Stop(Signal.TRAP)
-        if self.watches and (watch := self.watched(core.coming())):
-            return Stop(Signal.TRAP, watch.told())
+        if self.watches and (watch := self.watch_of(core.next_access())):
+            return Stop(Signal.TRAP, watch.sentence())
         return None if order.is_alone else self.notice()
 
     def is_done(self, order: Order) -> bool:
@@ -169,7 +169,7 @@ class Going:
         except conditions.Unknown:
             return True
 
-    def watched(self, touch: Optional[Touch]) -> Optional[Watch]:
+    def watch_of(self, touch: Optional[Touch]) -> Optional[Watch]:
         """What is watched of an access."""
         return next((watch for watch in self.watches.values() if watch.is_met(touch)), None) if touch else None
 
@@ -199,9 +199,9 @@ class Going:
         if track.is_changed:
             track.go_to(Position(track.stretch, min(track.position.done, track.stretches[track.stretch].length)))
             return Stop(Signal.TRAP)
-        watch = self.watched(track.core.touched) if thread == track.thread else None
+        watch = self.watch_of(track.core.touched) if thread == track.thread else None
         if watch is not None:
-            return Stop(Signal.TRAP, watch.told())
+            return Stop(Signal.TRAP, watch.sentence())
         position = track.before(thread)
         if position is None:
             return self.at_begin(thread)
@@ -240,8 +240,8 @@ class Going:
         found: Union[tuple[int, str], None] = (0, "") if limit and self.is_break() else None
         for done in range(1, limit + 1):
             track.advance()
-            if watch := self.watched(track.core.touched):
-                found = done, watch.told()
+            if watch := self.watch_of(track.core.touched):
+                found = done, watch.sentence()
             elif done < limit and self.is_break():
                 found = done, ""
         if found is None:

@@ -3,9 +3,9 @@
 import {createInterface} from "node:readline";
 
 async function toldOf({text, listing}) {
-  const telling = new Telling();
-  await telling.take(new TextEncoder().encode(text));
-  const {course, head, end} = telling, sayer = new Sayer(head, new Labels(listing ? listingRows(listing) : []));
+  const toldRun = new ToldRun();
+  await toldRun.take(new TextEncoder().encode(text));
+  const {course, head, end} = toldRun, sayer = new Sayer(head, new Labels(listing ? listingRows(listing) : []));
   const told = [sayer.opening()];
   for (let place = 1; place <= course.length; place++) {
     told.push(sayer.sentence(course.acts[place - 1], course.at(place - 1), course.at(place)));

@@ -5,17 +5,17 @@ import dataclasses
 import pathlib
 from typing import Iterator, Optional
 
-from yotarimu.common.outcome import Refused
+from yotarimu.common.outcome import Refusal
 from yotarimu.images.compiler import CLANG, FOR_DEBUGGING, GCC
-from yotarimu.images.description import described
+from yotarimu.images.description import describe
 from yotarimu.images.folder import DEBUG_FOLDER
 from yotarimu.images.image import TEXT, Image, image_bytes
 from yotarimu.images.listing import Listing, listing_of
-from yotarimu.images.source import SUFFIXES, Assembled, Source, assemble, sources_in
+from yotarimu.images.source import SUFFIXES, Assembly, Source, assemble, sources_in
 
 
 @dataclasses.dataclass(frozen=True)
-class Linked:
+class LinkedFile:
     """A linked file, and the listing of the same sources."""
     data: bytes
     listing: Listing
@@ -28,27 +28,27 @@ def source_folder(image_path: pathlib.Path) -> Optional[pathlib.Path]:
     return next((it for it in folders if any(path.suffix in SUFFIXES for path in it.iterdir())), None)
 
 
-def linked_for(image: Image, folder: pathlib.Path) -> Linked:
+def linked_file_for(image: Image, folder: pathlib.Path) -> LinkedFile:
     """The linked file of sources that make exactly this image; else a refusal."""
     sources, wanted = sources_in(folder), image_bytes(image)
     first: Optional[Image] = None
     for assembled in attempts(sources):
-        made = described(sources, assembled)
+        made = describe(sources, assembled)
         if image_bytes(made) == wanted:
-            return Linked(assembled.linked, listing_of(sources, assembled))
+            return LinkedFile(assembled.linked, listing_of(sources, assembled))
         first = first or made
-    raise Refused(f"{folder}: these sources make another image: {difference(image, first)}; ./fractal build makes it "
+    raise Refusal(f"{folder}: these sources make another image: {difference(image, first)}; ./fractal build makes it "
                   "anew.")
 
 
-def attempts(sources: list[Source]) -> Iterator[Assembled]:
+def attempts(sources: list[Source]) -> Iterator[Assembly]:
     """What the sources may have been made by: assembly in one way, C by either compiler, and by gcc for debugging."""
     yield assemble(sources, GCC)
     if any(source.is_compiled for source in sources):
         yield assemble(sources, GCC, FOR_DEBUGGING)
         try:
             by_clang = assemble(sources, CLANG)
-        except Refused:
+        except Refusal:
             # It isn't there, or can't link them.
             return
         yield by_clang

@@ -8,8 +8,8 @@ from typing import Any, Dict, Iterator, List, TextIO
 
 from yotarimu.images.image import Image
 from yotarimu.images.listing import Listing
-from yotarimu.lines.causes import Cause, Kind, Telling, causes_of
-from yotarimu.lines.reader import open_watched
+from yotarimu.lines.causes import Cause, Kind, CauseSentences, causes_of
+from yotarimu.lines.reader import open_lines
 from yotarimu.lines.sentences import label_of
 
 # So many are told as text; of more than that it says how many more they are.
@@ -21,7 +21,7 @@ KINDS = {Kind.ACCESS: "met by the access itself", Kind.CHILD: "child of one of t
 
 
 @dataclasses.dataclass(frozen=True)
-class TakenBack:
+class TakenRow:
     """A task that an event took back, and why. `shares` is what it shares with what took it, `root` the word of the
     event behind it all, and `root_shares` what the way there shares at its widest."""
     event: int
@@ -43,16 +43,16 @@ class Run:
     """The tasks that a run took back, from its lines."""
 
     def __init__(self, path: str, image: Image, listing: Listing) -> None:
-        self.path, self.found = path, list(taken_back(path, image, listing, self))
+        self.path, self.found = path, list(taken_rows(path, image, listing, self))
 
     # What the lines' last one tells.
     end: Dict[str, Any]
 
 
-def taken_back(path: str, image: Image, listing: Listing, run: Run) -> Iterator[TakenBack]:
-    with open_watched(path, image=image) as watched:
+def taken_rows(path: str, image: Image, listing: Listing, run: Run) -> Iterator[TakenRow]:
+    with open_lines(path, image=image) as watched:
         line_size = watched.head["line"]
-        telling = Telling(label_of, line_size, listing)
+        telling = CauseSentences(label_of, line_size, listing)
         for told in watched:
             if told.taken:
                 for cause in causes_of(told, line_size):
@@ -60,10 +60,10 @@ def taken_back(path: str, image: Image, listing: Listing, run: Run) -> Iterator[
         run.end = watched.end or {}
 
 
-def row_of(cause: Cause, event: int, telling: Telling) -> TakenBack:
+def row_of(cause: Cause, event: int, telling: CauseSentences) -> TakenRow:
     task, root = cause.task, cause.root
-    return TakenBack(
-        event=event, task=label_of(task), label=telling.listing.labelled(task.entry), timestamp=task.timestamp,
+    return TakenRow(
+        event=event, task=label_of(task), label=telling.listing.address_text(task.entry), timestamp=task.timestamp,
         work=cause.taken.work, is_discarded=cause.taken.is_gone, kind=cause.kind.value,
         shares=cause.meeting.sharing.word if cause.meeting else "", by=label_of(cause.by) if cause.by else "",
         root=root.event, root_task=label_of(root.task), root_shares=cause.sharing.word, why=telling.sentence(cause))
@@ -113,7 +113,7 @@ def plain_rows(run: Run) -> List[Dict[str, Any]]:
 
 def write_rows(run: Run, file: TextIO) -> None:
     """Each task that was taken back as a row of CSV."""
-    names = [field.name for field in dataclasses.fields(TakenBack)]
+    names = [field.name for field in dataclasses.fields(TakenRow)]
     sink = csv.writer(file, lineterminator="\n")
     sink.writerow(names)
     for it in run.found:

@@ -6,7 +6,7 @@ import random
 from typing import Dict, List, Tuple
 
 from yotarimu.debugger.track import Track, Position
-from yotarimu.images.serial_machine import Trapped
+from yotarimu.images.serial_machine import TaskTrap
 
 from tries.place import expect
 
@@ -21,7 +21,7 @@ def state_of(track: Track) -> State:
             track.thread)
 
 
-def forth(track: Track) -> Dict[Position, State]:
+def states_forth(track: Track) -> Dict[Position, State]:
     """The state at each position, in their order."""
     states: Dict[Position, State] = {}
     track.go_to(Position(0, 0))
@@ -33,13 +33,13 @@ def forth(track: Track) -> Dict[Position, State]:
             continue
         try:
             track.advance()
-        except Trapped:
+        except TaskTrap:
             return states
 
 
 def goes_both_ways(track: Track, name: str, seed: int = 1) -> int:
     """Holds a track to be the same each way; how many positions it has."""
-    states = forth(track)
+    states = states_forth(track)
     order: List[Position] = list(states)
     for position in reversed(order):
         track.go_to(position)

@@ -8,7 +8,7 @@ from __future__ import annotations
 
 import re
 
-from yotarimu.common.outcome import Refused
+from yotarimu.common.outcome import Refusal
 
 TARGET = "wasm64-unknown-unknown"
 KNOWN_TRIPLE = "x86_64-unknown-linux-gnu"
@@ -32,7 +32,7 @@ KNOWN = frozenset("""
 """.split())
 
 
-def retargeted(text: str, name: str) -> str:
+def retarget(text: str, name: str) -> str:
     """The module's text for WebAssembly, or a refusal that names what isn't known."""
     need_known(text, name)
     text = text.replace(f'target datalayout = "{KNOWN_LAYOUT}"', f'target datalayout = "{LAYOUT}"', 1)
@@ -46,17 +46,17 @@ def need_known(text: str, name: str) -> None:
     for what, known in (("datalayout", KNOWN_LAYOUT), ("triple", KNOWN_TRIPLE)):
         found = re.search(rf'^target {what} = "([^"]*)"', text, re.MULTILINE)
         if found is None or found[1] != known:
-            raise Refused(f"{name}: its {what} is `{found[1] if found else ''}`, which isn't known to this builder.")
+            raise Refusal(f"{name}: its {what} is `{found[1] if found else ''}`, which isn't known to this builder.")
     if "\nmodule asm " in text:
-        raise Refused(f"{name}: it has assembly of its own, which has no meaning in WebAssembly.")
+        raise Refusal(f"{name}: it has assembly of its own, which has no meaning in WebAssembly.")
     if found := next((it for it in ASSEMBLY.finditer(text) if it[1]), None):
-        raise Refused(f"{name}: it has the inline assembly `{found[1]}`, which has no meaning in WebAssembly.")
+        raise Refusal(f"{name}: it has the inline assembly `{found[1]}`, which has no meaning in WebAssembly.")
     if found := OTHER_TYPES.search(text):
-        raise Refused(f"{name}: it uses `{found[1]}`, which WebAssembly hasn't.")
+        raise Refusal(f"{name}: it uses `{found[1]}`, which WebAssembly hasn't.")
     declared = {it[1].strip('"') for it in DECLARED.finditer(text)}
     unknown = sorted(it for it in declared if not is_known(it))
     if unknown:
-        raise Refused(f"{name}: it calls {', '.join(unknown)}, which the shim for WebAssembly hasn't.")
+        raise Refusal(f"{name}: it calls {', '.join(unknown)}, which the shim for WebAssembly hasn't.")
 
 
 def is_known(function: str) -> bool:

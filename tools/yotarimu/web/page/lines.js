@@ -6,7 +6,7 @@ const MOST_MILLISECONDS = 40;
 const pause = () => new Promise((resolve) => setTimeout(resolve));
 
 /** A run as it was told last. */
-class Telling {
+class ToldRun {
   constructor() { this.forget(); }
 
   forget() {

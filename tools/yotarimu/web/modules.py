@@ -9,14 +9,14 @@ import subprocess
 from typing import Dict, Optional
 
 from yotarimu.common.files import read_bytes, read_text, write_whole
-from yotarimu.common.outcome import Refused
+from yotarimu.common.outcome import Refusal
 from yotarimu.common.places import EXAMPLES_FOLDER, HOME
 from yotarimu.programs.program import LAUNCHER
 from yotarimu.programs.table import table_lines
-from yotarimu.web.bundling import command_line, live_page
-from yotarimu.web.keeping import module_of, toolchain
-from yotarimu.web.linking import Tools, linked
-from yotarimu.web.showing import examples_in
+from yotarimu.web.bundle import command_line, live_page
+from yotarimu.web.toolchain import module_of, toolchain
+from yotarimu.web.linker import Tools, link
+from yotarimu.web.examples import examples_in
 
 # What a file calls each program, and its crate.
 PROGRAMS = {"sim": "fractal_sim", "watch": "fractal_watch"}
@@ -53,7 +53,7 @@ def make_modules() -> None:
     tools = Tools(toolchain().compiler)
     for crate in PROGRAMS.values():
         commit = commit_now()
-        module = linked(module_of(crate, HOME), crate, tools)
+        module = link(module_of(crate, HOME), crate, tools)
         write_whole({module_path(crate): module, commit_path(crate): f"{commit}\n".encode()})
         print(f"{module_path(crate)}: {len(module):,} bytes")
 
@@ -62,17 +62,17 @@ def modules() -> Modules:
     """The modules that were made here."""
     for crate in PROGRAMS.values():
         if not module_path(crate).is_file() or not commit_path(crate).is_file():
-            raise Refused(f"{module_path(crate)} isn't there; ./fractal prove --web makes it, of what is proved.")
+            raise Refusal(f"{module_path(crate)} isn't there; ./fractal prove --web makes it, of what is proved.")
     commits = {read_text(commit_path(crate)).strip() for crate in PROGRAMS.values()}
     if len(commits) > 1:
-        raise Refused("the two modules are of different commits; ./fractal prove --web makes both anew.")
+        raise Refusal("the two modules are of different commits; ./fractal prove --web makes both anew.")
     return Modules({name: read_bytes(module_path(crate)) for name, crate in PROGRAMS.items()}, commits.pop())
 
 
 def page_text(found: Modules) -> str:
     page = live_page(found.programs, "\n".join(table_lines()), found.commit, examples_in(EXAMPLES_FOLDER))
     if len(page.encode()) > MOST_BYTES:
-        raise Refused(f"the page would have {len(page.encode()):,} bytes, and at most {MOST_BYTES:,} are to be.")
+        raise Refusal(f"the page would have {len(page.encode()):,} bytes, and at most {MOST_BYTES:,} are to be.")
     return page
 
 
@@ -83,7 +83,7 @@ def command_text(found: Modules) -> str:
 def make_files(folder: pathlib.Path) -> None:
     """Writes the page and the command into a folder."""
     if not folder.is_dir():
-        raise Refused(f"{folder}: there is no such folder.")
+        raise Refusal(f"{folder}: there is no such folder.")
     found = modules()
     files = {folder / PAGE: page_text(found).encode(), folder / COMMAND: command_text(found).encode()}
     write_whole(files)
@@ -94,7 +94,7 @@ def make_files(folder: pathlib.Path) -> None:
 def difference(path: pathlib.Path) -> Optional[str]:
     """Where a page isn't the one that would be made now, in a sentence; the commit that each tells may differ."""
     if not path.is_file():
-        raise Refused(f"{path}: there is no such page.")
+        raise Refusal(f"{path}: there is no such page.")
     there, now = (COMMIT.sub("", text).splitlines() for text in (read_text(path), page_text(modules())))
     for line in difflib.unified_diff(there, now, n=0, lineterm=""):
         if line[0] in "+-" and not line.startswith(("+++", "---")):

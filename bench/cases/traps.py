@@ -48,7 +48,7 @@ def store_range(chance: Chance, shape: Shape) -> Words:
                         [store(SW, SP, T0, 0)], [store(SW, SP, T0, -1_028)], [store(SB, ZERO, T0, 0)]))
 
 
-def broken(_chance: Chance, _shape: Shape) -> Words:
+def ebreak(_chance: Chance, _shape: Shape) -> Words:
     return [EBREAK]
 
 
@@ -98,5 +98,5 @@ def endless(chance: Chance, _shape: Shape) -> Words:
 
 
 PIECES: dict[int, Fragment] = dict(enumerate((
-    fetch, illegal, target, load_multiple, load_range, store_multiple, store_range, broken, bad_call, early,
+    fetch, illegal, target, load_multiple, load_range, store_multiple, store_range, ebreak, bad_call, early,
     no_subdomain, second_subdomain, no_superdomain, too_deep, too_many_children, too_many_bytes, endless), 1))

@@ -31,7 +31,7 @@ class Words:
         self.stores = [store for store in self.stores if store[0] not in tasks]
 
 
-class Told:
+class LinesText:
     """Lines as the second program tells them. Loads and stores are of words, and each store is of 9 unless told."""
 
     def __init__(self, timestamps: Sequence[int], where: Sequence[int], **settings: Any) -> None:

@@ -11,7 +11,7 @@ import subprocess
 import tempfile
 from typing import Iterator, Optional
 
-from yotarimu.common.outcome import Refused
+from yotarimu.common.outcome import Refusal
 from yotarimu.debugger.packets import Connection
 from yotarimu.debugger.server import Server
 from yotarimu.debugger.track import Track
@@ -28,15 +28,15 @@ SECONDS_BETWEEN = 0.2
 SIGNALLED = 128
 
 
-def found_gdb(named: Optional[str]) -> str:
+def find_gdb(named: Optional[str]) -> str:
     """The gdb that is named, or the first that is installed."""
     names = [named] if named else list(GDBS)
     for name in names:
         if path := shutil.which(name):
             return path
     if named:
-        raise Refused(f"{named}: there is no such program.")
-    raise Refused(f"no gdb for RISC-V is in the path: {' or '.join(GDBS[:2])} is wanted (Debian's package "
+        raise Refusal(f"{named}: there is no such program.")
+    raise Refusal(f"no gdb for RISC-V is in the path: {' or '.join(GDBS[:2])} is wanted (Debian's package "
                   "gdb-multiarch has it); --port and --pipe serve one that is elsewhere.")
 
 
@@ -102,7 +102,7 @@ def listening_at(port: int) -> socket.socket:
     try:
         return socket.create_server((HOST, port))
     except OSError as error:
-        raise Refused(f"port {port}: {(error.strerror or str(error)).lower()}.") from None
+        raise Refusal(f"port {port}: {(error.strerror or str(error)).lower()}.") from None
 
 
 def serve_pipe(track: Track) -> None:

@@ -53,7 +53,7 @@ function checkTold(said, lines) {
 const TEXTS = {
   script: () => ["script", scriptText(actsSoFar())],
   report: () => ["report", at("report").value],
-  lines: () => ["lines", telling.bytes],
+  lines: () => ["lines", toldRun.bytes],
   image: () => ["image.bin", subject.image],
 };
 
@@ -126,7 +126,7 @@ async function openAddress() {
   if (!address || address === written) return false;
   const parts = new URLSearchParams(address), [kind, rounds, seed] = (parts.get("acts") ?? "steps").split(" ");
   if (!["steps", "least", "lockstep"].includes(kind))
-    throw new Refused("The address has acts of no kind that is known here.");
+    throw new Refusal("The address has acts of no kind that is known here.");
   const options
     = Object.fromEntries(optionRows.filter(([, name]) => parts.has(name)).map(([, name]) => [name, parts.get(name)]));
   const acts = parts.has("script") ? actsIn(new TextDecoder().decode(await read(parts.get("script")))) : [];
@@ -142,7 +142,7 @@ async function openAddress() {
 async function imageAt(parts) {
   const example = examples.find((it) => it.name === parts.get("example"));
   if (example) return {name: example.name, image: bytesOf(example.image), listing: listingRows(example.listing)};
-  if (!parts.get("image")) throw new Refused("The address names no example and has no image, so it isn't followed.");
+  if (!parts.get("image")) throw new Refusal("The address names no example and has no image, so it isn't followed.");
   return {name: parts.get("name") || "image", image: await read(parts.get("image"))};
 }
 
@@ -156,14 +156,14 @@ async function read(text) {
   try {
     return await unpackedText(text);
   } catch {
-    throw new Refused("The address isn't whole, so it isn't followed.");
+    throw new Refusal("The address isn't whole, so it isn't followed.");
   }
 }
 
 async function copyLink() {
   const address = await addressNow();
   if (address.length > MOST_ADDRESS) {
-    throw new Refused("Image and script are too long for an address; save them, and send the files.");
+    throw new Refusal("Image and script are too long for an address; save them, and send the files.");
   }
   const link = `${location.href.split("#")[0]}#${address}`;
   try {

@@ -16,7 +16,7 @@ def source(name: str) -> str:
     return (PAGE / name).read_text(encoding="utf-8")
 
 
-def packed(module: bytes) -> str:
+def pack(module: bytes) -> str:
     """A module by gzip and in base64; the same bytes give the same text."""
     return base64.b64encode(gzip.compress(module, 9, mtime=0)).decode("ascii")
 
@@ -39,7 +39,7 @@ def rows_of(table: str) -> List[List[str]]:
 def command_line(modules: Dict[str, bytes], table: str, commit: str) -> str:
     """`fractal.mjs`: both programs as a command for Node and Deno."""
     constants = (constant("table", rows_of(table)), constant("made", {"commit": commit}),
-                 constant("modules", {name: packed(module) for name, module in modules.items()}))
+                 constant("modules", {name: pack(module) for name, module in modules.items()}))
     return "".join(("#!/usr/bin/env node\n", *constants, *sources(("host.js", "command_line.js"))))
 
 
@@ -51,8 +51,8 @@ def sources(names: Sequence[str]) -> List[str]:
 
 # The sources of the page, in the order in which they name each other.
 SHARED = ("texts.js", "machine.js", "view.js")
-LIVE = ("telling.js", "images.js", "assembler.js", "assembling.js", "sources.js", "causes.js", "sentences.js",
-        "machines.js", "live.js", "keeping.js", "story.js", "exercises.js", "start.js")
+LIVE = ("lines.js", "images.js", "assembler.js", "sections.js", "sources.js", "causes.js", "sentences.js",
+        "machines.js", "live.js", "exports.js", "story.js", "exercises.js", "start.js")
 # What sentences are made of, for the tools too.
 TABLES = {"sentences": "common/sentences.json", "exercises": "courses/exercises.json", "story": "web/story.json"}
 
@@ -70,13 +70,13 @@ def script(text: str, name: str = "", kind: str = "") -> str:
 def live_page(modules: Dict[str, bytes], table: str, commit: str, examples: List[Dict[str, Any]]) -> str:
     """The page that has both programs inside."""
     values = {"table": rows_of(table), "made": {"commit": commit}, "examples": examples,
-              "modules": {name: packed(module) for name, module in modules.items()},
+              "modules": {name: pack(module) for name, module in modules.items()},
               **{name: table_at(path) for name, path in TABLES.items()}}
     scripts = [script("".join(constant(name, value) for name, value in values.items())),
                script(source("host.js"), "host-source"), script(source("worker.js"), "worker-source", "text/plain"),
                *(script(f'"use strict";\n\n{source(name)}') for name in (*SHARED, *LIVE))]
     parts = {"style": source("run.css") + source("live.css"), "run": source("run.html"), "scripts": "".join(scripts)}
-    return filled(source("live.html"), parts)
+    return fill(source("live.html"), parts)
 
 
 def recorded_page(title: str, values: Dict[str, str]) -> str:
@@ -86,9 +86,9 @@ def recorded_page(title: str, values: Dict[str, str]) -> str:
     scripts = (script(f'"use strict";\n\n{source(name)}') for name in (*SHARED, "recorded.js"))
     parts = {"title": title, "style": source("run.css"), "run": source("run.html"), "data": data,
              "scripts": "".join(scripts)}
-    return filled(source("recorded.html"), parts)
+    return fill(source("recorded.html"), parts)
 
 
-def filled(template: str, parts: Dict[str, str]) -> str:
+def fill(template: str, parts: Dict[str, str]) -> str:
     """A template with what stands there between percent signs filled in."""
     return re.sub(f"%({'|'.join(parts)})%", lambda found: parts[found[1]], template)

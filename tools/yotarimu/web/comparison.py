@@ -13,14 +13,14 @@ import sys
 import tempfile
 from typing import Any, Counter, Dict, Iterator, List, NamedTuple, Sequence
 
-from yotarimu.common.outcome import Refused
+from yotarimu.common.outcome import Refusal
 from yotarimu.common.places import EXAMPLES_FOLDER, HOME
 from yotarimu.programs.answers import all_answers
 from yotarimu.programs.cases import cases_of
 from yotarimu.programs.examples import EXAMPLES, SCHEDULES, words_of
 from yotarimu.programs.program import PROGRAM, SECOND_PROGRAM
-from yotarimu.web.bundling import source
-from yotarimu.web.making import PROGRAMS, module_path
+from yotarimu.web.bundle import source
+from yotarimu.web.modules import PROGRAMS, module_path
 
 ENGINE = "node"
 NATIVE = {"sim": PROGRAM, "watch": SECOND_PROGRAM}
@@ -36,7 +36,7 @@ class Answer(NamedTuple):
     output: bytes
 
 
-class Asked(NamedTuple):
+class Call(NamedTuple):
     """A call: the program, its words, its input."""
     program: str
     words: Sequence[str]
@@ -45,16 +45,16 @@ class Asked(NamedTuple):
     def has_workers(self) -> bool:
         return any(word.startswith("--workers") for word in self.words) and self.words[0] == "run"
 
-    def told(self) -> str:
+    def text(self) -> str:
         return f"{self.program} {' '.join(self.words)} on {len(self.data):,} bytes"
 
 
-def native_answer(asked: Asked) -> Answer:
+def native_answer(asked: Call) -> Answer:
     try:
         done = subprocess.run([NATIVE[asked.program], *asked.words], input=asked.data, capture_output=True, check=False,
                               timeout=MOST_SECONDS)
     except subprocess.TimeoutExpired:
-        raise Refused(f"{asked.told()}: the built program gave no answer within {MOST_SECONDS} seconds.") from None
+        raise Refusal(f"{asked.text()}: the built program gave no answer within {MOST_SECONDS} seconds.") from None
     return Answer(done.returncode, done.stdout)
 
 
@@ -64,14 +64,14 @@ class Engine:
     def __init__(self, modules: Dict[str, pathlib.Path]) -> None:
         engine = shutil.which(ENGINE)
         if engine is None:
-            raise Refused(f"{ENGINE} isn't in the path, which runs the modules here (Debian's package nodejs has it).")
+            raise Refusal(f"{ENGINE} isn't in the path, which runs the modules here (Debian's package nodejs has it).")
         self.folder = tempfile.TemporaryDirectory(prefix="fractal-calls-")
         script = pathlib.Path(self.folder.name, "calls.mjs")
         script.write_text(source("host.js") + source("../calls.js"), encoding="utf-8")
         words = [engine, str(script), *(f"{name}={path}" for name, path in modules.items())]
         self.process = subprocess.Popen(words, stdin=subprocess.PIPE, stdout=subprocess.PIPE)
 
-    def answer(self, asked: Asked) -> Answer:
+    def answer(self, asked: Call) -> Answer:
         told = self.ask({"program": asked.program, "words": list(asked.words),
                          "input": base64.b64encode(asked.data).decode("ascii")})
         return Answer(told["status"], base64.b64decode(told["output"]))
@@ -82,7 +82,7 @@ class Engine:
         self.process.stdin.flush()
         line = self.process.stdout.readline()
         if not line:
-            raise Refused(f"{ENGINE} ended with status {self.process.wait()}.")
+            raise Refusal(f"{ENGINE} ended with status {self.process.wait()}.")
         told: Dict[str, Any] = json.loads(line)
         return told
 
@@ -111,39 +111,39 @@ def stored_calls() -> Iterator[Any]:
         yield from cases_of(name)
 
 
-def schedule_calls() -> Iterator[Asked]:
+def schedule_calls() -> Iterator[Call]:
     """Each schedule told act by act, with views, and its image run by the machine's own acts."""
     for name in SCHEDULES:
         folder, words = EXAMPLES_FOLDER / name, words_of(name)
         image = (folder / "image.bin").read_bytes()
         script = (folder / "script").read_bytes()
-        yield Asked("watch", words, image + script)
-        yield Asked("watch", ("views", "1", *words), image + script)
-        yield Asked("watch", ("least", *words[1:]), image)
-        yield Asked("watch", ("lockstep", "50", "7", *words[1:]), image)
-        yield Asked("sim", ("run", "--workers", "2", *words[1:]), image)
+        yield Call("watch", words, image + script)
+        yield Call("watch", ("views", "1", *words), image + script)
+        yield Call("watch", ("least", *words[1:]), image)
+        yield Call("watch", ("lockstep", "50", "7", *words[1:]), image)
+        yield Call("sim", ("run", "--workers", "2", *words[1:]), image)
 
 
-def watched_too(call: Any) -> Iterator[Asked]:
+def watched_too(call: Any) -> Iterator[Call]:
     """The same input for the second program, where it is an image with a script."""
     if call.command == "steps":
-        yield Asked("watch", call.words, call.data)
-        yield Asked("watch", ("lockstep", "30", "5", *call.words[1:]), call.data)
+        yield Call("watch", call.words, call.data)
+        yield Call("watch", ("lockstep", "30", "5", *call.words[1:]), call.data)
 
 
-def generated(count: int, seed: int, say: Any) -> Iterator[Asked]:
+def generated_calls(count: int, seed: int, say: Any) -> Iterator[Call]:
     """The calls of so many cases of bench/same; what the built program says to a call is what `say` was told last."""
     sys.path.insert(0, str(HOME / "bench"))
     try:
         calls_of = importlib.import_module("cases.case").calls_of
     except ModuleNotFoundError:
-        raise Refused(f"{HOME / 'bench'}: the generator of calls isn't there: make a clone.") from None
+        raise Refusal(f"{HOME / 'bench'}: the generator of calls isn't there: make a clone.") from None
     for number in range(count):
         calls, said = calls_of(seed, number), None
         with contextlib.suppress(StopIteration):
             while True:
                 call = calls.send(said)
-                yield Asked("sim", call.words, call.data)
+                yield Call("sim", call.words, call.data)
                 said = say()
                 yield from watched_too(call)
 
@@ -151,7 +151,7 @@ def generated(count: int, seed: int, say: Any) -> Iterator[Asked]:
 # ---- how they are held
 
 
-class Held:
+class Comparison:
     """What came of the calls, and where the two first differ."""
 
     def __init__(self, running: Engine) -> None:
@@ -160,7 +160,7 @@ class Held:
         self.said = b""
         self.differences: List[str] = []
 
-    def hold(self, asked: Asked) -> None:
+    def hold(self, asked: Call) -> None:
         """Holds the module's answer against the built program's."""
         native, module = native_answer(asked), self.running.answer(asked)
         self.said = native.output
@@ -169,16 +169,16 @@ class Held:
         elif asked.has_workers() and self.is_accepted(asked, native) and self.is_accepted(asked, module):
             self.counts[ACCEPTED] += 1
         else:
-            self.differences.append(f"{asked.told()}: status {native.status} and {len(native.output):,} bytes, and of "
+            self.differences.append(f"{asked.text()}: status {native.status} and {len(native.output):,} bytes, and of "
                                     f"the module {module.status} and {len(module.output):,} bytes")
 
-    def is_accepted(self, asked: Asked, answer: Answer) -> bool:
+    def is_accepted(self, asked: Call, answer: Answer) -> bool:
         limits = [word for word in asked.words if word.startswith(LIMITS)]
-        return native_answer(Asked("sim", ("check", *limits), asked.data + answer.output)).status == 0
+        return native_answer(Call("sim", ("check", *limits), asked.data + answer.output)).status == 0
 
     def hold_stored(self, case: Any) -> None:
         """Holds the module's answer against what is stored."""
-        answer = self.running.answer(Asked("sim", case.words, case.given))
+        answer = self.running.answer(Call("sim", case.words, case.given))
         if answer == (case.status, case.text):
             self.counts["as stored"] += 1
         else:
@@ -186,17 +186,17 @@ class Held:
                                     "writes something else than what is stored")
 
 
-def held(count: int, seed: int) -> Held:
+def compare_all(count: int, seed: int) -> Comparison:
     """All of it, with so many generated cases."""
     for program in NATIVE.values():
         if not program.exists():
-            raise Refused(f"{program} isn't built; ./fractal prove proves and builds it.")
+            raise Refusal(f"{program} isn't built; ./fractal prove proves and builds it.")
     with engine({name: module_path(crate) for name, crate in PROGRAMS.items()}) as running:
-        outcome = Held(running)
+        outcome = Comparison(running)
         for case in stored_calls():
             outcome.hold_stored(case)
         for asked in schedule_calls():
             outcome.hold(asked)
-        for asked in generated(count, seed, lambda: outcome.said):
+        for asked in generated_calls(count, seed, lambda: outcome.said):
             outcome.hold(asked)
     return outcome

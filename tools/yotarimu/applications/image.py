@@ -11,7 +11,7 @@ from typing import Iterator, Mapping
 
 from yotarimu.applications.application import Application, Problem
 from yotarimu.applications.memory import Place
-from yotarimu.common.outcome import Refused
+from yotarimu.common.outcome import Refusal
 from yotarimu.common.places import HOME
 from yotarimu.images.compiler import need_compiler
 from yotarimu.images.folder import build
@@ -31,7 +31,7 @@ class Case:
     seed: int
 
     @property
-    def told(self) -> str:
+    def words_text(self) -> str:
         """The words that make it."""
         return f"{self.application.name} --size {self.size} --seed {self.seed}"
 
@@ -41,22 +41,22 @@ class Case:
 
 
 @dataclasses.dataclass(frozen=True)
-class Made:
+class ApplicationImage:
     """The bytes of an image, and where the variables of its sources stand in the data."""
     image: bytes
     places: Mapping[str, Place]
 
 
-def make(case: Case, problem: Problem, compiler: str, folder: pathlib.Path) -> Made:
+def make(case: Case, problem: Problem, compiler: str, folder: pathlib.Path) -> ApplicationImage:
     """Writes the sources of a case with their input into a folder, and builds the image there."""
     for source in case.application.sources:
         shutil.copyfile(FOLDER / source, folder / pathlib.Path(source).name)
-    for name, content in problem.input.files(f"./fractal applications make {case.told}").items():
+    for name, content in problem.input.files(f"./fractal applications make {case.words_text}").items():
         (folder / name).write_bytes(content)
     image, assembled = build(folder, compiler)
     places = {label.name: Place(label.address - DATA, label.size)
               for label in assembled.labels if label.section in VARIABLES}
-    return Made(image_bytes(image), places)
+    return ApplicationImage(image_bytes(image), places)
 
 
 def need_tools(compiler: str) -> None:
@@ -70,9 +70,9 @@ def whole_folder(folder: pathlib.Path) -> Iterator[pathlib.Path]:
     """A folder to write to, which gets its name once all of it is there. Where the name is taken already it is that of
     an empty folder."""
     if folder.is_symlink() or folder.exists() and (not folder.is_dir() or any(folder.iterdir())):
-        raise Refused(f"{folder}: it is there and not empty.")
+        raise Refusal(f"{folder}: it is there and not empty.")
     if not folder.absolute().parent.is_dir():
-        raise Refused(f"{folder}: it can't be made, since there is no folder {folder.absolute().parent}.")
+        raise Refusal(f"{folder}: it can't be made, since there is no folder {folder.absolute().parent}.")
     with tempfile.TemporaryDirectory(prefix=f".{folder.name}.", dir=folder.absolute().parent) as unfinished:
         inside = pathlib.Path(unfinished, folder.name)
         inside.mkdir()

@@ -7,26 +7,26 @@ from __future__ import annotations
 
 from typing import Any, Iterable, NamedTuple
 
-from yotarimu.common.outcome import Refused
+from yotarimu.common.outcome import Refusal
 from yotarimu.debugger.attempts import Attempt
 from yotarimu.debugger.track import MOST_STEPS, Memory, Position, Stretch
 from yotarimu.images.image import DATA, Image
 from yotarimu.lines.causes import causes_of
 from yotarimu.lines.legs import Core
-from yotarimu.lines.reader import open_watched
-from yotarimu.lines.replay import NOT_EXECUTED, Access, Task, Told
+from yotarimu.lines.reader import open_lines
+from yotarimu.lines.replay import NOT_EXECUTED, Access, Task, ToldLine
 
 Line = dict[str, Any]
 
 
-class Making(NamedTuple):
+class Origin(NamedTuple):
     """Where a child was made: by which attempt, the position before the call, and the call's address."""
     by: Attempt
     position: Position
     pc: int
 
 
-class Reading:
+class LegNotes:
     """What the lines tell, in the order of the legs: `stretches`, and of each the attempt that it is of (`owners`), how
     many instructions of that were executed before it (`starts`), and its event (`events`)."""
 
@@ -37,7 +37,7 @@ class Reading:
         self.starts: list[int] = []
         self.events: list[int] = []
         self.attempts: list[Attempt] = []
-        self.made: dict[Task, Making] = {}
+        self.made: dict[Task, Origin] = {}
         # Of positions the attempts that are taken back there, or the one that traps there.
         self.taken: dict[Position, list[Attempt]] = {}
         self.trapped: dict[Position, Attempt] = {}
@@ -48,7 +48,7 @@ class Reading:
         self.accesses: dict[int, Access] = {}
         self.steps, self.turns = 0, 0
         self.known: dict[frozenset[int], frozenset[int]] = {}
-        with open_watched(path, image=image) as watched:
+        with open_lines(path, image=image) as watched:
             self.head: Line = watched.head
             legs = watched.machine.legs
             self.cores: dict[Task, Core] = {} if legs is None else legs.cores
@@ -56,7 +56,7 @@ class Reading:
                 self.take(told)
         self.firsts = [stretch.first for stretch in self.stretches]
 
-    def take(self, told: Told) -> None:
+    def take(self, told: ToldLine) -> None:
         """Takes a line, once the reader has held it."""
         line, task = told.line, told.task
         if told.is_made and "asks" in line and task is not None:
@@ -84,7 +84,7 @@ class Reading:
         self.turns += 1
         attempt.gone, attempt.turn = Position(len(self.stretches), 0), self.turns
 
-    def leg(self, told: Told, task: Task, line: Line) -> None:
+    def leg(self, told: ToldLine, task: Task, line: Line) -> None:
         """Notes a leg, what its event takes back, and then the access or the call at its end."""
         attempt, first, number = self.running[task], len(self.memory.stores), len(self.stretches)
         length, pcs = line["leg"] + (line["asks"] not in NOT_EXECUTED), frozenset(self.cores[task].passed)
@@ -94,11 +94,11 @@ class Reading:
         if told.access is not None:
             self.access(attempt, told.access)
         elif told.arrived is not None:
-            self.made[told.arrived] = Making(attempt, Position(number, line["leg"]), line["pc"])
+            self.made[told.arrived] = Origin(attempt, Position(number, line["leg"]), line["pc"])
         elif line["asks"] == "trap":
             attempt.trap = line["cause"], line["pc"]
             self.trapped[Position(number, length)] = attempt
-        self.starts.append(attempt.executed)
+        self.starts.append(attempt.executed_count)
         attempt.note(number, length)
         self.owners.append(attempt)
         self.events.append(line["n"])
@@ -114,10 +114,10 @@ class Reading:
     def need_room(self, count: int) -> None:
         self.steps += count
         if self.steps > MOST_STEPS:
-            raise Refused(f"these are more than {MOST_STEPS:,} instructions, and no more are gone along; a run up to "
+            raise Refusal(f"these are more than {MOST_STEPS:,} instructions, and no more are gone along; a run up to "
                           "fewer --commits is shorter.")
 
-    def take_back(self, told: Told, here: Position, gone: Position) -> None:
+    def take_back(self, told: ToldLine, here: Position, gone: Position) -> None:
         """Undoes the stores of tasks, whose attempts are gone from a position on."""
         self.undo(access for taken in told.taken for access in taken.accesses)
         for cause in causes_of(told, self.head["line"]):

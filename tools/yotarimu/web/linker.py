@@ -7,9 +7,9 @@ import subprocess
 import tempfile
 from typing import List, Sequence
 
-from yotarimu.common.outcome import Refused
-from yotarimu.web.narrowing import narrowed
-from yotarimu.web.retargeting import KNOWN_TRIPLE, TARGET, retargeted
+from yotarimu.common.outcome import Refusal
+from yotarimu.web.wasm_tables import narrow
+from yotarimu.web.llvm_text import KNOWN_TRIPLE, TARGET, retarget
 
 HERE = pathlib.Path(__file__).resolve().parent
 SHIM = HERE / "shim.c"
@@ -34,10 +34,10 @@ class Tools:
         self.clang, self.linker = (toolchain / "bin" / name for name in ("clang", "ld.lld"))
         for tool in (self.clang, self.linker):
             if not tool.exists():
-                raise Refused(f"{tool}: the toolchain hasn't this, which makes modules for WebAssembly.")
+                raise Refusal(f"{tool}: the toolchain hasn't this, which makes modules for WebAssembly.")
         self.optimiser = shutil.which(OPTIMISER)
         if self.optimiser is None:
-            raise Refused(f"{OPTIMISER} isn't in the path (Debian's package binaryen has it).")
+            raise Refusal(f"{OPTIMISER} isn't in the path (Debian's package binaryen has it).")
         self.builtins = builtins_of()
 
     def run(self, tool: pathlib.Path, name: str, words: Sequence[str], folder: pathlib.Path) -> None:
@@ -46,7 +46,7 @@ class Tools:
                               errors="replace", stdin=subprocess.DEVNULL, check=False)
         if done.returncode:
             said = done.stderr.strip().splitlines()
-            raise Refused(f"{name} ended with status {done.returncode}: {said[0] if said else 'it said nothing'}.")
+            raise Refusal(f"{name} ended with status {done.returncode}: {said[0] if said else 'it said nothing'}.")
 
     def compile(self, words: Sequence[str], folder: pathlib.Path) -> None:
         self.run(self.clang, "clang", words, folder)
@@ -58,7 +58,7 @@ def builtins_of() -> pathlib.Path:
     for pattern in BUILTINS_IN:
         found += pathlib.Path("/").glob(f"{pattern[1:]}/{BUILTINS}")
     if not found:
-        raise Refused(f"{BUILTINS} isn't there (Debian's package libclang-rt-dev-wasm64 has it).")
+        raise Refusal(f"{BUILTINS} isn't there (Debian's package libclang-rt-dev-wasm64 has it).")
     return max(found, key=version_in)
 
 
@@ -66,7 +66,7 @@ def version_in(path: pathlib.Path) -> List[int]:
     return [int(part) for part in path.parts if part.isdigit()]
 
 
-def linked(module: bytes, name: str, tools: Tools) -> bytes:
+def link(module: bytes, name: str, tools: Tools) -> bytes:
     """The WebAssembly module of a program, from the LLVM module that the toolchain made of it."""
     with tempfile.TemporaryDirectory(prefix="fractal-web-") as place:
         folder = pathlib.Path(place)
@@ -74,11 +74,11 @@ def linked(module: bytes, name: str, tools: Tools) -> bytes:
         tools.compile([f"--target={KNOWN_TRIPLE}", "--no-default-config", "-S", "-emit-llvm", "-x", "ir", "module.bc",
                        "-o", "x86.ll", "-Xclang", "-disable-llvm-passes"], folder)
         text = (folder / "x86.ll").read_text(encoding="utf-8")
-        (folder / "wasm.ll").write_text(retargeted(text, name), encoding="utf-8")
+        (folder / "wasm.ll").write_text(retarget(text, name), encoding="utf-8")
         tools.compile([*FEATURES, *CODE, "-c", "-x", "ir", "wasm.ll", "-o", "program.o"], folder)
         tools.compile([*FEATURES, *SHIM_CODE, "-c", str(SHIM), "-o", "shim.o"], folder)
         tools.run(tools.linker, "wasm-ld", linker_words(tools), folder)
-        (folder / "narrow.wasm").write_bytes(narrowed((folder / "wide.wasm").read_bytes()))
+        (folder / "narrow.wasm").write_bytes(narrow((folder / "wide.wasm").read_bytes()))
         tools.run(pathlib.Path(str(tools.optimiser)), OPTIMISER, [*LOWERING, "narrow.wasm", "-o", "made.wasm"], folder)
         return (folder / "made.wasm").read_bytes()
 
@@ -90,4 +90,4 @@ def linker_words(tools: Tools) -> List[str]:
             "wide.wasm", "program.o", "shim.o", str(tools.builtins)]
 
 
-__all__ = ["TARGET", "Tools", "linked"]
+__all__ = ["TARGET", "Tools", "link"]

@@ -9,7 +9,7 @@ from yotarimu.lines.causes import ROOTS, Kind, Sharing, causes_of, line_of
 
 if TYPE_CHECKING:
     from yotarimu.lines.causes import Cause
-    from yotarimu.lines.replay import Told
+    from yotarimu.lines.replay import ToldLine
 
 
 class Edge(enum.Enum):
@@ -61,7 +61,7 @@ def root_of(cause: Cause) -> Root:
     return ROOMS[root.event] if root.event in ROOMS else ACCESSES[root.sharing]
 
 
-class TakenBack:
+class TakenCounts:
     """The counts of a run: tasks by event, edge and root, how many of them are gone, and the work of all."""
 
     def __init__(self, line: int) -> None:
@@ -74,7 +74,7 @@ class TakenBack:
         self.lines: collections.Counter[int] = collections.Counter()
         self.addresses: collections.Counter[int] = collections.Counter()
 
-    def note(self, told: Told) -> None:
+    def note(self, told: ToldLine) -> None:
         """Takes an event that took tasks back."""
         for cause in causes_of(told, self.line):
             work, root = cause.taken.work, root_of(cause)

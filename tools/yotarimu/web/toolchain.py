@@ -15,7 +15,7 @@ import subprocess
 import tempfile
 from typing import Dict, List
 
-from yotarimu.common.outcome import Refused
+from yotarimu.common.outcome import Refusal
 
 COMMAND = "rt"
 # What the toolchain calls of its own to compile a module.
@@ -53,10 +53,10 @@ def toolchain() -> Toolchain:
     """The toolchain whose command is in the path."""
     command = shutil.which(COMMAND)
     if command is None:
-        raise Refused(f"this wants the command {COMMAND} of the Rattle toolchain, which isn't in the path.")
+        raise Refusal(f"this wants the command {COMMAND} of the Rattle toolchain, which isn't in the path.")
     found = Toolchain(pathlib.Path(os.path.realpath(command)).parent.parent)
     if not found.prover.is_file() or not (found.compiler / "bin" / "clang").exists():
-        raise Refused(f"{found.folder}: this toolchain can't be asked for its module: it has no bin/rattle and no "
+        raise Refusal(f"{found.folder}: this toolchain can't be asked for its module: it has no bin/rattle and no "
                       "toolchain/bin/clang; all else works without.")
     return found
 
@@ -88,7 +88,7 @@ class Crates:
         """What was proved of a crate."""
         path = self.home / "crates" / name / "out" / "rlib" / f"{name}.rlib"
         if not path.exists():
-            raise Refused(f"{name} isn't proved here, and a module is made of what is; ./fractal prove proves all.")
+            raise Refusal(f"{name} isn't proved here, and a module is made of what is; ./fractal prove proves all.")
         return path
 
 
@@ -100,16 +100,16 @@ def module_of(program: str, home: pathlib.Path) -> bytes:
         kept = folder / "kept"
         kept.mkdir()
         words = [str(kit.prover), "build", *build_words(program, Crates(home), kit), "--toolchain",
-                 str(wrapped(kit, folder, kept)), "-o", str(folder / f"{program}.o")]
+                 str(wrap_toolchain(kit, folder, kept)), "-o", str(folder / f"{program}.o")]
         done = subprocess.run(words, cwd=home / "crates" / program, stdin=subprocess.DEVNULL, stdout=subprocess.PIPE,
                               stderr=subprocess.STDOUT, text=True, errors="replace", check=False)
         if done.returncode or PROVED not in done.stdout:
             said = done.stdout.strip().splitlines()
-            raise Refused(f"{program} wasn't proved: rattle ended with status {done.returncode}"
+            raise Refusal(f"{program} wasn't proved: rattle ended with status {done.returncode}"
                           f"{f', and said: {said[-1][:200]}' if said else ''}.")
         modules = [path.read_bytes() for path in kept.iterdir()]
         if not modules:
-            raise Refused(f"this toolchain compiled {program} in another way than by a module of LLVM, so none is "
+            raise Refusal(f"this toolchain compiled {program} in another way than by a module of LLVM, so none is "
                           "kept; all else works without.")
         return max(modules, key=len)
 
@@ -126,7 +126,7 @@ def build_words(program: str, crates: Crates, kit: Toolchain) -> List[str]:
             str(kit.folder / "logic_built"), "--links", f"{program}=", "--jobs", JOBS, "--backend", "llvm"]
 
 
-def wrapped(kit: Toolchain, folder: pathlib.Path, kept: pathlib.Path) -> pathlib.Path:
+def wrap_toolchain(kit: Toolchain, folder: pathlib.Path, kept: pathlib.Path) -> pathlib.Path:
     """A folder like the toolchain's own, whose clang keeps each module that it is given."""
     made = folder / "toolchain"
     (made / "bin").mkdir(parents=True)

@@ -7,7 +7,7 @@ from __future__ import annotations
 
 from typing import Tuple
 
-from yotarimu.common.outcome import Refused
+from yotarimu.common.outcome import Refusal
 
 HEADER = 8
 TABLES, ELEMENTS, CODE = 4, 9, 10
@@ -52,7 +52,7 @@ def number(value: int) -> bytes:
     return bytes((*made, value))
 
 
-def narrowed(module: bytes) -> bytes:
+def narrow(module: bytes) -> bytes:
     """The module with tables of 32 bits."""
     made, place = bytearray(module[:HEADER]), HEADER
     changes = {TABLES: tables, ELEMENTS: elements, CODE: code}
@@ -84,10 +84,10 @@ def elements(section: bytes) -> bytes:
     made = bytearray(number(count))
     for _ in range(count):
         if section[place] != 0 or section[place + 1] != I64_CONST:
-            raise Refused("the linker made a table in a way that isn't known.")
+            raise Refusal("the linker made a table in a way that isn't known.")
         end = behind_number(section, place + 2)
         if section[end] != END:
-            raise Refused("the linker made a table in a way that isn't known.")
+            raise Refusal("the linker made a table in a way that isn't known.")
         functions, begin = number_at(section, end + 1)
         after = begin
         for _ in range(functions):
@@ -136,10 +136,10 @@ def behind_instruction(section: bytes, place: int) -> int:
     elif opcode == PREFIX:
         second, place = number_at(section, place)
         if second not in PREFIXED:
-            raise Refused(f"the compiler made the instruction {PREFIX:#x} {second}, which isn't known.")
+            raise Refusal(f"the compiler made the instruction {PREFIX:#x} {second}, which isn't known.")
         numbers = PREFIXED[second]
     elif opcode not in NUMBERS and opcode not in PLAIN:
-        raise Refused(f"the compiler made the instruction {opcode:#x}, which isn't known.")
+        raise Refusal(f"the compiler made the instruction {opcode:#x}, which isn't known.")
     for _ in range(numbers):
         place = behind_number(section, place)
     return place
