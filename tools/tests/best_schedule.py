@@ -31,6 +31,7 @@ class Text:
         self.calls = {int(mark) - 1: Source(task, unit_at) for task, unit_at, mark in self.marks() if mark.isdigit()}
 
     def marks(self) -> Iterator[tuple[int, int, str]]:
+        """Each mark with its task and its unit, counted from 0."""
         for task, units in enumerate(self.tasks):
             for unit_at, mark in enumerate(units):
                 yield task, unit_at, mark
@@ -49,12 +50,14 @@ class Text:
 
 
 def units_of(task: str, unit: Unit) -> list[str]:
+    """The marks of a task that take a unit of time each."""
     if unit is Unit.INSTRUCTION:
         return list(task)
     return [mark for mark in task if mark != "."] + (["."] if task.endswith(".") else [])
 
 
 def committed_task(number: int, task: str) -> CommittedTask:
+    """A task of a tiny text as limits are told of it."""
     points, calls, steps = [], [], 0
     for place, mark in enumerate(task):
         if mark.isalpha():
@@ -73,6 +76,7 @@ class Best:
         self.ends = tuple(map(len, text.tasks))
 
     def time(self) -> int:
+        """The time of the best schedule."""
         states, time = {(0,) * len(self.ends)}, 0
         while self.ends not in states:
             states, time = {later for state in states for later in self.next_states(state)}, time + 1
@@ -91,6 +95,7 @@ class Best:
                     yield later
 
     def state_after(self, state: State, chosen: tuple[int, ...]) -> Optional[State]:
+        """The state after a unit of time in which some tasks go on; None where they may not."""
         later = list(state)
         for task in chosen:
             if self.text.unit is Unit.STEP and not self.may_go(task, tuple(later)):
@@ -113,6 +118,7 @@ class Best:
         return source is None or state[source.task] > source.unit
 
     def may_start(self, task: int, state: State) -> bool:
+        """Whether all that a whole task waits for has ended."""
         needed = [self.text.calls[task]] if task in self.text.calls else []
         if self.manner is Manner.WHOLE:
             found = [self.text.source(task, at) for at, mark in enumerate(self.text.tasks[task]) if mark.islower()]
@@ -120,6 +126,7 @@ class Best:
         return all(state[it.task] > it.unit for it in needed) and self.is_in_window(task, state)
 
     def is_in_window(self, task: int, state: State) -> bool:
+        """Whether a task may be at work by the window."""
         most = self.window.tasks
         if most is None:
             return True

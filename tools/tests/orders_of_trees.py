@@ -13,6 +13,7 @@ PLAIN = "..abABc"
 
 @dataclasses.dataclass(eq=False)
 class Domain:
+    """A domain of a tree."""
     is_ordered: bool
     outer: Optional[Domain] = None
     # The timestamp of the task that made it.
@@ -33,6 +34,7 @@ class Task:
 
 @dataclasses.dataclass
 class Tree:
+    """A root domain and the tasks in it and below it."""
     root: Domain
     tasks: list[Task]
 
@@ -42,6 +44,7 @@ class Tree:
         yield from turns([], [self.root], pending)
 
     def epoch(self, task: Task) -> int:
+        """The epoch of a task; there is one alone in an unordered root domain."""
         return task.epoch if self.root.is_ordered else 0
 
 
@@ -72,6 +75,7 @@ def text_of(order: list[Task]) -> Text:
 
 
 def random_tree(chance: random.Random, most_tasks: int, most_units: int) -> Tree:
+    """A tree of so many tasks of so many units at most."""
     root = Domain(chance.random() < 0.6)
     tree = Tree(root, [])
     for number in range(chance.randint(1, most_tasks)):

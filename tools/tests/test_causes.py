@@ -22,19 +22,23 @@ def task(name: str, creator: Any = None) -> Any:
 
 
 def load(address: int, old: int = 0, event: int = 1) -> Access:
+    """A load of a word."""
     return Access(False, DATA + address, 4, old, old, 0, event, pc=0x10000, step=0)
 
 
 def store(address: int, value: int = 1, event: int = 1) -> Access:
+    """A store of a word."""
     return Access(True, DATA + address, 4, 0, value, 0, event, pc=0x10004, step=0)
 
 
 def member(it: Any, timestamp: int, dispatch: float, *accesses: Access, is_gone: bool = False) -> TakenTask:
+    """A task that was taken back, with what it had done."""
     time = root(True).time(timestamp, dispatch)
     return TakenTask(it, time, len(accesses), list(accesses), [], "running", 0, is_gone)
 
 
 def event(members: list[TakenTask], asker: Any = None, access: Optional[Access] = None, **line: Any) -> Any:
+    """A line that takes members back, as causes read it."""
     if access is not None:
         line["asks"] = "store" if access.is_store else "load"
     return types.SimpleNamespace(line={"do": "step", **line}, taken=members, task=asker, access=access)
@@ -47,6 +51,7 @@ def told_of(told: Any) -> Any:
 
 
 class Causes(unittest.TestCase):
+    """What took each task, and what that goes back to."""
     def test_a_store_meets_the_same_byte_the_line_or_the_bit(self) -> None:
         writer, one, two, three = task("w"), task("1"), task("2"), task("3")
         told = event([member(one, 2, 1, load(0)), member(two, 3, 2, load(4)), member(three, 4, 3, load(ALIAS))], writer,
@@ -108,10 +113,12 @@ class Causes(unittest.TestCase):
 
 
 class SentencesTest(unittest.TestCase):
+    """The sentences on causes."""
     def setUp(self) -> None:
         self.sentences = CauseSentences(lambda it: str(it.name), LINE)
 
     def sentences_of(self, told: Any) -> list[str]:
+        """The sentence on each cause of a line."""
         return [self.sentences.sentence(cause) for cause in causes_of(told, LINE)]
 
     def test_sentences(self) -> None:

@@ -9,6 +9,7 @@ from yotarimu.programs.table import Table
 
 
 class Commands(unittest.TestCase):
+    """The table of commands."""
     def test_each_has_a_row(self) -> None:
         self.assertEqual(sorted(Table().tools), commands.names())
 

@@ -10,18 +10,23 @@ class Machine:
     """Registers 0 to 32 hold ten times their number; memory from 100 on holds the bytes 1 to 8."""
 
     def register(self, number: int) -> int:
+        """A register has ten times its number."""
         return 10 * number
 
     def memory(self, address: int, count: int) -> bytes:
+        """Eight bytes from address 100 on, and no others."""
         return bytes(range(1, 9))[address - 100:address - 100 + count] if 100 <= address < 108 else b""
 
 
 def code(text: str) -> bytes:
+    """An expression of bytes in hexadecimal."""
     return bytes.fromhex(text)
 
 
 class Conditions(unittest.TestCase):
+    """What an expression comes to."""
     def holds(self, text: str) -> bool:
+        """Whether an expression holds on the machine of this file."""
         return holds(code(text), Machine())
 
     def test_register_is_compared(self) -> None:

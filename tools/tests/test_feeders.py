@@ -33,6 +33,7 @@ def chain_of(length: int) -> list[CommittedTask]:
 
 
 class FeedersTest(unittest.TestCase):
+    """Which chains are told."""
     def test_a_chain_is_told(self) -> None:
         longest, limits = longest_of(chain_of(8))
         self.assertEqual(longest, Chain(8, 80))

@@ -13,10 +13,12 @@ RUNNING = PLACES.index("running")
 
 
 def counts(running: int) -> list[int]:
+    """How many tasks are at each place, where so many run."""
     return [running if place == RUNNING else 0 for place in range(len(PLACES))]
 
 
 class Spreads(unittest.TestCase):
+    """Spreads of numbers."""
     def test_percentiles_are_numbers_at_places(self) -> None:
         spread = Spread()
         for value in (5, 1, 1, 9, 7, 7, 7, 2, 3, 30):
@@ -37,6 +39,7 @@ class Spreads(unittest.TestCase):
 
 
 class Means(unittest.TestCase):
+    """Means over rounds and over events."""
     def test_rounds_count_alike(self) -> None:
         """The first round has events behind which one and three run, so two on the mean; the second has none, and three
         run still; in the third one runs, four times."""
@@ -69,6 +72,7 @@ class Means(unittest.TestCase):
 
 
 class Shuffles(unittest.TestCase):
+    """The shuffling of rounds."""
     def test_a_round_is_shuffled_as_by_hand(self) -> None:
         """The first round of examples/schedules/rounds_by_hand."""
         acts = Shuffle(360).shuffle(round_of(2, 1))
@@ -80,6 +84,7 @@ class Shuffles(unittest.TestCase):
 
 
 class Pictures(unittest.TestCase):
+    """Plots and histograms."""
     def test_axes_are_linear_unless_asked_for(self) -> None:
         points = {"": [(1.0, 1.0), (100_000.0, 7.0)]}
         self.assertNotIn("logarithmic", plot.draw(points, "events", "tasks"))

@@ -10,6 +10,7 @@ from yotarimu.common.outcome import Refusal
 
 
 class Files(unittest.TestCase):
+    """Files that are written."""
     def setUp(self) -> None:
         self.place = tempfile.TemporaryDirectory()
         self.folder = pathlib.Path(self.place.name)

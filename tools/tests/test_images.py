@@ -36,6 +36,7 @@ more:
 
 
 class Images(unittest.TestCase):
+    """Images as bytes."""
     def test_an_image_is_read_and_written(self) -> None:
         image = Image(True, END, b"\x2a", 8, 4, 1, [InitialTask(TEXT, 5, (1, 2, 3))])
         self.assertEqual(read_image(IMAGE, "here"), image)
@@ -63,6 +64,7 @@ class Images(unittest.TestCase):
 
 
 class Instructions(unittest.TestCase):
+    """What instructions do."""
     def test_offsets_are_those_of_the_encoding(self) -> None:
         # beq zero, zero, -4 and +8; jal zero, -8 and +2048.
         self.assertEqual([branch_offset(0xFE000EE3), branch_offset(0x00000463)], [-4, 8])
@@ -115,6 +117,7 @@ def elf_of(name: bytes, section: bytes, address: int) -> bytes:
 
 
 class Elf(unittest.TestCase):
+    """Linked files."""
     def test_sections_and_labels_are_read(self) -> None:
         sections, labels = read_elf(elf_of(b"main", END, TEXT))
         text = next(section for section in sections if section.name == ".text")
@@ -129,6 +132,7 @@ class Elf(unittest.TestCase):
 
 @unittest.skipUnless(any(map(shutil.which, ("riscv64-unknown-elf-as", "riscv64-linux-gnu-as"))), "no binutils")
 class Sources(unittest.TestCase):
+    """Sources that become an image."""
     def test_a_source_becomes_an_image_and_a_listing(self) -> None:
         with tempfile.TemporaryDirectory() as place:
             folder = pathlib.Path(place)

@@ -24,6 +24,7 @@ COLUMNS = ((Manner.WHOLE, Unit.INSTRUCTION, UNBOUNDED), (Manner.RENAMED, Unit.IN
 
 
 def limits_of(text: Text) -> list[Limit]:
+    """The limits of a tiny text."""
     limits = Limits(Cells(), WINDOWS)
     for task in text.committed_tasks():
         limits.commit(task)
@@ -31,10 +32,12 @@ def limits_of(text: Text) -> list[Limit]:
 
 
 def best(written_text: str, limit: Limit) -> int:
+    """The time of the best schedule within a limit."""
     return Best(Text(written_text, limit.unit), limit.manner, limit.window).time()
 
 
 def random_text(chance: random.Random, most_tasks: int, most_units: int) -> str:
+    """A tiny text of so many tasks of so many units at most."""
     tasks = [chance.choices("..abABc", k=chance.randint(1, most_units)) for _ in range(chance.randint(1, most_tasks))]
     for number in range(1, len(tasks)):
         if chance.random() < 0.5:
@@ -44,6 +47,7 @@ def random_text(chance: random.Random, most_tasks: int, most_units: int) -> str:
 
 
 class TinyTexts(unittest.TestCase):
+    """Limits against the best of all schedules."""
     def test_the_page_is_right(self) -> None:
         rows = re.findall(r"^\| `([^`]+)` \| ([^|]+(?: \| [^|]+){5}) \|", PAGE.read_text(encoding="utf-8"), re.M)
         self.assertGreaterEqual(len(rows), 10)
@@ -67,6 +71,7 @@ class TinyTexts(unittest.TestCase):
 
 
 class AnyOrders(unittest.TestCase):
+    """Bounds against all orders."""
     def test_no_order_exceeds_the_bound(self) -> None:
         for most_tasks, most_units, count in ((4, 5, 400), (6, 4, 60)):
             for seed in range(count):
@@ -104,6 +109,7 @@ def points_of(accesses: list[tuple[bool, int, int]], cells: Optional[Cells]) -> 
 
 
 class WordsAndBytes(unittest.TestCase):
+    """Cells of words against those of bytes."""
     def test_words_tell_what_their_bytes_tell(self) -> None:
         for seed in range(300):
             chance = random.Random(f"cells {seed}")

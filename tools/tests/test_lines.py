@@ -20,6 +20,7 @@ Line = dict[str, Any]
 
 
 def worked_text(name: str) -> tuple[list[Line], Image]:
+    """The lines that were worked out by hand, and their image."""
     path = SCHEDULES / WORKED[name] / "image.bin"
     lines = [json.loads(line) for line in (SCHEDULES / name / "worked").read_text().splitlines()]
     return lines, read_image(path.read_bytes(), str(path))
@@ -37,6 +38,7 @@ def fault(lines: list[Line], image: Optional[Image] = None) -> Optional[str]:
 
 
 class WorkedTexts(unittest.TestCase):
+    """Lines that are right."""
     def test_the_image_has_each_leg(self) -> None:
         for name in WORKED:
             lines, image = worked_text(name)
@@ -50,6 +52,7 @@ class WorkedTexts(unittest.TestCase):
 
 
 def field_change(number: int, field: str, value: Any) -> Callable[[list[Line]], None]:
+    """A change of one field of a line."""
     def change(lines: list[Line]) -> None:
         assert field in lines[number - 1]
         lines[number - 1][field] = value
@@ -60,6 +63,7 @@ class Refusals(unittest.TestCase):
     """One change of a text that was worked out by hand, the line that is refused for it, and a part of why."""
 
     def refuse(self, name: str, change: Callable[[list[Line]], None], line: int, part: str, by_image: bool) -> None:
+        """Expects that a changed text is refused at a line, for a reason."""
         lines, image = worked_text(name)
         change(lines)
         found = fault(lines, image if by_image else None) or ""
@@ -104,10 +108,12 @@ class NumberedTask:
         self.domain, self.number, self.dispatch = domain, number, dispatch
 
     def time(self) -> Time:
+        """The virtual time of the task."""
         return self.domain.time(0, self.dispatch)
 
 
 class Numbers(unittest.TestCase):
+    """Dispatch numbers."""
     def test_numbers_are_given_anew(self) -> None:
         """Dispatches 7 of the path, 9 of a maker of a domain and 12 of a task are in use: these become 0, 1 and 2, and
         3 is given next."""

@@ -14,6 +14,7 @@ IMAGE = Image(True, b"\x93\x08\x00\x00\x73\x00\x00\x00", b"", 0, 0, 0, [InitialT
 
 
 class Notebook(unittest.TestCase):
+    """The calls of a notebook."""
     def setUp(self) -> None:
         self.place = tempfile.TemporaryDirectory()
         self.program = pathlib.Path(self.place.name, "program")

@@ -16,14 +16,17 @@ END = b"\x93\x08\x00\x00\x73\x00\x00\x00"
 
 
 def elements(picture: str, name: str) -> list[xml.etree.ElementTree.Element]:
+    """The elements of a name in a picture."""
     return [it for it in xml.etree.ElementTree.fromstring(picture).iter() if it.tag.endswith(f"}}{name}")]
 
 
 def texts(picture: str) -> list[str]:
+    """The words in a picture."""
     return [it.text for it in elements(picture, "text") if it.text]
 
 
 class Plots(unittest.TestCase):
+    """Plots of points."""
     def test_ticks_are_round_and_hold_all_values(self) -> None:
         for least, most in ((0, 7), (3, 3), (0.1, 0.4), (1, 1_000), (95, 100)):
             ticks = plot.steps(least, most)
@@ -44,6 +47,7 @@ class Plots(unittest.TestCase):
 
 
 class Pictures(unittest.TestCase):
+    """Pictures of schedules and reports."""
     def test_each_act_of_a_schedule_has_a_mark(self) -> None:
         acts = read_script("dispatch 0\nstep 0 0\ncommit\n", "here")
         report = "fractal 1\n1 0.0 1 5\noutput -\nend normal\n"

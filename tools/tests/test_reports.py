@@ -13,6 +13,7 @@ REPORT = "fractal 1\n1 0.0 1 0\n2 1.3 2 7\noutput 4869\nwindow 10000000 000000ff
 
 
 class Reports(unittest.TestCase):
+    """Reports that are read."""
     def test_parts_are_objects(self) -> None:
         report = read_report(REPORT, "here")
         self.assertEqual(report.entries, [Entry(1, Name(0, 0), 1, 0), Entry(2, Name(1, 3), 2, 7)])
@@ -35,6 +36,7 @@ class Reports(unittest.TestCase):
 
 
 class Scripts(unittest.TestCase):
+    """Scripts that are read."""
     def test_acts_have_a_tile_and_a_core(self) -> None:
         self.assertEqual(read_script("step 1 0\ncommit\n", "here"), [Act("step", 1, 0), Act("commit")])
 
@@ -46,6 +48,7 @@ class Scripts(unittest.TestCase):
 
 
 class Refusals(unittest.TestCase):
+    """Why lines are refused."""
     def test_lines_of_scripts(self) -> None:
         for line, part in ((b"step 4 0", "there is no tile 4"), (b"commit ", "a blank stands behind"),
                            (b"step 01 0", "leading zero"), (b"halt", "no act")):

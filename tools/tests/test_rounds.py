@@ -14,11 +14,13 @@ def rounds(count: int, barren: int) -> Rounds:
 
 
 def line(at: int, word: str) -> Dict[str, Any]:
+    """An act as a line tells it."""
     places: Dict[str, Dict[str, int]] = {"commit": {}, "step": {"tile": 0, "core": 0}}
     return {"at": at, "do": word, **places.get(word, {"tile": 0})}
 
 
 class BroughtOn(unittest.TestCase):
+    """When the least task is brought on."""
     def test_behind_two_barren_rounds(self) -> None:
         """Acts 1 to 8 are two rounds without a commit. So act 9 brings the least task on, and so does act 10, which
         commits. The third round begins with act 11."""

@@ -25,17 +25,20 @@ T1 = 6
 
 
 def image_at(folder: object) -> Any:
+    """The image of a folder."""
     path = f"{folder}/image.bin"
     with open(path, "rb") as file:
         return read_image(file.read(), path)
 
 
 def lines_track() -> Track:
+    """The track of the stored lines of the conflict."""
     image = image_at(CONFLICT)
     return LinesTrack(image, str(CONFLICT / "lines"), listing_for(CONFLICT / "image.bin", image, None)[0])
 
 
 def report_track() -> Track:
+    """The track of a report that ends with a trap."""
     image = image_at(TRAP)
     report = read_report((TRAP / "report").read_text(), "report")
     return ReportTrack(image, report, listing_for(TRAP / "image.bin", image, None)[0])
@@ -57,6 +60,7 @@ class Client:
         self.thread.start()
 
     def raw(self, data: bytes) -> None:
+        """Sends bytes as they are."""
         # The last acknowledgement comes when the server is gone.
         with contextlib.suppress(BrokenPipeError):
             self.own.sendall(data)
@@ -70,6 +74,7 @@ class Client:
         return answer
 
     def packet(self) -> Optional[str]:
+        """The next packet of the server; None at the end."""
         while True:
             start, end = self.left.find(b"$"), self.left.find(b"#")
             if start >= 0 and end >= 0 and len(self.left) >= end + 3:
@@ -84,15 +89,18 @@ class Client:
             self.left += more
 
     def monitor(self, words: str) -> str:
+        """What the server answers to words behind `monitor`."""
         answer = self.ask(f"qRcmd,{words.encode().hex()}") or ""
         return bytes.fromhex(answer).decode()
 
     def close(self) -> None:
+        """Ends the connection, and waits for the server."""
         self.own.close()
         self.thread.join(20)
 
 
 def unescape(data: bytes) -> bytes:
+    """Bytes without the escapes of the protocol."""
     out, rest = bytearray(), iter(data)
     for byte in rest:
         out.append(next(rest) ^ 0x20 if byte == 0x7D else byte)
@@ -100,7 +108,9 @@ def unescape(data: bytes) -> bytes:
 
 
 class Case(unittest.TestCase):
+    """What all tests of a server do."""
     def of(self, track: Track) -> Client:
+        """A client of a server on a track."""
         client = Client(track)
         self.addCleanup(client.close)
         return client
@@ -115,13 +125,16 @@ class Case(unittest.TestCase):
         return int(answer[1:3], 16), int(fields["thread"], 16), pc, rest
 
     def word(self, client: Client, address: int) -> int:
+        """The word at an address."""
         return int.from_bytes(bytes.fromhex(client.ask(f"m{address:x},4") or ""), "little")
 
     def register(self, client: Client, number: int) -> int:
+        """The register of a number."""
         return int.from_bytes(bytes.fromhex(client.ask(f"p{number:x}") or ""), "little")
 
 
 class Lines(Case):
+    """A server on the lines of the conflict."""
     def setUp(self) -> None:
         self.client = self.of(lines_track())
 
@@ -254,6 +267,7 @@ class Lines(Case):
 
 
 class Report(Case):
+    """A server on a report with a trap."""
     def setUp(self) -> None:
         self.client = self.of(report_track())
 

@@ -7,6 +7,7 @@ from yotarimu.lines.times import UNDISPATCHED, root
 
 
 class Times(unittest.TestCase):
+    """The order of virtual times."""
     def test_timestamps_come_before_dispatches(self) -> None:
         domain = root(True)
         self.assertLess(domain.time(1, 9), domain.time(2, 3))

@@ -16,17 +16,20 @@ from tries.tracks import goes_both_ways
 
 
 def report_track(name: str) -> ReportTrack:
+    """The track of an example's report."""
     folder = EXAMPLES_FOLDER / name
     image = read_image((folder / "image.bin").read_bytes(), name)
     return ReportTrack(image, read_report((folder / "report").read_text(), name), NO_LISTING)
 
 
 def lines_track(name: str, lines: str) -> LinesTrack:
+    """The track of stored lines."""
     folder = EXAMPLES_FOLDER / name
     return LinesTrack(read_image((folder / "image.bin").read_bytes(), name), str(folder / lines), NO_LISTING)
 
 
 class Tracks(unittest.TestCase):
+    """Tracks that are gone along."""
     def test_reports_of_examples_are_one_run_each_way(self) -> None:
         for name in EXAMPLES:
             with self.subTest(name):

@@ -32,10 +32,12 @@ attributes #0 = {{ nounwind "probe-stack"="inline-asm" "target-cpu"="x86-64" "fr
 
 
 def with_body(line: str) -> str:
+    """A module whose function has one more line."""
     return MODULE.replace("  ret i32 0", f"  {line}\n  ret i32 0")
 
 
 class LlvmTextTest(unittest.TestCase):
+    """The text of a module."""
     def test_names_the_other_machine(self) -> None:
         text = retarget(MODULE, "m")
         self.assertIn(f'target datalayout = "{LAYOUT}"', text)
@@ -44,6 +46,7 @@ class LlvmTextTest(unittest.TestCase):
         self.assertIn('attributes #0 = { nounwind "frame-pointer"="all" }', text)
 
     def refuse(self, text: str, part: str) -> None:
+        """Expects that a text is refused, for a reason."""
         with self.assertRaisesRegex(Refusal, part):
             retarget(text, "m")
 
@@ -70,6 +73,7 @@ class LlvmTextTest(unittest.TestCase):
 
 
 class WasmTablesTest(unittest.TestCase):
+    """Tables of 32 bits."""
     def test_numbers_come_back(self) -> None:
         for value in (0, 127, 128, 300, 2 ** 32 - 1):
             self.assertEqual(number_at(number(value), 0), (value, len(number(value))))
@@ -90,6 +94,7 @@ class WasmTablesTest(unittest.TestCase):
 
 
 class BundleTest(unittest.TestCase):
+    """Files that are put together."""
     def test_a_module_is_packed_the_same_each_time(self) -> None:
         self.assertEqual(gzip.decompress(base64.b64decode(pack(b"module"))), b"module")
         self.assertEqual(pack(b"module"), pack(b"module"))
@@ -110,6 +115,7 @@ class BundleTest(unittest.TestCase):
 
 
 class ExamplesTest(unittest.TestCase):
+    """What the page has to show."""
     def test_each_example_has_an_image(self) -> None:
         examples = examples_in(EXAMPLES_FOLDER)
         self.assertEqual(examples[0]["name"], "schedules/conflict")
@@ -117,6 +123,7 @@ class ExamplesTest(unittest.TestCase):
 
 
 class CratesTest(unittest.TestCase):
+    """The order of crates."""
     def test_crates_come_behind_those_below(self) -> None:
         with tempfile.TemporaryDirectory() as folder:
             home = pathlib.Path(folder)
@@ -128,6 +135,7 @@ class CratesTest(unittest.TestCase):
 
 
 class Sentences(unittest.TestCase):
+    """Sentences for the page."""
     def test_the_requests_of_tasks_have_sentences(self) -> None:
         asked = {"go", "load", "store", "enqueue", "ordered", "unordered", "emit", "end", "trap"}
         self.assertEqual(set(SENTENCES["requests"]), asked)

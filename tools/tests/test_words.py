@@ -10,6 +10,7 @@ WORDS = Words("sweep", ["csv", "jobs"], ["check"])
 
 
 class WordsTest(unittest.TestCase):
+    """The words of a call."""
     def test_values_stand_behind_or_after_an_equals_sign(self) -> None:
         for words in (["a", "--csv", "x", "b"], ["--csv=x", "a", "b"], ["a", "b", "--csv=x"]):
             given = WORDS.read(words)
@@ -52,6 +53,7 @@ class WordsTest(unittest.TestCase):
 
 
 class Numbers(unittest.TestCase):
+    """Numbers among words."""
     def test_numbers_are_decimal_or_hexadecimal_after_0x(self) -> None:
         self.assertEqual([number_in(word, 0, 255) for word in ("0", "007", "0xff", "0XFF")], [0, 7, 255, 255])
 

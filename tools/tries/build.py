@@ -71,6 +71,7 @@ def folder_with(place: Place, name: str, **sources: str) -> pathlib.Path:
 
 
 def nothing_is_written(folder: pathlib.Path) -> None:
+    """Expects a folder to have its sources alone."""
     left = sorted(path.name for path in folder.iterdir() if path.suffix not in SUFFIXES)
     expect(not left, "nothing written", left)
 

@@ -205,12 +205,14 @@ def build_source(place: Place, name: str, text: str, words: Sequence[str] = ()) 
 
 
 def folder_in_c(place: Place, name: str, text: str) -> pathlib.Path:
+    """A folder with one source in C."""
     folder = folder_with(place, name)
     (folder / "task.c").write_text(text)
     return folder
 
 
 def run_of(place: Place, folder: pathlib.Path, *words: str) -> bytes:
+    """The report of a folder's image, which `check` accepts."""
     image = (folder / "image.bin").read_bytes()
     answer = place.call("fractal", "run", *words, stdin=image)
     checked = place.call("fractal", "check", stdin=image + answer.output)

@@ -22,6 +22,7 @@ TAKEN_BACK = {
 
 
 def paths(place: Place, name: str) -> tuple[str, str]:
+    """The image and the stored lines of a schedule."""
     folder = place.clone / "examples" / "schedules" / name
     return str(folder / "image.bin"), str(folder / "lines")
 

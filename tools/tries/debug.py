@@ -30,6 +30,7 @@ QUIET = "set pagination off\nset width 0\nset confirm off\n"
 
 
 def example(place: Place, name: str, file: str) -> str:
+    """The path of a file of an example."""
     return str(place.clone / "examples" / name / file)
 
 
@@ -42,6 +43,7 @@ def gdbs() -> List[str]:
 
 
 def version_of(gdb: str) -> int:
+    """The first number of a gdb's version; 0 where it tells none."""
     said = subprocess.run([gdb, "--version"], capture_output=True, text=True, stdin=subprocess.DEVNULL).stdout
     found = re.search(r"(\d+)\.\d+", said.partition("\n")[0])
     return int(found[1]) if found else 0
@@ -125,6 +127,7 @@ def changed_sources_are_told(place: Place) -> None:
 
 
 def debug(place: Place, *words: str) -> Answer:
+    """Calls `./fractal debug`."""
     return place.call("fractal", "debug", *words)
 
 
@@ -319,6 +322,7 @@ def seconds_of_children() -> float:
 
 
 def read_until(connection: socket.socket, part: bytes) -> bytes:
+    """Reads from a connection until a part has come, or it ends."""
     data = b""
     while part not in data and (more := connection.recv(4096)):
         data += more
@@ -341,6 +345,7 @@ class Adapter:
         self.events: List[Dict[str, Any]] = []
 
     def send(self, command: str, **arguments: Any) -> int:
+        """Sends a request, and gives its number."""
         self.sent += 1
         text = json.dumps({"seq": self.sent, "type": "request", "command": command, "arguments": arguments}).encode()
         stdin = self.process.stdin
@@ -350,6 +355,7 @@ class Adapter:
         return self.sent
 
     def next(self) -> Dict[str, Any]:
+        """The next message of the adapter."""
         stdout, length = self.process.stdout, 0
         expect(stdout is not None, "an adapter")
         while stdout is not None:
@@ -373,6 +379,7 @@ class Adapter:
             self.events.append(message)
 
     def ask(self, command: str, **arguments: Any) -> Dict[str, Any]:
+        """Sends a request, and gives the answer to it."""
         return self.answer(self.send(command, **arguments))
 
     def event(self, name: str) -> Dict[str, Any]:
@@ -386,6 +393,7 @@ class Adapter:
             self.events.append(self.next())
 
     def close(self) -> None:
+        """Ends the adapter."""
         self.timer.cancel()
         self.process.kill()
         self.process.communicate()
@@ -409,6 +417,7 @@ def the_debug_adapter_is_served(place: Place) -> None:
 
 
 def follow_adapter(client: Adapter, program: str, target: str, source: str) -> None:
+    """Goes along a run by requests, as an editor does."""
     client.ask("initialize", adapterID="try", linesStartAt1=True, columnsStartAt1=True)
     attaching = client.send("attach", program=program, target=target)
     client.event("initialized")

@@ -53,9 +53,11 @@ class Block(NamedTuple):
     lines: list[str]
 
     def is_of_commands(self) -> bool:
+        """Whether the block has commands to be typed."""
         return not self.language and self.lines[0].startswith(COMMANDS)
 
     def is_left_out(self) -> bool:
+        """Whether the block can't be called here, for a reason that is told."""
         return self.lines[0].startswith(tuple(LEFT_OUT)) or self.document == STUDY
 
 
@@ -66,6 +68,7 @@ def documents() -> list[pathlib.Path]:
 
 
 def blocks_of(document: pathlib.Path) -> Iterator[Block]:
+    """The blocks of a document, in their order."""
     lines = document.read_text().split("\n")
     fences = [place for place, line in enumerate(lines) if line.startswith(FENCE)]
     for first, end in zip(fences[::2], fences[1::2]):

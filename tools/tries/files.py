@@ -9,6 +9,7 @@ from tries.place import Place, expect
 
 
 def files_of(place: Place, name: str) -> tuple[str, str]:
+    """The image and the report of an example."""
     folder = place.clone / "examples" / name
     return str(folder / "image.bin"), str(folder / "report")
 
@@ -21,4 +22,5 @@ def picture_in(data: bytes) -> list[str]:
 
 
 def rows_in(data: bytes) -> list[dict[str, str]]:
+    """The rows of a file of CSV."""
     return list(csv.DictReader(io.StringIO(data.decode())))

@@ -18,13 +18,16 @@ class Words:
         self.stores: List[Tuple[int, int, int]] = []
 
     def at(self, offset: int) -> int:
+        """The word at an offset of the data."""
         return self.words.get(offset, 0)
 
     def store(self, task: int, offset: int, value: int) -> None:
+        """Stores a word, for a task."""
         self.stores.append((task, offset, self.at(offset)))
         self.words[offset] = value
 
     def take_back(self, tasks: Sequence[int]) -> None:
+        """Undoes what some tasks stored, the latest first."""
         for task, offset, old in reversed(self.stores):
             if task in tasks:
                 self.words[offset] = old
@@ -49,18 +52,22 @@ class LinesText:
         self.lines.append({"at": self.acts, "do": word, **fields, "reply": reply, "n": self.events, **(change or {})})
 
     def dispatch(self, task: int, tile: int, core: int, number: int) -> None:
+        """Adds a dispatch."""
         self.act("dispatch", {"core": core, "number": number}, tile=tile, task=task)
 
     def step(self, task: int, tile: int, core: int, leg: int, asks: str, change: Optional[Dict[str, Any]] = None,
              reply: str = "ok", **more: Any) -> None:
+        """Adds a step, with what it asks for."""
         self.act("step", change, reply, tile=tile, core=core, task=task, leg=leg, pc=65_540, asks=asks, **more)
 
     def load(self, task: int, tile: int, core: int, leg: int, offset: int) -> None:
+        """Adds a step that loads a word."""
         old = self.memory.at(offset)
         self.step(task, tile, core, leg, "load", {"old": old}, addr=DATA + offset, bytes=4)
 
     def store(self, task: int, tile: int, core: int, leg: int, offset: int, back: Sequence[Sequence[int]] = (),
               gone: Sequence[int] = (), value: int = 9) -> None:
+        """Adds a step that stores a word, and takes tasks back where some are told."""
         self.memory.take_back([row[0] for row in back])
         change = {"aborted": len(back), "back": back, "gone": gone, "old": self.memory.at(offset)}
         change = {name: it for name, it in change.items() if it or name == "old"}
@@ -69,20 +76,25 @@ class LinesText:
 
     def enqueue(self, task: int, tile: int, core: int, leg: int, new: Optional[int], reply: str = "ok",
                 **change: Any) -> None:
+        """Adds a step that makes a child."""
         told = {**change, "new": new, "in": tile} if reply == "ok" else None
         self.step(task, tile, core, leg, "enqueue", told, reply, to="same", entry=65_536, ts=9, args=[0, 0, 0], hint=0)
 
     def finish(self, task: int, tile: int, core: int, leg: int) -> None:
+        """Adds the last step of a task."""
         self.step(task, tile, core, leg, "end")
 
     def commit(self, task: int, name: Sequence[int], timestamp: int) -> None:
+        """Adds a commit."""
         self.commits += 1
         self.act("commit", {"name": name, "depth": 1, "ts": timestamp}, task=task)
         self.memory.stores = [store for store in self.memory.stores if store[0] != task]
 
     def end(self, end: str = "open") -> bytes:
+        """Adds the last line, and gives the whole text."""
         self.lines.append({"end": end, "n": self.events, "journal": self.commits, "output": "", "window": []})
         return self.text()
 
     def text(self) -> bytes:
+        """The text so far."""
         return b"".join(json.dumps(line, separators=(",", ":")).encode() + b"\n" for line in self.lines)

@@ -17,12 +17,14 @@ STUB_BUILD = """cat >/dev/null; mkdir -p out; cp '{}'/"${{PWD##*/}}"/out/"${{PWD
 
 
 def build(place: Place) -> None:
+    """Builds both programs in the clone, by a toolchain that hands out those that are there."""
     need_built(PROGRAM, SECOND_PROGRAM)
     place.stub_tool("rt", STUB_BUILD.format(PROGRAM.parents[2]))
     expect(place.call("fractal", "prove").status == 0, "a build")
 
 
 def archive_of(place: Place) -> pathlib.Path:
+    """The archive that `./fractal package` makes."""
     folder = place.root / "given out"
     folder.mkdir(exist_ok=True)
     answer = place.call("fractal", "package", str(folder))

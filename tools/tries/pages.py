@@ -63,11 +63,13 @@ class Body(html.parser.HTMLParser):
         self.feed(text)
 
     def handle_starttag(self, tag: str, attrs: list[tuple[str, Optional[str]]]) -> None:
+        """Keeps the attributes of the body."""
         if tag == "body":
             self.attributes = dict(attrs)
 
 
 def browser() -> str:
+    """A browser that is installed; the try is left out where there is none."""
     for name in BROWSERS:
         if (found := shutil.which(name)) is not None:
             return found
@@ -89,6 +91,7 @@ def open_page(place: Place, page: Union[str, pathlib.Path], act: object = None) 
 
 
 def page_at(place: Place, name: str, page: bytes, script: str = "") -> pathlib.Path:
+    """Writes a page to a file, with a script at its end."""
     path = place.root / name
     text = page.decode()
     expect(text.count("</body>") == 1, "one body", text[-200:])
@@ -112,12 +115,14 @@ def walk_page(place: Place, page: bytes, lines: str, first: int) -> None:
 
 
 def show_lines(place: Place, lines: str, *words: str) -> bytes:
+    """The page that `./fractal show` makes of lines."""
     answer = place.call("fractal show", lines, *words)
     expect((answer.status, answer.errors) == (0, ""), f"a page of {lines}", answer)
     return answer.output
 
 
 def stored_page(place: Place, name: str = "conflict") -> tuple[str, str]:
+    """The stored lines of a schedule, and its listing."""
     folder = place.clone / "examples" / "schedules" / name
     return str(folder / "lines"), str(folder / "listing")
 
@@ -175,6 +180,7 @@ def compare(lines: str, first: int, seen: Sequence[Any]) -> None:
 
 
 def watched_lines(place: Place, words: Sequence[str], given: bytes, name: str) -> str:
+    """Writes what `./fractal watch` tells to a file."""
     path = place.root / name
     answer = place.call("fractal", "watch", *words, stdin=given)
     path.write_bytes(answer.output)

@@ -62,22 +62,26 @@ class Answer:
 
 
 def expect(is_so: object, what: str, seen: object = None) -> None:
+    """Holds what is seen to what is expected; raises Failure."""
     if not is_so:
         raise Failure(f"expected {what}" + (f"; seen {seen}" if seen is not None else ""))
 
 
 def need_built(*programs: pathlib.Path) -> None:
+    """Leaves the try out where a program isn't built."""
     if not all(program.exists() for program in programs):
         raise Omission("it wants the built program: ./fractal prove")
 
 
 def put_built(program: pathlib.Path, path: pathlib.Path) -> None:
+    """Copies a built program to a path; the try is left out where there is none."""
     need_built(program)
     path.parent.mkdir(parents=True, exist_ok=True)
     shutil.copy(program, path)
 
 
 def one_sentence_each(answers: Iterable[tuple[Answer, Iterable[object]]]) -> None:
+    """Expects each answer to be one sentence with some parts."""
     for answer, parts in answers:
         answer.sentence(*parts)
 
@@ -108,6 +112,7 @@ class Place:
             raise
 
     def make_clone(self) -> None:
+        """Clones what is committed."""
         done = subprocess.run(["git", "clone", "-q", HOME, self.clone], stdin=subprocess.DEVNULL,
                               stderr=subprocess.PIPE, text=True, errors="replace")
         if done.returncode != 0:
@@ -115,6 +120,7 @@ class Place:
             raise Refusal(f"{HOME}: it can't be cloned: {last}")
 
     def remove(self) -> None:
+        """Removes the clone with all around it."""
         if self.is_unwritable:
             subprocess.run(["chmod", "-R", "u+w", self.root], check=True)
         shutil.rmtree(self.root)
@@ -162,6 +168,7 @@ class Place:
             self.environment["HOME"] = str(self.temporary)
 
     def user(self) -> dict[str, Any]:
+        """Who calls: another user where the clone can't be written to, as root could."""
         if self.is_unwritable and os.getuid() == 0:
             return {"user": NOBODY, "group": NOBODY, "extra_groups": []}
         return {}
@@ -259,6 +266,7 @@ def follow_terminal(process: subprocess.Popen[bytes], master: int, typed: list[T
 
 
 def read_some(source: int) -> bytes:
+    """Reads what has come; nothing at the end."""
     try:
         return os.read(source, 65536)
     except OSError as error:
@@ -269,6 +277,7 @@ def read_some(source: int) -> bytes:
 
 
 def wait_for(ready: Callable[[], object]) -> None:
+    """Waits until something holds; fails where that takes too long."""
     end = time.monotonic() + MOST_SECONDS
     while not ready():
         expect(time.monotonic() < end, "that the call comes so far")

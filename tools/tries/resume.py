@@ -15,10 +15,12 @@ WALK = ("walk", 7, 2000)
 
 
 def example(place: Place, name: str, file: str = "image.bin") -> pathlib.Path:
+    """The path of a file of an example."""
     return place.clone / "examples" / name / file
 
 
 def written_walk(place: Place) -> pathlib.Path:
+    """Writes a generated walk to a file."""
     image = place.root / "walk.bin"
     image.write_bytes(image_bytes(generate(*WALK)))
     return image

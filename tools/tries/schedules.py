@@ -17,11 +17,13 @@ OPEN_REPORT = b"fractal 1\noutput -\nend open\n"
 
 
 def schedule(place: Place, name: str) -> tuple[str, str]:
+    """The script of a schedule, and what was said to it."""
     folder = place.clone / "examples" / "schedules" / name
     return str(folder / "script"), str(folder / "said")
 
 
 def write_file(place: Place, name: str, data: bytes) -> str:
+    """Writes a file, and gives its path."""
     path = place.root / name
     path.write_bytes(data)
     return str(path)

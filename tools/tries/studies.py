@@ -14,10 +14,12 @@ CHOICES = ("--tiles", "1,2,4", "--line", "4,64")
 
 
 def rows_at(place: Place, name: str) -> List[Dict[str, str]]:
+    """The rows of a file of CSV."""
     return list(csv.DictReader(io.StringIO((place.root / name).read_text())))
 
 
 def walk_of(place: Place, size: str) -> str:
+    """Writes a generated walk of a size to a file."""
     return write_file(place, "image", place.call("fractal generate", "walk", "7", size).output)
 
 

@@ -43,12 +43,14 @@ MOST_SECONDS = 600
 
 
 def need_command(*names: str) -> None:
+    """Leaves the try out where a command isn't installed."""
     for name in names:
         if shutil.which(name) is None:
             raise Omission(f"it wants {name}")
 
 
 def need_modules() -> Modules:
+    """The modules; the try is left out where they aren't made."""
     if not all(path(crate).exists() for crate in PROGRAMS.values() for path in (module_path, commit_path)):
         raise Omission("it wants the modules: ./fractal prove --web")
     return modules()
@@ -65,6 +67,7 @@ class Harness:
         self.process = subprocess.Popen(["node", str(script)], stdin=subprocess.PIPE, stdout=subprocess.PIPE)
 
     def ask(self, **question: Any) -> Dict[str, Any]:
+        """What the page's sources answer to a question."""
         assert self.process.stdin is not None and self.process.stdout is not None
         self.process.stdin.write(json.dumps(question).encode() + b"\n")
         self.process.stdin.flush()
@@ -169,6 +172,7 @@ def web_sentences(place: Place) -> None:
 
 
 def courses() -> Iterator[Tuple[str, List[str]]]:
+    """Each schedule with the words of its course, and others of the second program."""
     for name in SCHEDULES:
         words = list(words_of(name))
         yield name, words
@@ -181,6 +185,7 @@ def courses() -> Iterator[Tuple[str, List[str]]]:
 
 
 def hold_told(harness: Harness, name: str, words: List[str]) -> None:
+    """Holds what the page tells of a run against what the tools tell."""
     folder = EXAMPLES_FOLDER / name
     given = (folder / "image.bin").read_bytes() + ((folder / "script").read_bytes() if words[0] == "steps" else b"")
     text = subprocess.run([SECOND_PROGRAM, *words], input=given, stdout=subprocess.PIPE, check=False).stdout
@@ -197,6 +202,7 @@ def hold_told(harness: Harness, name: str, words: List[str]) -> None:
 
 
 def told_by_tools(text: bytes, listing: Listing) -> Tuple[List[str], str, Machine]:
+    """The sentences, the end and the machine that the tools make of lines."""
     with tempfile.NamedTemporaryFile() as lines:
         lines.write(text)
         lines.flush()
@@ -222,15 +228,18 @@ def web_sources(place: Place) -> None:
 
 
 def texts_of(folder: pathlib.Path) -> List[Dict[str, str]]:
+    """The sources of a folder, as the page takes them."""
     return [{"name": path.name, "text": path.read_text()} for path in sorted(folder.glob("*.s"))]
 
 
 def made_by_tools(folder: pathlib.Path) -> bytes:
+    """The image that the tools make of a folder."""
     sources = sources_in(folder)
     return image_bytes(describe(sources, assemble(sources)))
 
 
 def hold_listing(harness: Harness, path: pathlib.Path) -> None:
+    """Holds the page's disassembler against a listing."""
     image = base64.b64encode((path.parent / "image.bin").read_bytes()).decode()
     rows = {address: text for address, text in harness.ask(image=image)["listing"] if address is not None}
     for address, word, told in re.findall(r"^([0-9a-f]{8})  ([0-9a-f]{8})  ([^|\n]*)", path.read_text(), re.MULTILINE):
@@ -277,6 +286,7 @@ ODD_LINES = (
 
 
 def drive_page(place: Place, browser: str, *programs: str) -> None:
+    """Drives the page in a browser; the try is left out where there is none."""
     need_command("node")
     if not any(shutil.which(program) for program in programs):
         raise Omission(f"it wants a browser: {programs[0]}")

@@ -29,6 +29,7 @@ def answer_by(name: str, words: List[str]) -> Optional[int]:
 
 
 def refuse(words: List[str]) -> int:
+    """Refuses words that name no command."""
     told = f"`{words[0]}` is no command, which is" if words else "it wants a command:"
     raise Refusal(f"{told} {', '.join(commands.names())}.")
 

@@ -45,13 +45,16 @@ class Lines(NamedTuple):
             yield shapes.line_of(text)
 
     def reader(self) -> Reader:
+        """A reader of the lines, from the first one on."""
         return Reader(io.BytesIO(self.data), "a run")
 
     def figures(self) -> Figures:
+        """The figures of the run."""
         return figures_of(self.reader())
 
 
 def read_image(path: FilePath) -> Image:
+    """The image of a file."""
     return read_image_bytes(read_bytes(path), path)
 
 
@@ -72,6 +75,7 @@ def watch(image: Image, course: str = "least", **options: int) -> Lines:
 
 
 def ask(program: pathlib.Path, words: Sequence[str], image: Image, options: Mapping[str, int]) -> Answer:
+    """What a program says to words on an image; refuses a status that tells no answer."""
     given = [f"--{name.replace('_', '-')}={value}" for name, value in options.items()]
     answer = Calls(program).call([*words, *given], image_bytes(image))
     if answer.status not in STATUSES.values():

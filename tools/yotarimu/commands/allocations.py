@@ -23,6 +23,7 @@ from yotarimu.programs.limits import KILLED, OUT_OF_MEMORY, WHOLE
 
 
 def main(words: list[str]) -> int:
+    """Does what the words of the call ask for, and gives the status."""
     given = Words("allocations", ["program"]).read(words)
     program = program_at(given.values["program"])
     for word in given.others:

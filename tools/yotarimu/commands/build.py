@@ -44,6 +44,7 @@ def folder_at(word: str) -> pathlib.Path:
 
 
 def main(words: list[str]) -> None:
+    """Does what the words of the call ask for."""
     given = Words("build", flags=["clang", "debug", "all"]).read(words)
     names = given.others
     for word in names:

@@ -107,6 +107,7 @@ def file_of(linked: Optional[LinkedFile], path: Optional[str]) -> Iterator[Optio
 
 def serve(track: Track, linked: Optional[LinkedFile], gdb: Optional[str], port: Optional[str], is_pipe: bool,
           path: Optional[str]) -> int:
+    """Serves a track in the way that was asked for, and gives the status."""
     if linked is not None and path is not None and (is_pipe or port is not None):
         write_whole({pathlib.Path(path): linked.data})
     if is_pipe:
@@ -122,6 +123,7 @@ def serve(track: Track, linked: Optional[LinkedFile], gdb: Optional[str], port: 
 
 
 def main(words: Sequence[str]) -> int:
+    """Does what the words of the call ask for, and gives the status."""
     given = Words(NAME, values=("gdb", "port", "elf"), flags=("pipe",)).read(words)
     gdb, port, path = (given.values[name] for name in ("gdb", "port", "elf"))
     is_pipe = "pipe" in given.flags

@@ -20,6 +20,7 @@ from yotarimu.pictures import lanes
 
 
 def main(words: list[str]) -> None:
+    """Does what the words of the call ask for."""
     script, output = Words("draw").read(words).need("a SCRIPT and the OUTPUT of its playing", 2)
     acts = read_script(read_text(script), script)
     print(lanes.draw(read_played(acts, read_text(output), output)), end="")

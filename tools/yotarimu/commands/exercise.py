@@ -16,6 +16,7 @@ from yotarimu.courses.exercises import JUDGES, SAID, WrongAnswer
 
 
 def main(words: list[str]) -> int:
+    """Does what the words of the call ask for, and gives the status."""
     name, answer = Words("exercise").read(words).need("an exercise and the FILE or FOLDER of your answer", 2)
     names = dict(zip("12345", JUDGES))
     name = names.get(name, name)

@@ -48,6 +48,7 @@ class Request(NamedTuple):
 
 
 def read_words(words: list[str]) -> Request:
+    """What the words ask for; refuses others."""
     given = Words("explain", flags=FORMS).read_known(words)
     unknown = [word for word in given.others if word.startswith("--")]
     if unknown or len(given.flags) > 1 or not 2 <= len(given.others) <= 3:
@@ -87,6 +88,7 @@ def begins_as_lines(path: str) -> bool:
 
 
 def main(words: list[str]) -> None:
+    """Does what the words of the call ask for."""
     image_path, report_path, source, form = read_words(words)
     image = read_image(read_bytes(image_path), image_path)
     if begins_as_lines(report_path):

@@ -80,6 +80,7 @@ def read_runs(request: Request) -> dict[str, Figures]:
 
 
 def print_tables(runs: dict[str, Figures], listing: Listing) -> None:
+    """Prints the tables of all runs."""
     print(*tables.summary(runs), "", *tables.taken_tasks(runs), "", *tables.stalls(runs), sep="\n")
     for name, it in runs.items():
         of_run = f" of {name}" if len(runs) > 1 else ""
@@ -117,6 +118,7 @@ def files_of(request: Request, runs: dict[str, Figures]) -> dict[str, bytes]:
 
 
 def main(words: list[str]) -> None:
+    """Does what the words of the call ask for."""
     request = read_words(words)
     listing = NO_LISTING if request.listing is None else read_listing(read_written(request.listing), request.listing)
     runs = read_runs(request)

@@ -16,6 +16,7 @@ from yotarimu.images.loads import MOST_SEED, SIZES, generate
 
 
 def main(words: list[str]) -> None:
+    """Does what the words of the call ask for."""
     kind, seed, size = Words("generate").read(words).need("walk or nest, a SEED and a SIZE", 3)
     if kind not in SIZES:
         raise Refusal(f"it generates {' and '.join(SIZES)}, and not `{kind}`.")

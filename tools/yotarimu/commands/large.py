@@ -23,6 +23,7 @@ MOST_SEED = 2 ** 32 - 1
 
 
 def main(words: list[str]) -> None:
+    """Does what the words of the call ask for."""
     given = Words("large", ["size", "seed", "program"], ["clang"]).read(words)
     name, folder_name = given.need("roads or circuit, and FOLDER", 2)
     if not folder_name:

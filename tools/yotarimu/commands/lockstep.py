@@ -44,6 +44,7 @@ def act_of(line: dict[str, Any]) -> Act:
 
 
 def script_of(path: str) -> str:
+    """The script of a run that was told; refuses one that is too long for the program."""
     text = script_text(acts_of(path))
     if len(text) > MOST_BYTES:
         raise Refusal(f"{path}: its acts are more than {MOST_BYTES:,} bytes, the most that the program reads.")
@@ -51,6 +52,7 @@ def script_of(path: str) -> str:
 
 
 def main(words: list[str]) -> None:
+    """Does what the words of the call ask for."""
     given = Words("lockstep", ["of", "seed"]).read(words)
     path = given.values["of"]
     if path is not None:

@@ -25,6 +25,7 @@ from yotarimu.programs.table import Table
 
 
 def main(words: list[str]) -> int:
+    """Does what the words of the call ask for, and gives the status."""
     table = Table()
     given = Words("play", ["image", "picture", "plain", *table.options]).read(words)
     options = options_of(given.values, table)

@@ -15,6 +15,7 @@ from yotarimu.reports.refusals import why
 
 
 def main(words: list[str]) -> int:
+    """Does what the words of the call ask for, and gives the status."""
     if len(words) < 2:
         raise Refusal("it wants what the program said, and its COMMAND; ./fractal refusal --help tells more.")
     print(why(words[0].strip(), words[1:], read_bytes("-")))

@@ -42,6 +42,7 @@ def options_of(given: GivenWords, table: Table) -> list[str]:
 
 
 def main(words: list[str]) -> int:
+    """Does what the words of the call ask for, and gives the status."""
     table = Table()
     given = Words("resume", ["every", "program", *table.options]).read(words)
     if given.values["every"] is None:

@@ -13,6 +13,7 @@ from yotarimu.programs.table import Table
 
 
 def main(words: list[str]) -> None:
+    """Does what the words of the call ask for."""
     kind, = Words("shell").read(words).need("bash, zsh or man", 1)
     if kind not in KINDS:
         raise Refusal(f"it writes for bash, zsh and man, and not for `{kind}`.")

@@ -22,6 +22,7 @@ MOST_ACT = 2 ** 64 - 1
 
 
 def main(words: list[str]) -> None:
+    """Does what the words of the call ask for."""
     given = Words("show", ["from", "to"], ["cut"]).read(words)
     first, last = given.number("from", 0, MOST_ACT, 0), given.number("to", 0, MOST_ACT, MOST_ACT)
     if first > last:

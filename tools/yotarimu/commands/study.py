@@ -65,6 +65,7 @@ def take_options(words: Sequence[str], names: Sequence[str]) -> tuple[dict[str, 
 
 
 def need_paths(words: Sequence[str], what: str) -> list[str]:
+    """Words that are names of files or images, each once; refuses others."""
     unknown = next((word for word in words if word.startswith("--")), None)
     if unknown is not None:
         raise Refusal(f"`{unknown}` isn't known; {HELP}")
@@ -76,6 +77,7 @@ def need_paths(words: Sequence[str], what: str) -> list[str]:
 
 
 def number_of(seen: Mapping[str, Optional[str]], name: str, least: int, most: int, default: int) -> int:
+    """The number of an option within its range, or what it is unless given."""
     text = seen[name]
     return default if text is None else need_number(f"--{name}", text, least, most)
 
@@ -109,6 +111,7 @@ def study_of(words: Sequence[str], grid: Table) -> tuple[StudyRows, list[str], d
 
 
 def play(words: Sequence[str]) -> int:
+    """Plays the choices of a study, or the rest of them, and prints the table."""
     grid = Table()
     played, varying, seen = study_of(words, grid)
     picture, path = picture_of(seen["plot"], seen["log"], COLUMNS, grid.options), seen["csv"]
@@ -149,6 +152,7 @@ def join(words: Sequence[str]) -> int:
 
 
 def main(words: list[str]) -> int:
+    """Does what the words of the call ask for, and gives the status."""
     page, rest = take_option(words, "--page")
     if page is not None:
         return page_tables.main(page, rest)

@@ -64,6 +64,7 @@ def read_words(words: list[str], table: Table) -> Request:
 
 
 def load_of(table: Table, text: str) -> list[str]:
+    """The words of a generated load, as `load` takes them; refuses others."""
     if "load" not in table.commands:
         raise Refusal("the program generates no loads: it has no command `load` in ./fractal help.")
     words, names = text.split(","), table.commands["load"].split()
@@ -73,6 +74,7 @@ def load_of(table: Table, text: str) -> list[str]:
 
 
 def main(words: list[str]) -> None:
+    """Does what the words of the call ask for."""
     table = Table()
     request = read_words(words, table)
     picture = picture_of(request.plot, request.axes, NUMBERS, table.options)

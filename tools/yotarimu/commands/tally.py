@@ -22,6 +22,7 @@ from yotarimu.pictures import plot
 
 
 def main(words: list[str]) -> None:
+    """Does what the words of the call ask for."""
     given = Words("tally", ["plot", "csv"]).read(words)
     path, csv_path = given.values["plot"], given.values["csv"]
     script, *outputs = given.need("a SCRIPT and one OUTPUT of its playing or more", 2, len(words))

@@ -20,6 +20,7 @@ from yotarimu.programs.program import PROGRAM
 
 
 def main(words: list[str]) -> int:
+    """Does what the words of the call ask for, and gives the status."""
     known = (*EXAMPLES, *SCHEDULES, ANSWERS)
     for word in words:
         if word not in known:

@@ -41,6 +41,7 @@ def verdict_of(attempt: Attempt) -> tuple[str, Optional[str]]:
 
 
 def main(told: list[str]) -> int:
+    """Does what the words of the call ask for, and gives the status."""
     chosen = [attempt for attempt in TRIES if not told or any(word in attempt.__name__ for word in told)]
     if not chosen:
         raise Refusal("no try has such a name.")

@@ -29,6 +29,7 @@ MOST_TOLD = 10
 
 
 def main(words: List[str]) -> int:
+    """Does what the words of the call ask for, and gives the status."""
     if words == [MODULES]:
         make_modules()
         return 0
@@ -43,6 +44,7 @@ def main(words: List[str]) -> int:
 
 
 def compare(path: pathlib.Path) -> int:
+    """Says whether a page is the one that would be made now; the status is 1 where it isn't."""
     found = difference(path)
     if found is None:
         print(f"{path} is the page that would be made now, but for the commit that it tells.")
@@ -52,6 +54,7 @@ def compare(path: pathlib.Path) -> int:
 
 
 def hold(count: int) -> int:
+    """Holds the modules against the built programs, and says what came of it; the status is 1 where they differ."""
     outcome = compare_all(count, SEED)
     for kind, times in outcome.counts.items():
         print(f"{times:,} calls: {kind}")

@@ -22,6 +22,7 @@ RUNS = 200
 
 
 def main(words: list[str]) -> int:
+    """Does what the words of the call ask for, and gives the status."""
     given = Words("workers", ["runs", "jobs", "program"]).read(words)
     runs, jobs = given.number("runs", 1, MOST_RUNS, RUNS), given.number("jobs", 1, MOST_JOBS, 1)
     for word in given.others:

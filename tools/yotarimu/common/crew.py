@@ -44,6 +44,7 @@ class Crew:
             self.end()
 
     def start(self, place: int, item: Any) -> None:
+        """Starts a process for the item at a place."""
         mine, theirs = CONTEXT.Pipe(duplex=False)
         process = CONTEXT.Process(target=do, args=(self.work, item, theirs, [mine, *self.running]))
         process.start()
@@ -51,6 +52,7 @@ class Crew:
         self.running[mine] = place, process
 
     def receive(self, connection: Connection) -> News:
+        """What a process tells next; refuses one that ended and told nothing."""
         place, process = self.running[connection]
         try:
             is_last, what = connection.recv()
@@ -66,6 +68,7 @@ class Crew:
         return News(place, is_last, what)
 
     def end(self) -> None:
+        """Ends all processes that still run."""
         for _, process in self.running.values():
             process.terminate()
         for connection, (_, process) in self.running.items():

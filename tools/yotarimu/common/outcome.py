@@ -46,6 +46,7 @@ def run_script(name: str, main: Main, words: Optional[list[str]] = None) -> NoRe
 
 
 def answer(name: str, main: Main, words: list[str]) -> int:
+    """The status of a command, whose refusal or fault is said in one sentence."""
     try:
         if sys.stdout is None:
             raise Refusal("standard output is closed.")
@@ -71,16 +72,19 @@ def end(status: int) -> NoReturn:
 
 
 def stop(number: int, _frame: Optional[types.FrameType]) -> NoReturn:
+    """Answers a signal: from then on others are ignored, and the command is interrupted."""
     ignore_signals()
     raise Interruption(number)
 
 
 def ignore_signals() -> None:
+    """Ignores each signal that asks for the end."""
     for number in SIGNALS:
         signal.signal(number, signal.SIG_IGN)
 
 
 def say(name: str, sentence: object) -> None:
+    """Says a sentence on the standard error, behind the name of who says it."""
     if sys.stderr is None:
         return
     # A line of progress may stand on a terminal.

@@ -74,6 +74,7 @@ class Words(argparse.ArgumentParser):
             self.add_argument(f"--{name}", dest=name, action="store_true")
 
     def error(self, message: str) -> NoReturn:
+        """Refuses the words, in the way that the parser tells."""
         raise Refusal(f"{message}.")
 
     def read_known(self, words: Sequence[str]) -> GivenWords:

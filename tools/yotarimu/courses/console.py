@@ -42,6 +42,7 @@ class Console:
 
     @property
     def acts(self) -> list[str]:
+        """The acts so far."""
         return self.performance.acts
 
     def follow(self, typed: Iterable[str]) -> None:
@@ -61,6 +62,7 @@ class Console:
                 break
 
     def answer(self, word: str, *rest: str) -> None:
+        """Answers a line: by a word of the console, or by an act that is played; refuses others."""
         if word in self.words:
             self.words[word](list(rest))
             return
@@ -77,18 +79,21 @@ class Console:
         self.tell(self.schedule.play([*self.acts, *acts], len(self.acts)))
 
     def tell(self, performance: Performance) -> None:
+        """Tells what acts came to, which are the console's from then on."""
         self.performance, self.is_saved = performance, not performance.acts
         write([*performance.text_lines(), ""])
 
     # ---- words of the console
 
     def undo(self, words: Sequence[str]) -> None:
+        """Takes the last act back, or as many as are told."""
         count = number_behind("undo", words, len(self.acts), 1) if self.acts else 0
         if not count:
             raise Refusal("no act is left to undo.")
         self.tell(self.schedule.play(self.acts[:-count]))
 
     def run(self, words: Sequence[str]) -> None:
+        """Brings the least task on so many times, or up to the end of the run."""
         count = number_behind("run", words, MOST_RUN, None)
         before = len(self.acts)
         performance = self.schedule.play([*self.acts, *["advance"] * count], before)
@@ -100,24 +105,29 @@ class Console:
         self.tell(performance)
 
     def show(self, words: Sequence[str]) -> None:
+        """Tells the machine once more."""
         need_none("show", words)
         write([*self.schedule.play(self.acts).text_lines(), ""])
 
     def script(self, words: Sequence[str]) -> None:
+        """Tells all acts with their replies."""
         need_none("script", words)
         write(f"{number:>5}  {act:<14}  {reply}"
               for number, (act, reply) in enumerate(zip(self.acts, self.performance.replies), 1))
 
     def save(self, words: Sequence[str]) -> None:
+        """Writes the acts to a file that isn't there yet."""
         path = file_behind("save", words)
         if pathlib.Path(path).exists():
             raise Refusal(f"{path}: this is there already; `save! {path}` replaces it.")
         self.write_script(path)
 
     def save_over(self, words: Sequence[str]) -> None:
+        """Writes the acts to a file, in place of what it has."""
         self.write_script(file_behind("save!", words))
 
     def write_script(self, path: str) -> None:
+        """Writes the acts to a file, and tells how they are played."""
         need_outputs([path], [self.schedule.path])
         write_whole({path: "".join(f"{act}\n" for act in self.acts).encode()})
         self.is_saved = True
@@ -126,6 +136,7 @@ class Console:
                f"./fractal play {shlex.quote(path)} --image {shlex.quote(str(self.schedule.path))}{options}"])
 
     def open(self, words: Sequence[str]) -> None:
+        """Writes a page of the run, and opens it in a browser."""
         path = pathlib.Path(file_behind("open", words) if words else new_page())
         need_writable(path)
         need_page(path)
@@ -139,11 +150,13 @@ class Console:
         write([f"The page is {path}; a browser shows this act at {path.resolve().as_uri()}#{len(self.acts)}"])
 
     def help(self, words: Sequence[str]) -> None:
+        """Tells the acts, and the words of the console."""
         need_none("help", words)
         acts = ", ".join(f"{word} {numbers}".strip() for word, numbers in ACTS.items())
         write([f"Acts, with a tile T and a core C: {acts}.", "", self.usage])
 
     def quit(self, words: Sequence[str]) -> None:
+        """Ends the console."""
         need_none("quit", words)
         self.is_left = True
 
@@ -154,6 +167,7 @@ class Console:
 
 
 def write(lines: Iterable[str]) -> None:
+    """Writes lines at once."""
     print(*lines, sep="\n", flush=True)
 
 
@@ -167,6 +181,7 @@ def number_behind(word: str, words: Sequence[str], most: int, default: Optional[
 
 
 def file_behind(word: str, words: Sequence[str]) -> str:
+    """The one file that a word takes; refuses any other words."""
     if len(words) != 1:
         raise Refusal(f"`{word}` takes one FILE, without blanks in its name.")
     if "\0" in words[0]:
@@ -175,11 +190,13 @@ def file_behind(word: str, words: Sequence[str]) -> str:
 
 
 def need_none(word: str, words: Sequence[str]) -> None:
+    """Refuses words behind one that takes none."""
     if words:
         raise Refusal(f"nothing stands behind `{word}`.")
 
 
 def new_page() -> pathlib.Path:
+    """Where a page goes that no file was named for."""
     return pathlib.Path(tempfile.mkdtemp(prefix="console-")) / "page.html"
 
 
@@ -208,6 +225,7 @@ def typed_lines() -> Iterator[str]:
 
 
 def prompted_lines() -> Iterator[str]:
+    """Lines as they are typed behind a prompt, up to the end of the input."""
     try:
         # It is part of Python where its library is there, and lets a line be edited.
         import readline  # noqa: F401

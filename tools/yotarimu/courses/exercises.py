@@ -40,6 +40,7 @@ class WrongAnswer(Exception):
 
 
 def hold(is_so: object, template: str, **values: object) -> None:
+    """Holds an answer to what it has to be; raises WrongAnswer, with a text that is filled in."""
     if not is_so:
         raise WrongAnswer(fill(template, **values))
 
@@ -53,6 +54,7 @@ def run_of(image: FilePath) -> Report:
 
 
 def judge_journal(path: str) -> str:
+    """Judges the journal of an image, as it was worked out by hand."""
     said = SAID["journal"]
     lines = [line.partition("#")[0].split() for line in read_written(path).split("\n")]
     given = [(number, fields) for number, fields in enumerate(lines, 1) if fields]
@@ -83,6 +85,7 @@ def played_of(name: str, path: str) -> tuple[list[PlayedAct], str]:
 
 
 def judge_abort(path: str) -> str:
+    """Judges a script that is to take a task back by a conflict."""
     (played, end), said = played_of("abort", path), SAID["abort"]
     back = [it for it in played if it.said.taken_back]
     hold(back, said["none"])
@@ -93,6 +96,7 @@ def judge_abort(path: str) -> str:
 
 
 def judge_stall(path: str) -> str:
+    """Judges a script that is to fill a queue."""
     (played, end), said = played_of("stall", path), SAID["stall"]
     found = next((number for number, _, it in played if it.reply == "stall"), None)
     hold(found, said["none"])
@@ -114,6 +118,7 @@ def build_image(folder: str) -> tuple[pathlib.Path, Image]:
 
 
 def judge_false_conflict(folder: str) -> str:
+    """Judges a program that is to do the same with fewer conflicts."""
     path, _ = build_image(folder)
     table, own, said = Table(), FOLDER / "false_conflict", SAID["false_conflict"]
     options = options_beside(own, table)
@@ -128,6 +133,7 @@ def judge_false_conflict(folder: str) -> str:
 
 
 def judge_order(folder: str) -> str:
+    """Judges tasks that are to emit a word whichever way they run."""
     (path, image), said = build_image(folder), SAID["order"]
     own = read_image(read_bytes(FOLDER / "order" / "image.bin"), "order")
     hold(image.text == own.text, said["text"])

@@ -86,6 +86,7 @@ class Picture:
     axes: str
 
     def draw(self, rows: Sequence[Mapping[str, str]], origin: str) -> bytes:
+        """The plot of rows, as the bytes of a file; `origin` says whose rows they are."""
         series = series_of(rows, self.column, self.option, origin)
         return encode(plot.draw(series, f"--{self.option}", self.column, self.axes))
 

@@ -67,6 +67,7 @@ class Performance:
         self.machine, self.end = watched.machine, watched.end
 
     def note(self, told: ToldLine, machine: Machine, is_new: bool) -> None:
+        """Notes what an act came to; a new one is told in a sentence."""
         line, limits = told.line, self.schedule.image.limits
         taken = f", {count_text(len(told.taken), 'task')} taken back" if told.taken else ""
         self.replies.append(line["reply"] + taken)
@@ -90,6 +91,7 @@ class Performance:
         yield from self.machine_lines()
 
     def machine_lines(self) -> Iterator[str]:
+        """The machine behind the last act, for people."""
         return Display(self.machine, self.last, self.entries, self.output, self.schedule.listing).lines()
 
 

@@ -60,6 +60,7 @@ class Page:
         return None
 
     def differs_from(self, table: Table) -> bool:
+        """Whether a table stands in the page otherwise than it was made now."""
         return self.lines[table.first:table.end] != table.rows
 
     def write(self) -> None:
@@ -104,6 +105,7 @@ def call_line(line: str, folder: pathlib.Path) -> list[str]:
 
 
 def told_lines(line: str, data: bytes) -> list[str]:
+    """The lines that a command wrote; refuses what is no text."""
     try:
         return data.decode().splitlines()
     except UnicodeDecodeError:

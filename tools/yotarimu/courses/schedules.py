@@ -48,6 +48,7 @@ class PlayedScript:
     report: Report
 
     def pairs(self) -> Iterator[tuple[Act, ActAnswer]]:
+        """Each act with what it was answered."""
         return zip(self.acts, self.said)
 
     def commits(self) -> dict[int, Entry]:
@@ -57,6 +58,7 @@ class PlayedScript:
 
 
 def is_commit(act: Act, said: ActAnswer) -> bool:
+    """Whether an act made a task commit."""
     return (act.word, said.reply) in (("commit", "ok"), ("advance", "committed"))
 
 
@@ -69,6 +71,7 @@ def read_script(text: str, name: FilePath) -> list[Act]:
 
 
 def read_act(line: str, place: str) -> Act:
+    """The act of a line of a script; refuses other lines."""
     word, *numbers = line.split(" ")
     if word not in NUMBERS or len(numbers) != NUMBERS[word] or not all(re.fullmatch(NUMBER, it) for it in numbers):
         raise Refusal(f"{place}: `{line[:40]}` is no line of a script; docs/guest/FORMATS.md tells which are.")
@@ -104,6 +107,7 @@ def read_replies(text: str) -> list[ActAnswer]:
 
 
 def read_said(line: str, place: str) -> ActAnswer:
+    """What a line says that an act was answered; refuses other lines."""
     found = re.fullmatch(r"([a-z]+) ([0-9]{1,10})", line)
     if not found or found[1] not in DONE + REFUSALS:
         raise Refusal(f"{place}: this is no answer to an act; `{line[:40]}` stands where one is wanted.")
@@ -177,4 +181,5 @@ def acts_a_round(acts: Sequence[Act]) -> Optional[int]:
 
 
 def script_text(acts: Iterable[Act]) -> str:
+    """Acts as the text of a script."""
     return "".join(f"{act}\n" for act in acts)

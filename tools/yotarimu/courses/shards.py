@@ -42,6 +42,7 @@ def read_study(path: str) -> tuple[list[str], Rows]:
 
 
 def part_of(path: str) -> Part:
+    """The rows of one shard in a file; refuses a file that has others."""
     head, rows = read_study(path)
     found = {tuple(number_in(row[name], 1, MOST_RUNS) for name in ("shard", "shards", "choices")) for row in rows}
     if not rows:

@@ -66,6 +66,7 @@ class Study:
         return Row(f"none in {self.rounds:,} rounds" if figures.end == "open" else figures.end, figures)
 
     def figures(self, file: BinaryIO, tell: Tell) -> Figures:
+        """The figures of a run as it is told; acts or rounds are told as they come."""
         watched = Reader(file, "the second program")
         rounds = watched.machine.rounds
         return figures_of(watched, lambda act: tell(act if rounds is None else rounds.number))
@@ -135,16 +136,19 @@ class Progress:
             self.rounds[choice.number] = rounds
 
     def show(self) -> None:
+        """Shows how far each choice is, on a terminal."""
         if self.is_shown and self.rounds:
             now = ", ".join(f"choice {number} in round {rounds:,}" for number, rounds in sorted(self.rounds.items()))
             show_line(f"study: {len(self.played.rows)} of {len(self.played.choices)} choices; {now}")
 
     def clear(self) -> None:
+        """Takes the line of progress away."""
         if self.is_shown:
             show_line("")
 
 
 def head_of(options: Sequence[str]) -> list[str]:
+    """The names of all columns of a study with these options."""
     return [*SHARD_COLUMNS, *(f"--{name}" for name in options), *COLUMNS, END]
 
 
@@ -160,6 +164,7 @@ def tell(played: StudyRows, varying: Sequence[str], jobs: int) -> None:
 
 
 def csv_of(cells: Sequence[Sequence[str]]) -> bytes:
+    """Rows as a file of CSV."""
     text = io.StringIO()
     csv.writer(text, lineterminator="\n").writerows(cells)
     return encode(text.getvalue())

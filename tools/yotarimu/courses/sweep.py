@@ -74,6 +74,7 @@ def result_of(written: bytes) -> Result:
 
 
 def digest(data: bytes) -> str:
+    """A short name of some bytes: 16 digits of their SHA-256."""
     return hashlib.sha256(data).hexdigest()[:16]
 
 
@@ -98,6 +99,7 @@ class Request:
 
 
 def header(table: Table) -> list[str]:
+    """The names of the columns of a sweep."""
     return ["input", *(f"--{name}" for name in table.options), *RESULTS]
 
 
@@ -142,6 +144,7 @@ def has_failed(row: dict[str, str]) -> bool:
 
 
 def read_rows(path: FilePath) -> list[dict[str, str]]:
+    """The rows of a file of CSV; refuses one whose rows haven't all columns."""
     text = read_written(path)
     try:
         rows = list(csv.DictReader(io.StringIO(text)))

@@ -33,6 +33,7 @@ class Attempt:
 
     @property
     def timestamp(self) -> int:
+        """The task's timestamp, which counts as 0 in an unordered domain."""
         return self.task.timestamp if self.task.domain.kinds[-1] else 0
 
     @property
@@ -46,6 +47,7 @@ class Attempt:
         self.stretches.append(stretch)
 
     def is_there(self, position: Position) -> bool:
+        """Whether the attempt has begun at a position, and isn't gone yet."""
         return self.born <= position and (self.gone is None or position < self.gone)
 
     def stretches_before(self, stretch: int) -> int:
@@ -76,6 +78,7 @@ class AttemptCore(Core):
         self.attempt, self.taken = attempt, 0
 
     def load(self, kind: int, address: int) -> int:
+        """Loads of data find what the lines tell; those of text and stack are carried out."""
         if not DATA <= address < STACK:
             return super().load(kind, address)
         value, width = self.attempt.loaded[self.taken], 1 << (kind & 3)
@@ -84,6 +87,7 @@ class AttemptCore(Core):
         return value if kind & 4 else machine.signed_number(value, 8 * width)
 
     def store(self, width: int, address: int, value: int) -> None:
+        """Stores to data are told and not made, as the memory follows the lines; those to the stack are made."""
         if not DATA <= address < STACK:
             super().store(width, address, value)
         self.touched = Touch(True, address, width)

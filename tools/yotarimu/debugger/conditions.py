@@ -23,9 +23,11 @@ class Unknown(Exception):
 class Values(Protocol):
     """What a condition is about."""
 
-    def register(self, number: int) -> int: ...
+    def register(self, number: int) -> int:
+        """The value of a register by gdb's number."""
 
-    def memory(self, address: int, count: int) -> bytes: ...
+    def memory(self, address: int, count: int) -> bytes:
+        """So many bytes from an address on, or fewer where they can't all be read."""
 
 
 def quotient_of(one: int, two: int) -> int:
@@ -37,6 +39,7 @@ def quotient_of(one: int, two: int) -> int:
 
 
 def rest(one: int, two: int) -> int:
+    """What is left of a quotient that is rounded towards zero."""
     return one - two * quotient_of(one, two)
 
 
@@ -102,9 +105,11 @@ class Machine:
         return int.from_bytes(data, "big")
 
     def push(self, number: int) -> None:
+        """Puts a number, cut to 64 bits, on the stack."""
         self.stack.append(int(number) & WORD)
 
     def step(self, byte: int) -> None:
+        """Carries out one byte of an expression, with the operand behind it."""
         stack = self.stack
         if byte in OF_TWO:
             two = stack.pop()
@@ -135,6 +140,7 @@ class Machine:
             raise Unknown
 
     def load(self, count: int) -> None:
+        """Replaces the address on the stack by the number that stands there; raises Unknown where it can't be read."""
         found = self.values.memory(self.stack.pop() & ADDRESS, count)
         if len(found) < count:
             raise Unknown

@@ -86,6 +86,7 @@ def serve_started(track: Track, listening: socket.socket, process: subprocess.Po
 
 
 def end(process: subprocess.Popen[bytes]) -> None:
+    """Asks a process to end, where it still runs, and waits for it."""
     if process.poll() is None:
         process.terminate()
         process.wait()

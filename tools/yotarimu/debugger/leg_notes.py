@@ -79,6 +79,7 @@ class LegNotes:
         self.running[task] = attempt
 
     def commit(self, task: Task) -> None:
+        """Notes a task's commit, with which its attempt is gone."""
         attempt = self.running.pop(task)
         del self.counts[task]
         self.turns += 1
@@ -105,6 +106,7 @@ class LegNotes:
         self.stretches.append(Stretch(length, self.known.setdefault(pcs, pcs), first, len(self.memory.stores)))
 
     def access(self, attempt: Attempt, access: Access) -> None:
+        """Notes an access: a store changes memory, and of a load the value that it found is kept."""
         if access.is_store:
             self.accesses[len(self.memory.stores)] = access
             self.memory.write(access.address - DATA, access.value.to_bytes(access.bytes, "little"))
@@ -112,6 +114,7 @@ class LegNotes:
             attempt.loaded.append(access.old)
 
     def need_room(self, count: int) -> None:
+        """Counts instructions, and refuses more of them than can be gone along."""
         self.steps += count
         if self.steps > MOST_STEPS:
             raise Refusal(f"these are more than {MOST_STEPS:,} instructions, and no more are gone along; a run up to "
@@ -134,4 +137,5 @@ class LegNotes:
 
 
 def event_of(access: Access) -> int:
+    """The number of the event that an access was made in."""
     return access.event

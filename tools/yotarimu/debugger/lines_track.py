@@ -67,6 +67,7 @@ class LinesTrack(Track):
         self.move_memory(position)
 
     def move_memory(self, position: Position) -> None:
+        """Brings memory to what it is at a position."""
         stretch = self.stretches[position.stretch]
         self.memory.move(stretch.last if position.done == stretch.length else stretch.first)
 
@@ -174,12 +175,14 @@ class LinesTrack(Track):
         return told
 
     def trap_words(self, attempt: Attempt) -> str:
+        """How an attempt traps; no words where it doesn't."""
         if attempt.trap is None:
             return ""
         cause, pc = attempt.trap
         return f"traps with cause {cause}, {cause_told(cause, self.image.limits)[0]}, at {self.place_told(pc)}"
 
     def end_told(self, attempt: Attempt) -> str:
+        """How an attempt ends: by a trap, a commit, or by being taken back; or that it is there at the end."""
         if attempt.turn is not None:
             end = f"commits as turn {attempt.turn}"
         elif attempt.cause is not None:
@@ -191,6 +194,7 @@ class LinesTrack(Track):
     # ---- what may be asked beside
 
     def line(self, attempt: Attempt) -> str:
+        """An attempt as a row of a list, with a mark where it is the one that runs."""
         task = attempt.task
         turn = "no turn" if attempt.turn is None else f"turn {attempt.turn}"
         mark = ">" if attempt is self.owner else " "
@@ -258,6 +262,7 @@ class LinesTrack(Track):
         return [self.line(attempt), *creators]
 
     def origins(self, attempt: Attempt) -> Iterator[Origin]:
+        """Where the attempt's task was made, where the task that made it was, and so on."""
         while (making := self.notes.made.get(attempt.task)) is not None:
             yield making
             attempt = making.by

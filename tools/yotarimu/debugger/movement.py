@@ -43,10 +43,12 @@ class Watch:
     count: int
 
     def is_met(self, touch: Touch) -> bool:
+        """Whether an access is of the kind that is watched, and meets a watched byte."""
         is_kind = self.kind == EITHER or self.kind == (WRITTEN if touch.is_store else READ)
         return is_kind and self.address < touch.address + touch.width and touch.address < self.address + self.count
 
     def sentence(self) -> str:
+        """What a stop tells gdb of the watchpoint."""
         return f"{WATCHES[self.kind]}:{self.address:x};"
 
 
@@ -61,6 +63,7 @@ class Order:
 
     @property
     def is_step(self) -> bool:
+        """Whether one thread alone is to go on, by one instruction or through a range."""
         return self.thread != 0
 
 
@@ -78,11 +81,13 @@ class Here:
         self.track = track
 
     def register(self, number: int) -> int:
+        """A register of the running task by gdb's number; raises Unknown for those that it hasn't."""
         if number > PC:
             raise conditions.Unknown
         return register_of(self.track.core, number)
 
     def memory(self, address: int, count: int) -> bytes:
+        """Bytes that the running task sees, or fewer where they can't all be read."""
         return self.track.bytes_at(address, count, bytes(self.track.core.stack))
 
 
@@ -149,6 +154,7 @@ class Movement:
         return None if order.is_alone else self.notice()
 
     def is_done(self, order: Order) -> bool:
+        """Whether the thread of an order has left the range that it is to go through."""
         track = self.track
         return track.thread == order.thread and not order.start <= track.core.pc < order.end
 

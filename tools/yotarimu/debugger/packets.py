@@ -55,10 +55,12 @@ class Connection:
         return is_asked
 
     def raw(self, data: bytes) -> None:
+        """Writes bytes as they are, all of them."""
         while data:
             data = data[os.write(self.write_to, data):]
 
     def send(self, text: str) -> None:
+        """Sends a text as a packet, with its checksum; characters that have a meaning of their own are escaped."""
         data = bytearray()
         for byte in text.encode("latin-1", "replace"):
             data += bytes([ESCAPE, byte ^ ESCAPED_BY]) if byte in TO_ESCAPE else bytes([byte])

@@ -59,6 +59,7 @@ class Turns(machine.Machine):
         return Turn(self.track, task)
 
     def add(self, name: Name, entry: int, timestamp: int, arguments: Iterable[int], domain: machine.Domain) -> None:
+        """Adds a task; on the first way it is noted where a child was made."""
         if self.is_first:
             super().add(name, entry, timestamp, arguments, domain)
             if name.creator:
@@ -116,6 +117,7 @@ class ReportTrack(Track):
         return None
 
     def need_room(self, executed: int) -> None:
+        """Counts instructions, and refuses more of them than can be gone along."""
         self.steps += executed
         if self.steps > MOST_STEPS:
             raise Refusal(f"these are more than {MOST_STEPS:,} instructions, and no more are gone along; a run up to "
@@ -146,6 +148,7 @@ class ReportTrack(Track):
     # ---- positions
 
     def begin(self) -> None:
+        """Goes to the first instruction of the first turn."""
         self.memory.move(0)
         self.core = Turn(self, self.order[0])
 
@@ -191,6 +194,7 @@ class ReportTrack(Track):
         return self.numbers[self.core.task.name]
 
     def task_of(self, thread: int) -> machine.Task:
+        """The task that a thread is."""
         return self.turns.tasks[self.names[thread - 1]]
 
     def threads(self) -> list[int]:
@@ -200,6 +204,7 @@ class ReportTrack(Track):
         return [self.numbers[task.name] for task in coming if task is coming[0] or self.is_made(task)]
 
     def is_made(self, task: machine.Task) -> bool:
+        """Whether a task is there at this position: it is of the image, or was made before."""
         making = self.turns.made.get(task.name)
         return making is None or making.position < self.position
 
@@ -234,6 +239,7 @@ class ReportTrack(Track):
     # ---- what may be asked beside
 
     def line(self, task: machine.Task) -> str:
+        """A task as a row of a list, with a mark where it is the one that runs."""
         turn = f"turn {task.turn}" if task.turn else "no turn"
         mark = ">" if task is self.core.task else " "
         return (f"{mark} {turn:>9}  {task.name!s:<8} ts {task.timestamp:<8} depth {task.domain.depth}  "
@@ -279,6 +285,7 @@ class ReportTrack(Track):
         return rows
 
     def origins(self, task: machine.Task) -> Iterator[Origin]:
+        """Where a task was made, where the task that made it was, and so on."""
         while (making := self.turns.made.get(task.name)) is not None:
             yield making
             task = self.order[making.position.stretch]

@@ -42,6 +42,7 @@ class Server:
             return
 
     def answer(self, packet: str) -> str:
+        """The answer to a packet; an empty one where it is unknown here."""
         for start, answer in ANSWERS.items():
             if packet.startswith(start):
                 try:
@@ -56,6 +57,7 @@ class Server:
     # ---- what it is
 
     def features(self, _rest: str) -> str:
+        """What the server can do."""
         return FEATURES
 
     def nothing(self, _rest: str) -> str:
@@ -63,42 +65,53 @@ class Server:
         return ""
 
     def no_acks(self, _rest: str) -> str:
+        """Packets are no longer acknowledged from here on."""
         return OK
 
     def leave(self, _rest: str) -> str:
+        """gdb goes, and the server with it."""
         self.is_over = True
         return OK
 
     def target(self, rest: str) -> str:
+        """A part of the description of the machine's registers."""
         return part(description(), rest)
 
     # ---- threads
 
     def threads(self, rest: str) -> str:
+        """A part of the list of threads in XML, with their names and states."""
         rows = "".join(f'<thread id="{thread:x}" name={quoteattr(ascii_of(self.track.name_of(thread)))}>'
                        f"{self.track.state_of(thread)}</thread>" for thread in self.shown_threads())
         return part(f'<?xml version="1.0"?><threads>{rows}</threads>', rest)
 
     def shown_threads(self) -> list[int]:
+        """The threads that gdb is told of, of which there may be fewer than there are."""
         return self.track.threads()[:MOST_THREADS]
 
     def first_threads(self, _rest: str) -> str:
+        """The numbers of the threads."""
         return "m" + ",".join(f"{thread:x}" for thread in self.shown_threads())
 
     def more_threads(self, _rest: str) -> str:
+        """No thread is left to be listed."""
         return "l"
 
     def current_thread(self, _rest: str) -> str:
+        """The number of the thread that runs at this position."""
         return f"QC{self.track.thread:x}"
 
     def is_attached(self, _rest: str) -> str:
+        """The process was there before gdb came, so gdb doesn't end it."""
         return "1"
 
     def thread_told(self, rest: str) -> str:
+        """The name of a thread, and what state it is in."""
         thread = int(rest, 16)
         return hex_text(f"{self.track.name_of(thread)}, {self.track.state_of(thread)}")
 
     def is_thread_there(self, rest: str) -> str:
+        """Whether a thread is there at this position."""
         return OK if int(rest, 16) in self.shown_threads() else FAILED
 
     def choose(self, rest: str) -> str:
@@ -113,28 +126,34 @@ class Server:
     # ---- registers and memory
 
     def core(self) -> Core:
+        """The core of the thread that gdb has chosen."""
         return self.track.core_of(self.chosen)
 
     def registers(self, _rest: str) -> str:
+        """All registers of the chosen thread, in hexadecimal."""
         core = self.core()
         return b"".join(word_bytes(register_of(core, number)) for number in range(PC + 1)).hex()
 
     def register(self, rest: str) -> str:
+        """One register of the chosen thread, in hexadecimal."""
         number = int(rest, 16)
         return word_bytes(register_of(self.core(), number)).hex() if number <= PC else FAILED
 
     def set_registers(self, rest: str) -> str:
+        """Changes all registers of the task that runs."""
         data = bytes.fromhex(rest)
         for number in range(PC + 1):
             self.set_one(number, data[WORD_BYTES * number:WORD_BYTES * (number + 1)])
         return OK
 
     def set_register(self, rest: str) -> str:
+        """Changes one register of the task that runs."""
         number, value = rest.split("=")
         self.set_one(int(number, 16), bytes.fromhex(value))
         return OK
 
     def set_one(self, number: int, data: bytes) -> None:
+        """Changes a register to what its bytes tell, where that differs."""
         core, value = self.track.core, int.from_bytes(data, "little")
         if number == 0 or number > PC or value == register_of(self.core(), number):
             return
@@ -146,10 +165,12 @@ class Server:
             core.registers[number] = value
 
     def memory(self, rest: str) -> str:
+        """Bytes that the chosen thread sees, in hexadecimal."""
         address, count = (int(word, 16) for word in rest.split(","))
         return self.track.bytes_at(address, count, bytes(self.core().stack)).hex() or FAILED
 
     def set_memory(self, rest: str) -> str:
+        """Changes bytes of the data or the stack."""
         where, data = rest.split(":")
         if data:
             self.tell_change()
@@ -167,6 +188,7 @@ class Server:
     # ---- stops
 
     def set_point(self, rest: str) -> str:
+        """Sets a breakpoint, with its conditions, or a watchpoint."""
         kind, address, count = point_in(rest)
         self.movement.held = 0
         if kind in BREAKS:
@@ -176,6 +198,7 @@ class Server:
         return OK
 
     def clear_point(self, rest: str) -> str:
+        """Takes a breakpoint or a watchpoint away."""
         kind, address, _ = point_in(rest)
         self.movement.held = 0
         if kind in BREAKS:
@@ -185,9 +208,11 @@ class Server:
         return OK
 
     def why_stopped(self, _rest: str) -> str:
+        """The stop at which the run stands now."""
         return self.stop_answer(Stop(Signal.TRAP))
 
     def actions(self, _rest: str) -> str:
+        """In which ways a run can be told to go on."""
         return "vCont;c;C;s;S;r"
 
     def go(self, rest: str) -> str:
@@ -212,14 +237,17 @@ class Server:
             self.late = ""
 
     def back_step(self, _rest: str) -> str:
+        """Goes back by one instruction, and tells the stop."""
         self.say_late()
         return self.stop_answer(self.movement.back_step(self.resumed or self.chosen or self.track.thread))
 
     def back(self, _rest: str) -> str:
+        """Goes back to the last stop before this position, and tells it."""
         self.say_late()
         return self.stop_answer(self.movement.back())
 
     def stop_answer(self, stop: Stop) -> str:
+        """What a stop tells gdb; its thread is the chosen one from then on."""
         self.chosen = stop.thread or self.track.thread
         return stop_told(stop, self.core(), self.chosen)
 
@@ -262,6 +290,7 @@ def point_in(rest: str) -> tuple[str, int, int]:
 
 
 def word_bytes(value: int) -> bytes:
+    """The four bytes of a word, the lowest first."""
     return value.to_bytes(WORD_BYTES, "little")
 
 

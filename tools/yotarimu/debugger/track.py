@@ -46,6 +46,7 @@ class Store(NamedTuple):
     new: bytes
 
     def touches(self, place: int, count: int) -> bool:
+        """Whether the store changed one of so many bytes from a place in the data on."""
         return self.place < place + count and place < self.place + len(self.old)
 
 
@@ -84,11 +85,13 @@ class Core(machine.Run):
         self.executed += 1
 
     def load(self, kind: int, address: int) -> int:
+        """Loads as the instructions mean it, and notes the access."""
         value = super().load(kind, address)
         self.touched = Touch(False, address, 1 << (kind & 3))
         return value
 
     def store(self, width: int, address: int, value: int) -> None:
+        """Stores as the instructions mean it, notes the access, and keeps what the data had there."""
         place = address - DATA
         if 0 <= place <= len(self.machine.memory) - width and address % width == 0:
             self.keep(place, (value & (1 << 8 * width) - 1).to_bytes(width, "little"))
@@ -250,5 +253,6 @@ class Track(abc.ABC):
         return self.listing.place(pc) or self.listing.address_text(pc)
 
     def need_stretches(self, why: str) -> None:
+        """Refuses a run in which no instruction is executed."""
         if not self.stretches:
             raise Refusal(f"{why}, so there is nothing to go along.")

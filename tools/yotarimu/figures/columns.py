@@ -39,6 +39,7 @@ def quotient(head: str, number: Count, whole: Count, factor: int = 1) -> Column:
 
 
 def mean(head: str, number: Number) -> Column:
+    """A column of a mean: one decimal for people, six digits for programs."""
     return Column(head, lambda it, first: f"{number(it):.1f}", lambda it, first: f"{number(it):.6g}")
 
 
@@ -50,10 +51,12 @@ ROOTS = {"root-byte": Root.BYTE, "root-line": Root.LINE, "root-alias": Root.ALIA
 
 
 def itself(edge: Edge) -> Column:
+    """A column of the tasks that were themselves taken back by something."""
     return count(edge.value, lambda it: it.taken_back.by_edge(edge))
 
 
 def going_back_to(root: Root) -> Column:
+    """A column of the tasks that were taken back and go back to something."""
     return count(f"root: {root.value}", lambda it: it.taken_back.by_root(root))
 
 
@@ -64,6 +67,7 @@ def spread(name: str, head: str) -> dict[str, Column]:
 
 
 def place(name: str, head: str) -> Column:
+    """A column of how many tasks were at a place, in the mean."""
     return mean(head, lambda it: it.occupancy.curve.means()[PLACES.index(name)])
 
 
@@ -96,15 +100,18 @@ def limits() -> dict[str, Column]:
 
 
 def bound(manner: Manner) -> Column:
+    """A column of what no order of commits exceeds, in instructions at once."""
     return mean(f"any order, {manner.value}, at most", lambda it: it.bounds[manner])
 
 
 def fewer(it: Figures, first: Figures) -> float:
+    """How many times fewer rounds a run took than the first one; 0 where either has none."""
     rounds, others = it.rounds(), first.rounds()
     return others / rounds if rounds and others else 0.0
 
 
 def wasted_share(it: Figures) -> float:
+    """How many of a hundred executed instructions were wasted; 0 where none were executed."""
     return 100 * it.taken_back.all_wasted() / it.executed if it.executed else 0.0
 
 
@@ -163,6 +170,7 @@ class Row:
         return [self.cell(name, first, is_plain) for name in names]
 
     def cell(self, name: str, first: Optional[Figures], is_plain: bool) -> object:
+        """A cell of the row by its column's name; of a run without figures it is empty or a dash."""
         if name == END:
             return self.end
         column = COLUMNS[name]
@@ -172,4 +180,5 @@ class Row:
 
 
 def heads(names: Sequence[str]) -> list[str]:
+    """The heads of columns by their names."""
     return ["End" if name == END else COLUMNS[name].head for name in names]

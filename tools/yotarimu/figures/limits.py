@@ -69,9 +69,11 @@ class OrderGate:
         self.ends: collections.deque[int] = collections.deque()
 
     def entry(self) -> int:
+        """When the next task may start: at the end of the one that leaves the window."""
         return self.ends.popleft()
 
     def leave(self, end: int) -> None:
+        """Notes the end of a task, before which no later one leaves the window."""
         if end > self.last:
             self.last = end
         self.ends.append(self.last)
@@ -85,9 +87,11 @@ class SlotGate:
         self.ends: list[int] = []
 
     def entry(self) -> int:
+        """When the next task may start: where the first slot is free."""
         return heapq.heappop(self.ends)
 
     def leave(self, end: int) -> None:
+        """Notes the end of a task, at which its slot is free."""
         heapq.heappush(self.ends, end)
 
 
@@ -125,6 +129,7 @@ class Cells:
         return tuple(range(BYTES + address, BYTES + address + count))
 
     def split_word(self, word: int) -> None:
+        """Gives each byte of a word a cell of its own, in all tables that hold the word."""
         self.split.add(word)
         cells = tuple(range(BYTES + word, BYTES + word + 4))
         for table in self.tables:
@@ -152,6 +157,7 @@ class Gates:
         return starts
 
     def end(self, ends: Times) -> None:
+        """Notes in which units of time a task ends, a time for each column."""
         for number, gate in self.gates:
             gate.leave(ends[number])
         if self.finish != ends:
@@ -195,6 +201,7 @@ Mark = tuple[Shifts, int]
 
 
 def shifts_of(times: Times) -> Shifts:
+    """Shifts of these times, with the least and the greatest beside them."""
     return Shifts(times, min(times), max(times))
 
 
@@ -208,6 +215,7 @@ class WholePlans:
         self.stores: dict[int, Times] = cells.table()
 
     def commit(self, task: CommittedTask) -> None:
+        """Plans a task whole: it starts where all that it waits for has ended."""
         starts, stores = self.gates.starts(self.origins.pop(task.key, None)), self.stores
         own: set[int] = set()
         waited: Optional[Times] = None
@@ -266,6 +274,7 @@ class FinePlans:
         return False
 
     def commit(self, task: CommittedTask) -> None:
+        """Plans a task step by step: each access waits for those before it that it depends on."""
         column, delay, calls = self.column, self.delay, list(task.calls)
         shifts = shifts_of(self.gates.starts(self.origins.pop(task.key, None)))
         for is_store, cells, before in task.points:
@@ -287,6 +296,7 @@ class FinePlans:
         self.gates.end([shift + work for shift in shifts.times])
 
     def note_call(self, call: Call, shifts: Shifts) -> None:
+        """Notes when a child may start: from its creator's call on."""
         # A child may start in the unit behind the call, or within the same round.
         self.origins[call.child] = shifts, call.made[self.column] - 1 + self.delay
 
@@ -320,6 +330,7 @@ class FineLimits:
         self.one: Optional[FinePlans] = None
 
     def commit(self, task: CommittedTask) -> None:
+        """Plans the next task, with renamed memory, and in one memory from where the two differ."""
         if self.one is None and self.renamed.holds_a_store_back(task):
             self.one = self.renamed.in_one_memory(self.cells)
         self.renamed.commit(task)
@@ -327,6 +338,7 @@ class FineLimits:
             self.one.commit(task)
 
     def finish(self, manner: Manner) -> Times:
+        """When all is done, a time for each column."""
         plans = self.one if manner is Manner.ONE and self.one is not None else self.renamed
         return plans.gates.finish
 

@@ -27,6 +27,7 @@ class Curve:
         self.points: list[tuple[int, list[float]]] = []
 
     def note(self, values: Sequence[float]) -> None:
+        """Notes a moment's values; where there are many points, each two become one."""
         self.moments += 1
         self.group = [total + value for total, value in zip(self.group, values)]
         if self.moments % self.step == 0:
@@ -37,12 +38,14 @@ class Curve:
                 self.halve()
 
     def halve(self) -> None:
+        """Makes one point of each two."""
         pairs = zip(self.points[::2], self.points[1::2])
         self.points = [(moment, [(one + other) / 2 for one, other in zip(first, second)])
                        for (_, first), (moment, second) in pairs]
         self.step *= 2
 
     def means(self) -> list[float]:
+        """The mean of each value over all moments; 0 where there is none."""
         return [(total + more) / self.moments if self.moments else 0.0 for total, more in zip(self.sums, self.group)]
 
 

@@ -65,6 +65,7 @@ class AnyOrder:
         self.finish = 0
 
     def commit(self, task: CommittedTask, epoch: int, reaches: Reaches) -> None:
+        """Goes on by a task that commits in an epoch, with what its accesses reach."""
         raise NotImplementedError
 
     def time(self) -> int:
@@ -77,6 +78,7 @@ class AnyOrder:
             self.origins[child] = made_at + next(shift for place, shift in reversed(shifts) if place < made_at)
 
     def note_end(self, task: CommittedTask, shifts: list[tuple[int, int]]) -> None:
+        """Notes when a task ends, and when its children may start."""
         self.note_calls(task, shifts)
         self.finish = max(self.finish, shifts[-1][1] + task.work[0])
 
@@ -115,6 +117,7 @@ class RenamedMemory(AnyOrder):
             self.place(task, reaches, {})
 
     def end_epoch(self) -> None:
+        """Places the tasks of an epoch, once all of them are known."""
         writers: collections.Counter[int] = collections.Counter()
         for _, reaches in self.kept:
             writers.update(cell for cell, reach in reaches.items() if reach.store is not None)
@@ -125,6 +128,7 @@ class RenamedMemory(AnyOrder):
         self.here.clear()
 
     def place(self, task: CommittedTask, reaches: Reaches, writers: Mapping[int, int]) -> None:
+        """Places a task as early as what it loads from earlier epochs lets it be."""
         shift, before = self.origins.pop(task.key, 0), self.before
         shifts, stored = [(-1, shift)], {}
         for is_store, cells, (place, _) in task.points:
@@ -189,6 +193,7 @@ def earliest(waits: Optional[Waits], epoch: int) -> int:
 
 
 def with_time(waits: Optional[Waits], epoch: int, time: int) -> Waits:
+    """What waits for a cell, once an access of this epoch ends at a time."""
     if waits is None:
         return epoch, 0, time
     last, before, here = waits
@@ -205,6 +210,7 @@ class Bounds:
         self.instructions = 0
 
     def commit(self, task: CommittedTask, epoch: int) -> None:
+        """Goes on by a task that commits, in each manner."""
         self.instructions += task.work[0]
         reaches = reaches_of(task.points)
         for bound in self.by_manner.values():

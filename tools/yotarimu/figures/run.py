@@ -56,6 +56,7 @@ class Figures:
         return rounds
 
     def dispatches(self) -> int:
+        """How many tasks were dispatched."""
         return self.replies["dispatch", "ok"]
 
 
@@ -95,6 +96,7 @@ class RunSums:
                                  machine.waiting, machine.spilled))
 
     def note_rounds(self, machine: Machine) -> None:
+        """Notes in which round the machine is, where it runs in rounds."""
         it, rounds = self.figures, machine.rounds
         if rounds is not None:
             # What brings the least task on is counted with the round behind it.
@@ -102,6 +104,7 @@ class RunSums:
             it.begun_rounds, it.longest_barren, it.advances = rounds.begun_rounds(), rounds.longest, rounds.advances
 
     def note_refused(self, told: ToldLine) -> None:
+        """Notes an act that was refused, and the instructions of its leg."""
         line, it = told.line, self.figures
         it.refused += line.get("leg", 0)
         if line["reply"] == "stall":
@@ -112,6 +115,7 @@ class RunSums:
                 self.stalled.add(told.task)
 
     def note_step(self, told: ToldLine) -> None:
+        """Notes a step: its instructions, its access, and whether it traps."""
         line, task = told.line, told.task
         assert task is not None
         self.figures.executed += line["leg"] + (line["asks"] not in NOT_EXECUTED)
@@ -122,6 +126,7 @@ class RunSums:
             self.figures.tasks.note_access(task, told.access)
 
     def note_taken(self, told: ToldLine) -> None:
+        """Notes the tasks that an event took back."""
         it = self.figures
         it.taken_back.note(told)
         it.occupancy.count("taken back", len(told.taken))
@@ -131,6 +136,7 @@ class RunSums:
             self.trapped.discard(taken.task)
 
     def note_commit(self, task: Task) -> None:
+        """Notes a commit: its work, and what limits and feeders have of it."""
         it = self.figures
         it.useful += task.work
         it.occupancy.count("commits")
@@ -171,6 +177,7 @@ def committed_task(task: Task, cells: Cells) -> CommittedTask:
 
 
 def points_of(task: Task, cells: Cells) -> list[Point]:
+    """The accesses of a task, as limits see them."""
     return [Point(access.is_store, cells.of(access.address, access.bytes), (access.place, access.step))
             for access in task.accesses]
 
@@ -203,5 +210,6 @@ def figures_of(watched: Reader, progress: Optional[Progress] = None) -> Figures:
 
 
 def read_figures(path: str, image: Optional[Image] = None) -> Figures:
+    """The figures of a text of lines; with an image each leg is held against it."""
     with open_lines(path, image=image) as watched:
         return figures_of(watched)

@@ -17,6 +17,7 @@ class Spread:
         self.counts: collections.Counter[int] = collections.Counter()
 
     def note(self, value: int) -> None:
+        """Counts a value once more."""
         self.counts[value] += 1
 
     def number(self) -> int:
@@ -24,10 +25,12 @@ class Spread:
         return sum(self.counts.values())
 
     def mean(self) -> float:
+        """The mean of all values; 0 where there is none."""
         number = self.number()
         return sum(value * count for value, count in self.counts.items()) / number if number else 0.0
 
     def greatest(self) -> int:
+        """The greatest value; 0 where there is none."""
         return max(self.counts, default=0)
 
     def percentile(self, percent: int) -> int:

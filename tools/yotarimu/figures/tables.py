@@ -20,6 +20,7 @@ Rows = Iterable[Sequence[str]]
 
 
 def count_cell(number: Optional[int]) -> str:
+    """A number as a cell; a dash where it isn't known."""
     return "-" if number is None else f"{number:,}"
 
 
@@ -160,6 +161,7 @@ ANY_ORDER = "Instructions at once in any order, at most"
 
 
 def limit_name(limit: Limit) -> str:
+    """A limit by its unit and how memory is seen."""
     return f"{UNITS[limit.unit]} at once, {limit.manner.value}"
 
 
@@ -188,6 +190,7 @@ def plain_rows(runs: Runs) -> Iterator[Sequence[object]]:
 
 
 def plain_counts(it: Figures) -> Plain:
+    """Rows of what is counted in a run once."""
     rounds = it.rounds()
     yield from (("instructions", "executed", it.executed), ("instructions", "useful", it.useful),
                 ("instructions", "wasted", it.taken_back.all_wasted()), ("instructions", "left", it.left),
@@ -209,6 +212,7 @@ def plain_counts(it: Figures) -> Plain:
 
 
 def plain_spread(name: str, spread: Spread) -> Plain:
+    """Rows of a spread: its mean, percentiles and greatest value, and how many tasks have each value."""
     yield f"{name} of a task", "mean", f"{spread.mean():.6g}"
     for percent in PERCENTS:
         yield f"{name} of a task", f"{percent} %", spread.percentile(percent)
@@ -218,6 +222,7 @@ def plain_spread(name: str, spread: Spread) -> Plain:
 
 
 def plain_tasks(it: Figures) -> Plain:
+    """Rows of what committed tasks are like, by depth, domain and entry address."""
     for name, spread in it.tasks.spreads.items():
         yield from plain_spread(name, spread)
     for depth, count in it.tasks.depths().items():
@@ -237,6 +242,7 @@ def plain_tasks(it: Figures) -> Plain:
 
 
 def plain_taken(it: Figures) -> Plain:
+    """Rows of the tasks that were taken back: by event, by what took them, and by root."""
     found = it.taken_back
     for event in EVENTS:
         yield "taken back by event", event, found.tasks[event]
@@ -257,6 +263,7 @@ def plain_taken(it: Figures) -> Plain:
 
 
 def plain_occupancy(it: Figures) -> Plain:
+    """Rows of where tasks were: means, the greatest, and curves."""
     for place, name in enumerate(PLACES):
         yield "occupancy mean", name, f"{it.occupancy.curve.means()[place]:.6g}"
         yield "occupancy greatest", name, it.occupancy.greatest[place]
@@ -269,6 +276,7 @@ def plain_occupancy(it: Figures) -> Plain:
 
 
 def plain_limits(it: Figures) -> Plain:
+    """Rows of how much could have been done at once."""
     for limit in it.limits:
         yield f"{limit_name(limit).lower()}", limit.window, f"{limit.at_once:.6g}"
     for manner, bound in it.bounds.items():

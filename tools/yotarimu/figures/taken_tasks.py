@@ -50,6 +50,7 @@ ROOTS_OF_ROOM = (Root.COMMIT_QUEUE, Root.TASK_QUEUE, Root.CORE)
 
 
 def edge_of(cause: Cause) -> Edge:
+    """What took a task itself, by its cause."""
     if cause.kind in OTHERS:
         return OTHERS[cause.kind]
     sharing = Sharing.ALIAS if cause.meeting is None else cause.meeting.sharing
@@ -57,6 +58,7 @@ def edge_of(cause: Cause) -> Edge:
 
 
 def root_of(cause: Cause) -> Root:
+    """What a task goes back to, by its cause."""
     root = cause.root
     return ROOMS[root.event] if root.event in ROOMS else ACCESSES[root.sharing]
 
@@ -89,15 +91,19 @@ class TakenCounts:
             self.addresses[told.access.address] += len(told.taken)
 
     def all(self) -> int:
+        """How many tasks were taken back."""
         return sum(self.tasks.values())
 
     def all_wasted(self) -> int:
+        """How many instructions were wasted."""
         return sum(self.wasted.values())
 
     def by_edge(self, edge: Edge) -> int:
+        """How many tasks were themselves taken back by something."""
         return sum(count for (own, _), count in self.causes.items() if own is edge)
 
     def by_root(self, root: Root) -> int:
+        """How many tasks go back to something."""
         return sum(count for (_, found), count in self.causes.items() if found is root)
 
     def by_access(self) -> int:

@@ -37,15 +37,19 @@ class Tally:
         self.rounds = -(-self.acts // acts_a_round) if acts_a_round else None
 
     def count(self, word: str, reply: str) -> int:
+        """How often an act of a word had a reply."""
         return self.replies[word][reply] if word in self.replies else 0
 
     def dispatches(self) -> int:
+        """How many tasks were dispatched."""
         return self.count("dispatch", "ok")
 
     def all_taken_back(self) -> int:
+        """How many tasks were taken back."""
         return sum(self.taken_back.values())
 
     def stalls(self) -> dict[str, int]:
+        """How many acts of each word stalled, of those that did."""
         return {word: self.count(word, "stall") for word in NUMBERS if self.count(word, "stall")}
 
     def words(self) -> list[str]:

@@ -52,9 +52,11 @@ class TaskFigures:
         self.makers: list[Time] = []
 
     def note_place(self, told: ToldLine) -> None:
+        """Notes a task that is placed before the first act; one without an id went to a block."""
         self.spilled_at_opening += "new" not in told.line
 
     def note_access(self, task: Task, access: Access) -> None:
+        """Notes a load or a store, by the task's tile."""
         self.accesses[task.tile]["store" if access.is_store else "load"] += 1
 
     def note_stall(self, word: str) -> None:
@@ -62,11 +64,13 @@ class TaskFigures:
         self.stalls[STALLS[word]] += 1
 
     def note_taken(self, task: Task, work: int) -> None:
+        """Notes a task that was taken back, with the work that was wasted."""
         counts = self.entries[task.entry]
         counts.taken_back += 1
         counts.wasted += work
 
     def note_commit(self, task: Task) -> None:
+        """Notes what a committed task was like."""
         lines: dict[bool, set[int]] = {False: set(), True: set()}
         stores = 0
         for access in task.accesses:
@@ -82,6 +86,7 @@ class TaskFigures:
         self.note_domain(task)
 
     def note_domain(self, task: Task) -> None:
+        """Notes a commit in its domain, and the subdomain that the task made."""
         own = self.counts_of(task.depth, KINDS[task.domain.kinds[-1]])
         own.commits += 1
         # Tasks of one domain commit one after another, but for those of domains within it.
@@ -93,6 +98,7 @@ class TaskFigures:
             self.counts_of(depth + 1, task.subdomain).made += 1
 
     def counts_of(self, depth: int, kind: str) -> DomainCounts:
+        """What is counted of the domains of a depth and a kind."""
         return self.domains.setdefault((depth, kind), DomainCounts())
 
     def depths(self) -> dict[int, int]:

@@ -30,6 +30,7 @@ VERSIONS = {1: Limits(64, 8, 0), 2: Limits(256, 16, 1_024)}
 
 @dataclasses.dataclass
 class InitialTask:
+    """A task that an image has from the start."""
     entry: int
     timestamp: int
     arguments: tuple[int, ...]
@@ -37,6 +38,7 @@ class InitialTask:
 
 @dataclasses.dataclass
 class Image:
+    """An image: its text and data, which window of the data a report shows, and its initial tasks."""
     is_ordered: bool
     text: bytes
     initial: bytes
@@ -48,6 +50,7 @@ class Image:
 
     @property
     def limits(self) -> Limits:
+        """The limits of the image's version."""
         return VERSIONS[self.version]
 
     @functools.cached_property
@@ -62,6 +65,7 @@ class Image:
 
 
 def image_bytes(image: Image) -> bytes:
+    """An image as the bytes of a file."""
     header = HEADER.pack(b"FRAC", image.version, image.is_ordered, len(image.text) // 4, len(image.initial), image.size,
                          image.window_offset, image.window_words, len(image.tasks))
     tasks = (TASK.pack(task.entry, task.timestamp, *task.arguments) for task in image.tasks)

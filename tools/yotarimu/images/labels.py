@@ -29,6 +29,7 @@ def listing_for(image_path: FilePath, image: Image, source: Optional[FilePath]) 
 
 
 def listing_at(path: pathlib.Path) -> Listing:
+    """The listing of a folder of sources, of one source, or of a file that is a listing."""
     if path.is_dir() or path.suffix in SUFFIXES:
         sources = sources_in(path) if path.is_dir() else [source_at(path)]
         return listing_of(sources, assemble(sources))

@@ -25,6 +25,7 @@ class Chance:
         self.random = random.Random(seed).random
 
     def number(self, least: int, most: int) -> int:
+        """A number from the least to the most, each as likely."""
         return least + int(self.random() * (most - least + 1))
 
 
@@ -83,13 +84,16 @@ class Circuit:
     chance: Chance
 
     def add(self, kind: str, one: int, other: int) -> int:
+        """Adds a gate with a delay, and gives the number of the wire behind it."""
         self.gates.append(Gate(kind, one, other, self.chance.number(*DELAYS)))
         return self.inputs + len(self.gates) - 1
 
     def half_adder(self, one: int, other: int) -> tuple[int, int]:
+        """The wires of the sum and the carry of two bits."""
         return self.add("XOR", one, other), self.add("AND", one, other)
 
     def full_adder(self, one: int, other: int, carry: int) -> tuple[int, int]:
+        """The wires of the sum and the carry of three bits."""
         part, first = self.half_adder(one, other)
         total, second = self.half_adder(part, carry)
         return total, self.add("OR", first, second)

@@ -52,6 +52,7 @@ class Listing:
 
     @functools.cached_property
     def places(self) -> list[int]:
+        """The addresses that have a label, in their order."""
         return sorted(self.labels)
 
     def place(self, address: int) -> Optional[str]:
@@ -94,10 +95,12 @@ def listing_text(sources: Sequence[Source], assembled: Assembly, image: Image) -
 
 
 def label_lines(assembled: Assembly, address: int) -> list[str]:
+    """The lines that tell the labels of an address."""
     return [f"{address:08x} <{label.name}>:" for label in assembled.labels if label.address == address]
 
 
 def instruction_line(listing: Listing, address: int, word: int) -> str:
+    """The line of an instruction: its address, its word, how it reads, and where it comes from."""
     found = listing.instructions.get(address, Instruction("", "", 0))
     before = listing.instructions.get(address - 4, Instruction("", "", 0))
     line = f"{address:08x}  {word:08x}  {found.words:<28}"
@@ -154,6 +157,7 @@ def read_listing(text: str, name: FilePath) -> Listing:
 
 
 def read_instruction(listing: Listing, address: int, word: int, rest: str) -> None:
+    """Notes what a line of a listing tells of an instruction."""
     words, *place = rest.split(" | ", 2)
     # A line of C has many instructions; its text stands beside the first of them.
     found = re.fullmatch("(.+):([0-9]{1,9})", place[0].removesuffix(" |")) if place else None

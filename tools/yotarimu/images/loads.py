@@ -32,6 +32,7 @@ def generate(kind: str, seed: int, size: int) -> Image:
 
 
 def program(text: str) -> bytes:
+    """The bytes of instructions that are written as words in hexadecimal."""
     return b"".join(int(word, 16).to_bytes(4, "little") for word in text.split())
 
 

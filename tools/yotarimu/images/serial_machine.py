@@ -41,6 +41,7 @@ class TaskTrap(Exception):
 
 @dataclasses.dataclass
 class Domain:
+    """A domain of the serial machine, with the timestamps of the tasks that pend in it."""
     depth: int
     is_ordered: bool
     outer: Optional[Domain] = None
@@ -61,6 +62,7 @@ class Task:
     turn: int = 0
 
     def is_told_by(self, entry: Entry) -> bool:
+        """Whether a line of a report tells the task's depth and timestamp."""
         return (self.domain.depth, self.timestamp) == (entry.depth, entry.timestamp)
 
 
@@ -84,6 +86,7 @@ class Machine:
             self.add(Name(0, index), initial.entry, initial.timestamp, initial.arguments, root)
 
     def add(self, name: Name, entry: int, timestamp: int, arguments: Iterable[int], domain: Domain) -> None:
+        """Adds a pending task; in an unordered domain its timestamp counts as 0."""
         timestamp = timestamp if domain.is_ordered else 0
         self.tasks[name] = Task(name, entry, timestamp, tuple(arguments), domain)
         heapq.heappush(domain.pending, timestamp)
@@ -153,6 +156,7 @@ class Run:
         self.inner: Optional[Domain] = None
 
     def go(self) -> None:
+        """Executes the task up to its end; raises TaskTrap where it traps."""
         machine, last = self.machine, self.machine.steps + MOST_BUDGET
         while not self.is_over:
             if machine.steps == last:
@@ -166,6 +170,7 @@ class Run:
             machine.steps += 1
 
     def step(self, word: int) -> None:
+        """Executes one instruction, a word of the text; raises TaskTrap where it traps."""
         opcode, target, first, second, kind, immediate, is_other = decode(word)
         registers, result, following = self.registers, None, self.pc + 4
         one = registers[first]
@@ -198,6 +203,7 @@ class Run:
         self.pc = following & MASK
 
     def load(self, kind: int, address: int) -> int:
+        """The value of a load of a kind (its funct3) at an address; raises TaskTrap where it traps."""
         width = 1 << (kind & 3)
         if address % width:
             raise TaskTrap(LOAD_MULTIPLE, address)
@@ -209,6 +215,7 @@ class Run:
         return value if kind & 4 else signed_number(value, 8 * width)
 
     def store(self, width: int, address: int, value: int) -> None:
+        """Stores the low bytes of a value at an address; raises TaskTrap where it traps."""
         if address % width:
             raise TaskTrap(STORE_MULTIPLE, address)
         start, data = self.writable_bytes(address)
@@ -226,6 +233,7 @@ class Run:
         return (STACK, self.stack) if address >= STACK else (DATA, self.machine.memory)
 
     def call(self) -> None:
+        """Makes the call that the registers tell; raises TaskTrap where it traps."""
         number, registers = self.registers[CALL], self.registers
         if number == 0:
             self.is_over = True
@@ -242,6 +250,7 @@ class Run:
             raise TaskTrap(BAD_CALL)
 
     def make_subdomain(self, is_ordered: bool) -> None:
+        """Makes the task's subdomain; raises TaskTrap where it can't have one."""
         own = self.task.domain
         if self.inner:
             raise TaskTrap(SECOND_SUBDOMAIN)
@@ -250,6 +259,7 @@ class Run:
         self.inner = Domain(own.depth + 1, is_ordered, own, self.task.timestamp)
 
     def enqueue(self, number: int, entry: int, timestamp: int, arguments: Sequence[int]) -> None:
+        """Makes a child by a call of a number, 1 to 3; raises TaskTrap where it can't be made."""
         own = self.task.domain
         domain = {1: own, 2: self.inner, 3: own.outer}[number]
         if domain is None:
@@ -316,10 +326,12 @@ def is_met(kind: int, one: int, two: int) -> bool:
 
 
 def branch_offset(word: int) -> int:
+    """How far a branch goes, in bytes."""
     return signed_number((word >> 31) << 12 | (word >> 7 & 1) << 11 | (word >> 25 & 0x3F) << 5 | (word >> 8 & 0xF) << 1,
                          13)
 
 
 def jump_offset(word: int) -> int:
+    """How far a JAL goes, in bytes."""
     bits = (word >> 31) << 20 | (word >> 12 & 0xFF) << 12 | (word >> 20 & 1) << 11 | (word >> 21 & 0x3FF) << 1
     return signed_number(bits, 21)

@@ -55,6 +55,7 @@ class Function:
             self.calls_pointers |= self.has_table
 
     def word(self, at: int) -> int:
+        """The instruction at an address."""
         return int.from_bytes(self.text[at - TEXT:at - TEXT + 4], "little")
 
     def walk(self, at: int, taken: int) -> None:
@@ -83,6 +84,7 @@ class Function:
         return [(at + 4, taken)]
 
     def jump(self, at: int, target: Optional[int], rd: int, taken: int) -> list[tuple[int, int]]:
+        """Where a jump goes on within the function; notes a call, one by a pointer, or a table of jumps."""
         if rd == 0 and target is not None and self.start <= target < self.end:
             return [(target, taken)]
         if target is not None:
@@ -149,11 +151,13 @@ class Stacks:
         self.told: set[str] = set()
 
     def function_at(self, address: int) -> Optional[Function]:
+        """The function that an address is in; None where it is in none."""
         place = bisect.bisect_right(self.starts, address) - 1
         found = self.functions[place] if place >= 0 else None
         return found if found and address < found.end else None
 
     def tell(self, function: Function, sentence: str) -> None:
+        """Notes a sentence on a function and the stack, once."""
         place = self.assembled.place(function.start)
         has = f"a task's stack has {self.most:,} bytes" if self.most else "a task has no stack"
         sentence = f"`{function.name}` {sentence}; {has}."
@@ -190,6 +194,7 @@ class Stacks:
         return Call(function, Need(function.frame, Way(function.name, function.frame, None)))
 
     def tell_ring(self, ring: list[Call]) -> None:
+        """Notes that functions call each other in a ring, and how much stack they take each time."""
         others = ", ".join(f"`{call.function.name}`" for call in ring[1:])
         self.tell(ring[0].function, f"calls itself{others and ' by ' + others}, and takes "
                                     f"{sum(call.bytes_taken() for call in ring):,} bytes each time")
@@ -203,6 +208,7 @@ class Call:
     place: int = 0
 
     def bytes_taken(self) -> int:
+        """How many bytes of stack are taken where the call is made."""
         return self.function.calls[self.place][0]
 
     def add(self, callee: Need) -> None:

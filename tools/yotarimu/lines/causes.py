@@ -34,6 +34,7 @@ class Sharing(enum.IntEnum):
 
     @property
     def word(self) -> str:
+        """What is shared, as tables have it."""
         return self.name.lower()
 
 
@@ -79,6 +80,7 @@ class Cause:
 
     @property
     def task(self) -> Task:
+        """The task that was taken back."""
         return self.taken.task
 
     @property
@@ -107,6 +109,7 @@ def causes_of(told: ToldLine, line_size: int) -> list[Cause]:
 
 
 def time_of(taken: TakenTask) -> Time:
+    """The virtual time of a task that was taken back."""
     return taken.time
 
 
@@ -136,6 +139,7 @@ class Cascade:
         return ways or [Cause(taken, kind, self.told.task, None, Sharing.ALIAS, None, self.event)]
 
     def by_event(self, taken: TakenTask) -> Optional[Cause]:
+        """Why a task goes by the event itself: it met its access, or room was needed, or a script asked."""
         if self.told.access is not None:
             meeting = self.meeting_with(taken.accesses, self.told.access)
             by = self.told.task
@@ -162,6 +166,7 @@ class Cascade:
         return best
 
     def by_creator(self, taken: TakenTask) -> Optional[Cause]:
+        """Why a task goes with its creator; None where it doesn't."""
         before = self.causes.get(id(taken.task.creator)) if taken.is_gone else None
         if before is None:
             return None
@@ -182,6 +187,7 @@ class Cascade:
         return best
 
     def keep(self, cause: Cause, access: Access) -> None:
+        """Keeps what a member wrote, by the way there that shares the most."""
         for sharing, places in self.places(access):
             kept = self.written[sharing]
             for place in places:
@@ -197,6 +203,7 @@ class Cascade:
 
 
 def line_of(access: Access, line_size: int) -> int:
+    """The line of the data that an access is in."""
     return (access.address - DATA) // line_size
 
 
@@ -232,6 +239,7 @@ class CauseSentences:
         return self.meeting_told(cause, cause.meeting)
 
     def meeting_told(self, cause: Cause, meeting: Meeting) -> str:
+        """What two accesses did to each other, in a sentence."""
         own, other, sharing = meeting.own, meeting.other, meeting.sharing
         by = self.name_behind(cause)
         place = "there" if sharing is Sharing.TRUE else f"at {self.listing.address_text(other.address)}"
@@ -248,6 +256,7 @@ class CauseSentences:
                 else f"it loaded {own.old} from {label}{self.spot(own)}")
 
     def sharing_told(self, meeting: Meeting) -> str:
+        """What accesses share where it isn't a byte; no words where it is one."""
         if meeting.sharing is Sharing.TRUE:
             return ""
         if meeting.sharing is Sharing.LINE:

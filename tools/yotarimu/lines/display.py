@@ -25,6 +25,7 @@ class Display:
         self.back = {id(taken.task) for taken in told.taken} if told else set()
 
     def lines(self) -> Iterator[str]:
+        """All lines: each tile, the words that were touched, and the journal."""
         head = self.machine.head
         for tile in range(head["tiles"]):
             yield from self.tile_lines(tile, head)
@@ -34,6 +35,7 @@ class Display:
     # ---- a tile
 
     def tile_lines(self, tile: int, head: Line) -> Iterator[str]:
+        """A tile with its queue, its cores and its block."""
         queue = [self.machine.tasks[number] for number in self.machine.queues[tile]]
         block = list(self.machine.blocks[tile].values())
         if not queue and not block:
@@ -50,6 +52,7 @@ class Display:
         yield title_line("block", f"{count_text(len(block), 'task')}{behind(label_of(task) for task in block)}")
 
     def task_lines(self, queue: Sequence[Task]) -> Iterator[str]:
+        """The first tasks of a queue as rows, and how many more there are."""
         rows = [self.task_row(task) for task in queue[:MOST_TASKS]]
         widths = [max(map(len, column)) for column in zip(*rows)]
         for row in rows:
@@ -65,6 +68,7 @@ class Display:
         return mark, label_of(task), words, f"timestamp {task.timestamp}", f"{task.state}{back}"
 
     def core_told(self, tile: int, core: int) -> str:
+        """What a core holds: a task with its work, or nothing."""
         number = self.machine.cores[tile][core]
         if number is None:
             return "free"
@@ -75,6 +79,7 @@ class Display:
     # ---- what all tiles share
 
     def word_lines(self, size: int) -> Iterator[str]:
+        """The words of memory that were touched, those nearest to the last access."""
         words = self.machine.memory.words()
         if not words:
             yield "memory: no word was touched"
@@ -90,6 +95,7 @@ class Display:
             yield f"       and {len(words) - MOST_WORDS:,} more"
 
     def journal_lines(self) -> Iterator[str]:
+        """The last commits, and the output."""
         if self.entries:
             yield f"journal, {count_text(len(self.entries), 'commit')}"
             for entry in self.entries[-MOST_ENTRIES:]:
@@ -101,10 +107,12 @@ class Display:
 
 
 def title_line(title: str, text: str) -> str:
+    """A line with a title before its text."""
     return f"  {title:<{WIDTH}}{text}"
 
 
 def behind(labels: Iterable[str]) -> str:
+    """Labels as a list behind a colon; no words where there is none."""
     told = list_text(list(labels))
     return f": {told}" if told else ""
 

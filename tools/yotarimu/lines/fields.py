@@ -44,18 +44,22 @@ class WrongLine(Exception):
 
 
 def is_number(value: object) -> bool:
+    """Whether a value is a number that the second program may write."""
     return isinstance(value, int) and not isinstance(value, bool) and 0 <= value < 10 ** MOST_DIGITS
 
 
 def is_number_or_null(value: object) -> bool:
+    """Whether a value is such a number, or null."""
     return value is None or is_number(value)
 
 
 def is_hex(value: object) -> bool:
+    """Whether a value is a text of whole bytes in hexadecimal."""
     return isinstance(value, str) and len(value) % 2 == 0 and not value.strip("0123456789abcdef")
 
 
 def one_of(*words: str) -> Kind:
+    """The kind of a value that is one of some words."""
     return lambda value: isinstance(value, str) and value in words
 
 
@@ -85,6 +89,7 @@ def is_tile(value: object) -> bool:
 
 
 def is_tiles(value: object) -> bool:
+    """Whether a value is a list with a list for each tile."""
     return isinstance(value, list) and all(map(is_tile, value))
 
 
@@ -124,18 +129,21 @@ FAULT: Fields = (
 
 
 def head_fields(line: Line) -> Fields:
+    """The fields of the first line."""
     rounds = (("rounds", NUMBER), ("seed", NUMBER), ("barren", NUMBER)) if line.get("course") == "lockstep" else ()
     return (("watch", NUMBER), ("course", one_of(*COURSES)), *rounds, *((name, NUMBER) for name in SETTINGS),
             ("root", one_of(*KINDS)), ("text", NUMBER), ("data", NUMBER), ("window", PAIR), ("tasks", NUMBER))
 
 
 def end_fields(line: Line) -> Fields:
+    """The fields of the last line."""
     trap = (("cause", NUMBER), ("pc", NUMBER), ("name", PAIR)) if line["end"] == "trap" else ()
     return (("end", one_of(*ENDS)), *trap, ("n", NUMBER), ("journal", NUMBER), ("output", is_hex),
             ("window", numbers()))
 
 
 def leg_fields(line: Line) -> Fields:
+    """The fields that tell the leg of a step; none where it has none."""
     if line["do"] != "step" or "leg" not in line:
         return ()
     asks = line.get("asks", "")
@@ -143,17 +151,20 @@ def leg_fields(line: Line) -> Fields:
 
 
 def replies_of(line: Line) -> tuple[str, ...]:
+    """The replies that an act may have."""
     stall = ("stall",) if line["do"] == "step" and line.get("asks") in STALLING else ()
     return (*REPLIES[line["do"]], *stall, ENDED)
 
 
 def change_fields(line: Line) -> Fields:
+    """The fields that tell what an act changed; none where it made no event."""
     if line.get("reply") != "ok" or line["do"] not in EVENTS:
         return ()
     return (*MOVED, *OWN.get(line.get("asks", "") if line["do"] == "step" else line["do"], ()))
 
 
 def act_fields(line: Line) -> Fields:
+    """The fields of an act, or of a task that is placed."""
     word = line.get("do")
     if word == "place":
         return PLACED
@@ -228,6 +239,7 @@ class Shapes:
 
 
 def need_shape(text: str, line: object) -> None:
+    """Refuses a line whose fields or whose text aren't as the second program writes them."""
     if not isinstance(line, dict):
         raise WrongLine("it is no object of JSON")
     need_fields(line)

@@ -97,6 +97,7 @@ class Core(Run):
         self.used += 1
 
     def load(self, kind: int, address: int) -> int:
+        """Loads of data stop the leg, unless what they find is granted; those of text and stack are plain."""
         value: int = super().load(kind, address)
         if not DATA <= address < STACK:
             return value
@@ -106,11 +107,13 @@ class Core(Run):
         return self.found if kind & 4 else signed_number(self.found, 8 * width)
 
     def store(self, width: int, address: int, value: int) -> None:
+        """Stores to data stop the leg, unless they are granted; those to the stack are plain."""
         super().store(width, address, value)
         if DATA <= address < STACK and not self.is_granted:
             raise Stops(asks="store", addr=address, bytes=width, value=value)
 
     def call(self) -> None:
+        """Calls stop the leg, unless they are granted."""
         before = self.inner, self.children, self.emitted, self.is_over
         super().call()
         if not self.is_granted:
@@ -157,6 +160,7 @@ class Legs:
             self.need_leg(told.task, line)
 
     def need_initial(self, line: dict[str, Any]) -> None:
+        """Holds a task that is placed against the image's own."""
         place = line["name"][1]
         if place >= len(self.image.tasks):
             raise WrongLine(f"the image has no task {place}")
@@ -166,6 +170,7 @@ class Legs:
             raise WrongLine(f"the image's task {place} is another one")
 
     def need_leg(self, task: Task, line: dict[str, Any]) -> None:
+        """Holds a leg against the one that the task makes by the image's text."""
         core = self.cores.get(task)
         if core is None:
             core = self.cores[task] = Core(self.scratch, task)

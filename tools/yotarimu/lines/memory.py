@@ -36,6 +36,7 @@ class Memory:
         return self.data[place] if 0 <= place < len(self.data) and self.touched[place] else None
 
     def known_byte(self, place: int) -> Optional[int]:
+        """The byte at a place of the data; None where it isn't known."""
         return self.data[place] if self.is_image_known or self.touched[place] else None
 
     def meet(self, address: int, count: int, old: int) -> None:
@@ -53,6 +54,7 @@ class Memory:
         self.touched[place:place + count] = TOUCHED * count
 
     def write(self, address: int, count: int, value: int) -> None:
+        """Writes a value of so many bytes at an address of the data."""
         place = address - DATA_START
         self.data[place:place + count] = value.to_bytes(count, "little")
         self.touched[place:place + count] = TOUCHED * count
@@ -90,4 +92,5 @@ class Memory:
 
 
 def event_of(access: Access) -> int:
+    """The number of the event that an access was made in."""
     return access.event

@@ -51,6 +51,7 @@ class Reader:
             self.machine = Machine(self.head, image)
 
     def read_head(self) -> Line:
+        """Reads the first line, which tells of which machine the others are; refuses what can't be one."""
         text = self.next_text()
         if text is None:
             raise Refusal(f"{self.name}: it has no whole line, so it isn't what the second program tells.")

@@ -72,6 +72,7 @@ class Task:
 
     @property
     def depth(self) -> int:
+        """How many domains the task is in."""
         return len(self.domain.kinds)
 
     def time(self) -> Time:
@@ -203,12 +204,14 @@ class Machine:
             self.waiting -= 1
 
     def task_at(self, number: int) -> Task:
+        """The task of an id; refuses a line that names another one."""
         task = self.tasks.get(number)
         if task is None:
             raise WrongLine(f"no task has the id {number}")
         return task
 
     def need_tile(self, line: Line) -> int:
+        """The tile that a line tells; refuses one that the machine hasn't."""
         tile: int = line["tile"]
         need_below(tile, self.head["tiles"], "a tile")
         return tile
@@ -242,6 +245,7 @@ class Machine:
             self.arrive(task, task.id)
 
     def act(self, told: ToldLine, line: Line) -> None:
+        """Follows an act: what it tells is held against the machine, and is made."""
         self.count_act(line)
         told.is_made = line["reply"] == "ok" and line["do"] in EVENTS
         if line["n"] != self.events + told.is_made:
@@ -278,18 +282,23 @@ class Machine:
             raise WrongLine(f"of {self.head['budget']} instructions that a task may execute {left} would be left")
 
     def has_no_idle(self, tile: int) -> bool:
+        """Whether no task of a tile's queue is idle."""
         return all(self.tasks[number].state is not IDLE for number in self.queues[tile])
 
     def has_no_core(self, tile: int) -> bool:
+        """Whether a tile has an idle task and no core for it."""
         return None not in self.cores[tile] and not self.has_no_idle(tile)
 
     def has_no_block(self, tile: int) -> bool:
+        """Whether a tile's block is empty."""
         return not self.blocks[tile]
 
     def has_no_room(self, tile: int) -> bool:
+        """Whether a tile has spilled tasks, and no room for one in its queue."""
         return bool(self.blocks[tile]) and len(self.queues[tile]) == self.head["task_queue"]
 
     def count_act(self, line: Line) -> None:
+        """Holds the number of an act against those before it."""
         if self.placed < self.head["tasks"]:
             raise WrongLine(f"{self.placed} of {self.head['tasks']} tasks of the image are placed before the first act")
         is_next = line["at"] == self.acts + 1 if self.rounds is None else line["at"] > self.acts
@@ -309,6 +318,7 @@ class Machine:
             told.spilled = [self.spill_by_name(*row) for row in line["spilled"]]
 
     def take_back(self, told: ToldLine, line: Line) -> None:
+        """Takes the tasks back that a line tells, and undoes what they stored."""
         if line.get("asks", line["do"]) not in TAKING_BACK:
             raise WrongLine("such an act takes no task back")
         gone, back = set(line.get("gone", ())), {row[0] for row in line["back"]}
@@ -326,12 +336,14 @@ class Machine:
         told.gone = [taken.task for taken in told.taken if taken.is_gone]
 
     def taken_of(self, number: int, work: int, is_gone: bool) -> TakenTask:
+        """What a task that is taken back was and had done; refuses a line that tells other work."""
         task = self.task_at(number)
         if task.work != work:
             raise WrongLine(f"task {number} executed {task.work} instructions, and not {work}")
         return TakenTask(task, task.time(), task.work, task.accesses, task.children, task.state, task.core, is_gone)
 
     def spill_by_name(self, number: int, creator: int, index: int) -> Task:
+        """Spills the idle task of an id to its tile's block; refuses a line that gives it another name."""
         task = self.task_at(number)
         is_heirs = task.name is None and creator == self.commits + 1
         if task.state is not IDLE or not (task.name == (creator, index) or is_heirs and task.index == index):
@@ -353,6 +365,7 @@ class Machine:
     # Events, behind what they force.
 
     def dispatch(self, told: ToldLine, line: Line) -> None:
+        """Follows a dispatch: an idle task of the tile goes to a free core, with the next number."""
         task, core = told.task, line["core"]
         if task is None or task.state is not IDLE or task.tile != line["tile"]:
             raise WrongLine("it dispatches no idle task of its tile")
@@ -369,6 +382,7 @@ class Machine:
         self.running += 1
 
     def step(self, told: ToldLine, line: Line) -> None:
+        """Follows a step: the leg counts, and what the task asks for is made."""
         task, asks = told.task, line.get("asks")
         if asks is None or task is None or task.state is not RUNNING:
             raise WrongLine("no task runs that takes this leg")
@@ -397,21 +411,25 @@ class Machine:
             self.memory.write(address, count, value)
 
     def enqueue(self, told: ToldLine, task: Task, line: Line) -> None:
+        """Follows the making of a child, which arrives in a task queue."""
         child = told.arrived = Task(line, task, len(task.children), task.domain_of_child(line["to"]))
         self.arrive(child, line["new"])
         task.children.append(child)
 
     def make_subdomain(self, _told: ToldLine, task: Task, line: Line) -> None:
+        """Follows the making of a subdomain, of which a task has one at most."""
         if task.subdomain is not None:
             raise WrongLine(f"task {task.id} has a subdomain already")
         task.subdomain = line["asks"]
 
     def emit(self, _told: ToldLine, task: Task, line: Line) -> None:
+        """Follows the emission of a byte."""
         if line["byte"] > 0xFF:
             raise WrongLine(f"{line['byte']} is no byte")
         task.emitted.append(line["byte"])
 
     def finish(self, _told: ToldLine, task: Task, _line: Line) -> None:
+        """Follows the end of a task, which goes to a commit queue with room."""
         self.put_off(task)
         if len(self.finished[task.tile]) == self.head["commit_queue"]:
             raise WrongLine(f"the commit queue of tile {task.tile} is full")
@@ -420,10 +438,12 @@ class Machine:
         self.waiting += 1
 
     def trap(self, _told: ToldLine, task: Task, line: Line) -> None:
+        """Follows a trap, whose cause is kept until the task is taken back."""
         task.state = TRAPPED
         self.traps[task] = line["cause"]
 
     def split(self, told: ToldLine, line: Line) -> None:
+        """Follows a split: a spilled task comes back to its tile's queue, by its name."""
         task = told.arrived = self.blocks[line["tile"]].pop((line["name"][0], line["name"][1]), None)
         if task is None or line["in"] != line["tile"]:
             raise WrongLine(f"no such task is in the block of tile {line['tile']}")
@@ -432,6 +452,7 @@ class Machine:
         self.arrive(task, line["new"])
 
     def commit(self, told: ToldLine, line: Line) -> None:
+        """Follows the commit of a finished task, whose name, place and output are held against the line."""
         task = told.committed = told.task
         if task is None or task.state is not FINISHED:
             raise WrongLine("it commits no finished task")
@@ -449,6 +470,7 @@ class Machine:
             child.name, child.creator = (self.commits, child.index), None
 
     def abort(self, told: ToldLine, _line: Line) -> None:
+        """Follows an abort that a script asked for."""
         if told.task is None:
             raise WrongLine("it takes no task back")
 
@@ -514,6 +536,7 @@ REQUESTS: dict[str, Callable[[Machine, ToldLine, Task, Line], None]] = {
 
 
 def need_below(number: int, count: int, what: str) -> None:
+    """Refuses a line that tells a number which the machine hasn't."""
     if number >= count:
         raise WrongLine(f"{number} is {what} that the machine hasn't")
 

@@ -39,6 +39,7 @@ class Rounds:
             self.need_act(line)
 
     def end_round(self) -> None:
+        """Goes on to the next round, whose acts are shuffled; too many barren ones bring the least task on."""
         self.barren = self.barren + 1 if self.commits == self.begun else 0
         self.longest = max(self.longest, self.barren)
         self.number, self.first, self.begun = self.number + 1, self.first + len(self.acts), self.commits
@@ -52,6 +53,7 @@ class Rounds:
             self.end_round()
 
     def need_act(self, line: Dict[str, Any]) -> None:
+        """Holds an act against the one that stands at its place in the round."""
         if self.number >= self.count:
             raise WrongLine(f"act {line['at']} is of no round, as there are {self.count}")
         act: Act = self.acts[line["at"] - self.first]
@@ -60,6 +62,7 @@ class Rounds:
             raise WrongLine(f"act {line['at']} of these rounds is `{act}`, and another one is told")
 
     def need_advance(self, line: Dict[str, Any]) -> None:
+        """Holds an act against those that bring the least task on."""
         if line["at"] != self.first or line["do"] not in BRINGS_ON:
             raise WrongLine(f"act {self.first} brings the least task on, and another one is told")
         self.first, self.advances = self.first + 1, self.advances + 1

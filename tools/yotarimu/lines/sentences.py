@@ -58,6 +58,7 @@ def end_told(end: Line, listing: Listing = NO_LISTING, limits: Optional[Limits] 
 
 
 def name_told(name: Iterable[int]) -> str:
+    """A name as reports have it, such as 2.0."""
     return ".".join(map(str, name))
 
 
@@ -74,6 +75,7 @@ def label_of(task: Task) -> str:
 
 
 def list_text(parts: Sequence[str]) -> str:
+    """Parts as a list, of which the first are named and the others counted."""
     if len(parts) > MOST_NAMED:
         more = fill(SENTENCES["more"], count=f"{len(parts) - MOST_NAMED:,}")
         parts = [*parts[:MOST_NAMED], more]
@@ -81,6 +83,7 @@ def list_text(parts: Sequence[str]) -> str:
 
 
 def is_or_are(count: int) -> str:
+    """The verb that goes with a count."""
     return "is" if count == 1 else "are"
 
 
@@ -94,18 +97,22 @@ def its(found: Optional[Thing]) -> Thing:
 
 
 def of_its_task(told: ToldLine, _machine: Machine, _listing: Listing, _limits: Optional[Limits]) -> Values:
+    """What is filled in of an act that tells its task alone."""
     return {"task": label_of(its(told.task))}
 
 
 def of_step(told: ToldLine, machine: Machine, listing: Listing, limits: Optional[Limits]) -> Values:
+    """What is filled in of a step."""
     return {"leg": leg_told(told), "request": request_told(told, machine, listing, limits)}
 
 
 def of_take(told: ToldLine, machine: Machine, _listing: Listing, _limits: Optional[Limits]) -> Values:
+    """What is filled in where a leg is taken from a core."""
     return {"task": label_of(machine.tasks[its(machine.cores[told.line["tile"]][told.line["core"]])])}
 
 
 def of_commit(told: ToldLine, machine: Machine, _listing: Listing, _limits: Optional[Limits]) -> Values:
+    """What is filled in of a commit."""
     line, texts = told.line, SENTENCES["commit"]
     output = fill(texts["output"], text=printable(bytes.fromhex(line["output"]))) if "output" in line else ""
     return {"name": name_told(line["name"]), "turn": machine.commits, "output": output,
@@ -120,6 +127,7 @@ def children_named(count: int, turn: int) -> str:
 
 
 def of_split(told: ToldLine, _machine: Machine, _listing: Listing, _limits: Optional[Limits]) -> Values:
+    """What is filled in of a split."""
     return {"name": name_told(told.line["name"])}
 
 
@@ -132,6 +140,7 @@ VALUES: dict[str, Naming] = {
 
 
 def leg_told(told: ToldLine) -> str:
+    """Who made a leg, and how many plain instructions it has."""
     line, texts = told.line, SENTENCES["leg"]
     who = fill(texts["who"], **{**line, "task": label_of(its(told.task))})
     if not line["leg"]:
@@ -147,18 +156,22 @@ def request_told(told: ToldLine, machine: Machine, listing: Listing, limits: Opt
 
 
 def of_go(told: ToldLine, _machine: Machine, listing: Listing, _limits: Optional[Limits]) -> Values:
+    """What is filled in of a leg that asks for nothing."""
     return {"place": listing.address_text(told.line["pc"])}
 
 
 def of_load(told: ToldLine, machine: Machine, listing: Listing, _limits: Optional[Limits]) -> Values:
+    """What is filled in of a load."""
     return {"access": access_told(told.line, machine, listing)}
 
 
 def of_store(told: ToldLine, machine: Machine, listing: Listing, _limits: Optional[Limits]) -> Values:
+    """What is filled in of a store."""
     return {"value": its(told.access).value, "access": access_told(told.line, machine, listing)}
 
 
 def access_told(line: Line, machine: Machine, listing: Listing) -> str:
+    """The bytes of an access, where they are, and in which line of the data."""
     address = line["addr"]
     label = listing.label(address)
     place = fill(SENTENCES["labelled"], address=f"{address:08x}", label=label) if label else f"{address:08x}"
@@ -167,16 +180,19 @@ def access_told(line: Line, machine: Machine, listing: Listing) -> str:
 
 
 def of_enqueue(told: ToldLine, _machine: Machine, listing: Listing, _limits: Optional[Limits]) -> Values:
+    """What is filled in of the making of a child."""
     line, child = told.line, its(told.arrived)
     return {"index": child.index, "domain": DOMAINS[line["to"]], "child": label_of(child),
             "words": listing.task_words(line["entry"], line["args"])}
 
 
 def of_emit(told: ToldLine, _machine: Machine, _listing: Listing, _limits: Optional[Limits]) -> Values:
+    """What is filled in of the emission of a byte."""
     return {"text": printable(bytes([told.line["byte"]]))}
 
 
 def of_trap(told: ToldLine, _machine: Machine, listing: Listing, limits: Optional[Limits]) -> Values:
+    """What is filled in of a trap."""
     return {"place": listing.address_text(told.line["pc"]), "trap": trap_told(told.line, limits)}
 
 
@@ -185,6 +201,7 @@ REQUESTED: dict[str, Naming] = {
 
 
 def trap_told(line: Line, limits: Optional[Limits]) -> str:
+    """A trap's cause, and what it means."""
     return fill(SENTENCES["trap"], cause=line["cause"], meaning=cause_told(line["cause"], limits)[0])
 
 
@@ -229,6 +246,7 @@ def refused_told(told: ToldLine, machine: Machine) -> str:
 
 
 def wish_told(told: ToldLine) -> str:
+    """What a refused act asked for."""
     line = told.line
     asks = line.get("asks")
     if asks in ("enqueue", "end"):
@@ -239,6 +257,7 @@ def wish_told(told: ToldLine) -> str:
 
 
 def why_refused(told: ToldLine, machine: Machine) -> str:
+    """Why an act was refused, by its reply."""
     line = told.line
     if line["reply"] == "ended":
         return str(REFUSALS["ended"])

@@ -50,6 +50,7 @@ class Run:
 
 
 def taken_rows(path: str, image: Image, listing: Listing, run: Run) -> Iterator[TakenRow]:
+    """The rows of all tasks that a text of lines takes back, in its order; the run is told how it ended."""
     with open_lines(path, image=image) as watched:
         line_size = watched.head["line"]
         telling = CauseSentences(label_of, line_size, listing)
@@ -61,6 +62,7 @@ def taken_rows(path: str, image: Image, listing: Listing, run: Run) -> Iterator[
 
 
 def row_of(cause: Cause, event: int, telling: CauseSentences) -> TakenRow:
+    """The row of a task that was taken back, from its cause."""
     task, root = cause.task, cause.root
     return TakenRow(
         event=event, task=label_of(task), label=telling.listing.address_text(task.entry), timestamp=task.timestamp,
@@ -108,6 +110,7 @@ def counts_told(run: Run) -> List[str]:
 
 
 def plain_rows(run: Run) -> List[Dict[str, Any]]:
+    """The rows as dictionaries."""
     return [dataclasses.asdict(it) for it in run.found]
 
 

@@ -28,6 +28,7 @@ class Cell:
     commits: int = 0
 
     def add(self, act: Act, said: ActAnswer) -> None:
+        """Counts an act by what it was answered."""
         self.taken_back += said.taken_back
         self.commits += is_commit(act, said)
         self.done += said.reply in DONE
@@ -35,9 +36,11 @@ class Cell:
         self.idle += said.reply not in DONE and said.reply != "stall"
 
     def all_acts(self) -> int:
+        """How many acts there are in the cell."""
         return self.done + self.stalled + self.idle
 
     def text(self) -> str:
+        """The cell in numbers."""
         return (f"{self.done:,} done, {self.stalled:,} stalled, {self.idle:,} with nothing to do, "
                 f"{self.taken_back:,} taken back")
 
@@ -61,6 +64,7 @@ class Grid:
             self.cells[lane][place // (self.unit * self.units_a_column)].add(act, said)
 
     def span(self, column: int) -> str:
+        """Which units a column has, counted from 1."""
         first, last = column * self.units_a_column + 1, (column + 1) * self.units_a_column
         return f"{self.name} {first:,}" if first == last else f"{self.name}s {first:,} to {last:,}"
 
@@ -96,6 +100,7 @@ def axis(grid: Grid) -> Iterator[str]:
 
 
 def lane_of(grid: Grid, tile: int, y: float, asked: int, taken: int, width: int) -> Iterator[str]:
+    """The lane of a tile: acts by reply, and above them the tasks taken back."""
     yield band(y, LANE, width, LANE_COLOUR)
     yield ground(y + LANE, width)
     yield text(12, y + LANE / 2 + 4, f"tile {tile}", "#333333", 12, True)
@@ -110,6 +115,7 @@ def lane_of(grid: Grid, tile: int, y: float, asked: int, taken: int, width: int)
 
 
 def band(y: float, height: int, width: int, colour: str) -> str:
+    """The ground of a lane, as a rectangle."""
     return f'<rect x="{MARGIN}" y="{y}" width="{width - MARGIN - 16}" height="{height}" fill="{colour}"/>'
 
 
@@ -119,6 +125,7 @@ def ground(y: float, width: int) -> str:
 
 
 def commits_of(grid: Grid, y: float, width: int) -> Iterator[str]:
+    """The lane of the commits."""
     yield band(y, COMMIT_LANE, width, COMMIT_LANE_COLOUR)
     yield ground(y + COMMIT_LANE, width)
     yield text(12, y + COMMIT_LANE / 2 + 4, "commits", "#333333", 12, True)
@@ -164,5 +171,6 @@ def footer(played: PlayedScript, grid: Grid, taken: int) -> Iterator[str]:
 
 
 def text(x: float, y: float, words: str, colour: str, size: int, is_bold: bool = False) -> str:
+    """Words at a place."""
     weight = ' font-weight="bold"' if is_bold else ""
     return f'<text x="{x:.1f}" y="{y:.1f}" fill="{colour}" font-size="{size}"{weight}>{escape(words)}</text>'

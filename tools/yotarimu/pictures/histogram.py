@@ -20,6 +20,7 @@ def draw(bars: Sequence[tuple[int, int, int]], x_name: str, y_name: str) -> str:
 
 
 def rectangle(bar: tuple[int, int, int], x_axis: Axis, y_axis: Axis) -> str:
+    """The rectangle of a bar: the first and the last value, and how many there are."""
     first, last, count = bar
     left, right = x_axis.place(first - 0.5), x_axis.place(last + 0.5)
     free, top, bottom = GAP * (right - left), y_axis.place(count), y_axis.place(0)

@@ -53,11 +53,13 @@ class Mark:
     entry: Optional[Entry]
 
     def title(self) -> str:
+        """What the mark tells where it is pointed at."""
         taken = f", {count_text(self.said.taken_back, 'task')} taken back" if self.said.taken_back else ""
         name = f", commit {self.entry.turn}: {self.entry.name}" if self.entry else ""
         return f"{self.number}: {self.act}: {self.said.reply}{taken}{name}"
 
     def colour(self) -> str:
+        """The colour of the mark, by the reply."""
         if self.said.reply not in DONE:
             return REFUSED_COLOUR
         return COMMIT_COLOUR if self.entry else DONE_COLOUR
@@ -71,6 +73,7 @@ class Mark:
 
 
 def paint_of(fill: str, stroke: str) -> str:
+    """The attributes of a filled shape with an edge."""
     return f'fill="{fill}" stroke="{stroke}" stroke-width="1.6"'
 
 
@@ -142,6 +145,7 @@ def draw_mark(mark: Mark, x: float, y: float, style: Style) -> Iterator[str]:
 
 
 def inner(mark: Mark, x: float, y: float, words: str) -> str:
+    """Words within a mark."""
     colour = "white" if mark.said.reply in DONE and mark.act.word != "take" else mark.colour()
     return text(x, y + 4, words, colour, 12 if len(words) < 3 else 9, "middle", True)
 
@@ -156,6 +160,7 @@ def shape(word: str, paint: str, x: float, y: float, size: int) -> str:
 
 
 def text(x: float, y: float, words: str, colour: str, size: int, anchor: str, is_bold: bool = False) -> str:
+    """Words at a place."""
     weight = ' font-weight="bold"' if is_bold else ""
     return (f'<text x="{x:.1f}" y="{y:.1f}" fill="{colour}" font-size="{size}" text-anchor="{anchor}"{weight}>'
             f"{escape(words)}</text>")

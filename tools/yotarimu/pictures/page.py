@@ -36,6 +36,7 @@ class Totals:
         self.entries: collections.deque[list[object]] = collections.deque(maxlen=MOST_ENTRIES)
 
     def follow(self, told: ToldLine) -> None:
+        """Counts what a line tells."""
         self.wasted += sum(taken.work for taken in told.taken)
         if told.committed is not None:
             line = told.line
@@ -68,11 +69,13 @@ class Excerpt:
             self.take(told, machine, listing)
 
     def begin(self, machine: Machine, sentence: str) -> None:
+        """Notes the machine before the first act that is shown."""
         # The machine's own lists go on changing, so it is written down at once.
         self.opening = within(opening_of(machine, self.passed))
         self.sentences.append(sentence)
 
     def take(self, told: ToldLine, machine: Machine, listing: Listing) -> None:
+        """Takes an act with its sentence; refuses more acts than a page can show."""
         if len(self.lines) == MOST_ACTS:
             raise Refusal(f"{self.name}: these are more than {MOST_ACTS:,} acts, which no page shows; --from ACT and "
                           "--to ACT choose some of them.")
@@ -104,6 +107,7 @@ def opening_of(machine: Machine, passed: Totals) -> dict[str, object]:
 
 
 def task_of(task: Task) -> dict[str, object]:
+    """A task as the page reads it."""
     creator = task.creator.id if task.name is None and task.creator else None
     return {"id": task.id, "tile": task.tile, "state": task.state, "core": task.core, "name": task.name,
             "creator": creator, "index": task.index, "ts": task.timestamp,
@@ -113,6 +117,7 @@ def task_of(task: Task) -> dict[str, object]:
 
 
 def store_of(access: Access) -> list[int]:
+    """A store as the page reads it."""
     return [access.address, access.bytes, access.old, access.event]
 
 
@@ -140,6 +145,7 @@ def read_rows(path: Optional[FilePath], head: Line) -> tuple[Listing, list[list[
 
 
 def row_address(line: str) -> Optional[int]:
+    """The address of a row of a listing; None where it tells no instruction."""
     found = re.match("([0-9a-f]{8})  [0-9a-f]{8}  ", line)
     return int(found[1], 16) if found else None
 

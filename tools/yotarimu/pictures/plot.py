@@ -30,13 +30,16 @@ class Axis:
         self.most = self.scaled_value(max(most, self.ticks[-1]))
 
     def scaled_value(self, value: float) -> float:
+        """A value as it counts on the axis: itself or its logarithm."""
         return math.log10(value) if self.is_logarithmic else value
 
     def place(self, value: float) -> float:
+        """Where a value is, in points."""
         return self.start + (self.scaled_value(value) - self.least) / (self.most - self.least) * (self.end - self.start)
 
 
 def decades(least: float, most: float) -> list[float]:
+    """The powers of ten from the last below the least value to the first above the most."""
     return [10 ** power for power in range(math.floor(math.log10(least)), math.ceil(math.log10(most)) + 1)]
 
 
@@ -79,19 +82,23 @@ def picture_with_axes(x_axis: Axis, y_axis: Axis, x_name: str, y_name: str, part
 
 
 def scale(axis: Axis) -> str:
+    """What stands behind the name of an axis."""
     return " (logarithmic)" if axis.is_logarithmic else ""
 
 
 def text(x: float, y: float, words: str, anchor: str = "start") -> str:
+    """Words at a place."""
     # No picture may have other characters, though a name of a file may.
     return f'<text x="{x:.1f}" y="{y:.1f}" text-anchor="{anchor}">{escape(without_controls(words))}</text>'
 
 
 def number(value: float) -> str:
+    """A number with commas or with six digits."""
     return f"{value:,.0f}" if value >= 1000 or value == int(value) else f"{value:.6g}"
 
 
 def grid(x_axis: Axis, y_axis: Axis) -> Iterator[str]:
+    """The lines and numbers of the ticks of both axes."""
     for tick in x_axis.ticks:
         x = x_axis.place(tick)
         yield f'<line x1="{x:.1f}" y1="{TOP}" x2="{x:.1f}" y2="{HEIGHT - BOTTOM}" stroke="#e4e4e4"/>'
@@ -115,6 +122,7 @@ def line(points: Sequence[tuple[float, float]], x_axis: Axis, y_axis: Axis, colo
 
 
 def legend(name: str, place: int) -> Iterator[str]:
+    """The name of a series beside its colour; `place` counts the series from 0."""
     y = TOP + 20 * place + 8
     yield f'<circle cx="{WIDTH - RIGHT + 24}" cy="{y}" r="4" fill="{COLOURS[place % len(COLOURS)]}"/>'
     yield text(WIDTH - RIGHT + 34, y + 4, name)

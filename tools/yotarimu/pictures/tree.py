@@ -60,6 +60,7 @@ def draw(nodes: Sequence[Node], total: int) -> str:
 
 
 def style_of(nodes: Sequence[Node]) -> Style:
+    """The sizes of a picture: boxes with words, or dots where there are many tasks."""
     if len(nodes) > MOST_BOXES:
         step = min(18, DOTS_WIDTH / len(nodes))
         return Style(step, step * 0.8, step * 0.8, False)
@@ -68,10 +69,12 @@ def style_of(nodes: Sequence[Node]) -> Style:
 
 
 def text(x: float, y: float, words: str, more: str = "") -> str:
+    """Words at a place."""
     return f'<text x="{x:.1f}" y="{y:.1f}"{more}>{escape(words)}</text>'
 
 
 def middle(place: int, style: Style) -> float:
+    """Where the middle of a turn's column is."""
     return MARGIN + style.step * (place + 0.5)
 
 
@@ -81,6 +84,7 @@ def level(depth: int) -> float:
 
 
 def rows(depths: int, width: float) -> Iterator[str]:
+    """The rows of depths, with lines between them."""
     for depth in range(1, depths + 1):
         if depth > 1:
             y = level(depth) - ROW / 2
@@ -122,6 +126,7 @@ def edge(nodes: Sequence[Node], place: int, style: Style) -> str:
 
 
 def task(node: Node, place: int, style: Style) -> str:
+    """The box or the dot of a task."""
     x, y = middle(place, style), level(node.depth)
     if not style.has_labels:
         return (f'<circle cx="{x:.1f}" cy="{y}" r="{style.width / 2:.1f}" fill="{node.colour}">'
@@ -150,6 +155,7 @@ def nodes_of(report: Report, machine: Machine, listing: Listing) -> list[Node]:
 
 
 def node(task: Task, title: str, listing: Listing, colour: str, place: int) -> Node:
+    """The node of a task; its creator is -1 where it isn't drawn."""
     creator = task.name.creator - 1
     label = listing.task_words(task.entry, task.arguments)
     return Node(title, label, task.domain.depth, colour, creator if creator < place else -1, task.domain)

@@ -23,6 +23,7 @@ MOST = 100_000
 
 
 def compile_to(path: pathlib.Path) -> None:
+    """Compiles the library that refuses an allocation; refuses where cc is missing or fails."""
     words = ["cc", "-shared", "-fPIC", "-O1", "-o", str(path), str(SOURCE)]
     try:
         done = subprocess.run(words, capture_output=True, text=True, stdin=subprocess.DEVNULL)

@@ -43,11 +43,13 @@ class Case:
 
 
 def answer(name: str, words: str, given: bytes, status: int, text: Union[bytes, str]) -> Case:
+    """A row of the table: a text is one line, and bytes stand as they are."""
     return Case(name, tuple(words.split()), given, status, text if isinstance(text, bytes) else f"{text}\n".encode())
 
 
 @functools.lru_cache(maxsize=None)
 def stored_file(name: str, file: str = "image.bin") -> bytes:
+    """A file of an example."""
     return (EXAMPLES_FOLDER / name / file).read_bytes()
 
 
@@ -57,6 +59,7 @@ def with_field(data: bytes, offset: int, number: int, size: int = 4) -> bytes:
 
 
 def all_answers() -> list[Case]:
+    """All rows of the table."""
     return [*of_words(), *of_images(), *of_runs(), *of_loads(), *of_checks(), *of_scripts(), *of_ends(), *of_traces(),
             *of_saves()]
 

@@ -49,6 +49,7 @@ class Calls:
             pool.shutdown(cancel_futures=True)
 
     def stop(self) -> None:
+        """Ends all calls that still run, and starts no other."""
         with self.lock:
             self.is_stopped = True
             for process in self.running:

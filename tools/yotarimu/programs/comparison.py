@@ -50,6 +50,7 @@ def need_tools(compiler: str) -> None:
 
 
 def write_sources(name: str, kind: Kind, folder: pathlib.Path, size: int, seed: int) -> None:
+    """Writes the sources of a large program to a folder; refuses one that isn't empty."""
     if folder.exists() and (not folder.is_dir() or any(folder.iterdir())):
         raise Refusal(f"{folder}: it is there and not empty.")
     (folder / "plain").mkdir(parents=True, exist_ok=True)
@@ -93,6 +94,7 @@ def words_left(calls: Calls, image: Image, label: Label) -> tuple[list[int], Rep
 
 
 def answer_of(calls: Calls, words: Sequence[str], data: bytes) -> bytes:
+    """What the program writes to a call that has to go well."""
     status, written = calls.call(words, data)
     if status != 0 or written.startswith(b"fault"):
         raise Refusal(f"`{' '.join(words)}` ended with status {status}.")

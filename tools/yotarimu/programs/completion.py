@@ -79,6 +79,7 @@ def values_of(option: Option) -> str:
 
 
 def bash(table: Table) -> str:
+    """The completion for bash."""
     values = "\n".join(f"            --{name}) words='{values_of(it)}' ;;" for name, it in table.options.items())
     return BASH.format(name=NAME, first=" ".join([*table.commands, *table.own]), values=values,
                        options=" ".join(f"--{name}" for name in table.options), kinds=" ".join(table.kinds),
@@ -87,6 +88,7 @@ def bash(table: Table) -> str:
 
 
 def zsh(table: Table) -> str:
+    """The completion for zsh."""
     purposes = {**{name: row[2] for name, row in table.command_rows.items()}, **table.own}
     described = "\n".join(f"    {zsh_text(f'{name}:{purpose}')}" for name, purpose in purposes.items())
     options = " \\\n".join(f"            {zsh_text(option_text(option))}" for option in table.options.values())
@@ -101,10 +103,12 @@ def leading_words(table: Table) -> str:
 
 
 def option_text(option: Option) -> str:
+    """An option as zsh takes it."""
     return f"--{option.name}=[{option.purpose}]:{option.range_text()}:({values_of(option)})"
 
 
 def zsh_text(text: str) -> str:
+    """A text between quotes of zsh."""
     return "'" + text.replace("'", "'\\''") + "'"
 
 
@@ -138,10 +142,12 @@ def man(table: Table) -> str:
 
 
 def entry(name: str, text: str) -> list[str]:
+    """An entry of the manual page."""
     return [".TP", f".B {escape(name)}", escape(text)]
 
 
 def escape(text: str) -> str:
+    """A text as troff takes it."""
     text = text.replace("\\", "\\e").replace("-", "\\-").replace("'", "\\(aq").replace("`", "\\(ga")
     return f"\\&{text}" if text.startswith(".") else text
 

@@ -30,6 +30,7 @@ class Device:
 
     @property
     def name(self) -> str:
+        """The call and the device, in words."""
         return f"{' '.join(self.words)}: {self.what}"
 
     def fault(self) -> Optional[str]:
@@ -48,6 +49,7 @@ def call_launcher(words: Sequence[str], given: Optional[bytes], stdout: Union[in
 
 
 def unreadable(words: Sequence[str], _given: bytes) -> Answer:
+    """The input is a folder, which can't be read."""
     folder = os.open("/", os.O_RDONLY)
     try:
         return call_launcher(words, None, stdout=subprocess.PIPE, stdin=folder)
@@ -56,6 +58,7 @@ def unreadable(words: Sequence[str], _given: bytes) -> Answer:
 
 
 def full(words: Sequence[str], given: bytes) -> Answer:
+    """The output is a device that is full."""
     with open("/dev/full", "wb") as sink:
         return call_launcher(words, given, stdout=sink)
 
@@ -71,6 +74,7 @@ def unread_output(words: Sequence[str], given: bytes) -> Answer:
 
 
 def scarce(words: Sequence[str], given: bytes) -> Answer:
+    """The program has little memory."""
     return limits.answer(PROGRAM, words, given, SCARCE) or Answer(limits.NOT_LOADED, b"")
 
 

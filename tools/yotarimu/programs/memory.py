@@ -52,6 +52,7 @@ def calls_of(name: str, program: pathlib.Path) -> list[NamedCall]:
 
 
 def schedule_of(name: str, schedule: str) -> NamedCall:
+    """The call that plays a schedule by a command."""
     folder = EXAMPLES_FOLDER / schedule
     words = (folder / "words").read_text().split()[1:]
     given = (folder / "image.bin").read_bytes() + (folder / "script").read_bytes()

@@ -47,6 +47,7 @@ class Folder:
         self.keep({self.name(WORDS): " ".join(words).encode() + b"\n", self.name(IMAGE, 1): image})
 
     def name(self, kind: str, number: Optional[int] = None) -> pathlib.Path:
+        """The file of a kind, of a piece or of the whole."""
         return self.path / (kind if number is None else f"{number:04}.{kind}")
 
     def keep(self, files: Mapping[pathlib.Path, bytes]) -> None:
@@ -62,6 +63,7 @@ class Folder:
         write_whole(missing)
 
     def image(self, number: int) -> bytes:
+        """The image that a piece starts from."""
         return read_bytes(self.name(IMAGE, number))
 
     def has_run(self, number: int) -> bool:
@@ -78,6 +80,7 @@ class Folder:
         write_whole({self.name(REPORT, number): report})
 
     def pieces(self) -> Iterator[Piece]:
+        """The pieces that have run, in their order."""
         number = 1
         while self.has_run(number):
             written = read_bytes(self.name(REPORT, number))
@@ -162,6 +165,7 @@ def name_in_whole(name: Name, names: Optional[Sequence[Name]], turns: int) -> Na
 
 
 def end_line(report: Report, names: Optional[Sequence[Name]], turns: int) -> str:
+    """The last line of the whole report; a trap's task has the name that it has in the whole run."""
     if report.trap is None:
         return f"end {report.end}"
     trap = report.trap

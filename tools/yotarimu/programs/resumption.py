@@ -24,6 +24,7 @@ class Resumption:
         self.calls, self.words, self.every, self.folder = calls, words, every, folder
 
     def call(self, command: str, data: bytes, commits: int) -> Answer:
+        """Calls the program on some input, with a commit limit."""
         return self.calls.call([command, *self.words, "--commits", str(commits)], data)
 
     def run_all(self) -> None:
@@ -38,9 +39,11 @@ class Resumption:
         show_progress("")
 
     def is_over(self, number: int) -> bool:
+        """Whether the run ended before a piece."""
         return number > 1 and self.folder.has_run(number - 1) and not self.folder.name(pieces.IMAGE, number).exists()
 
     def report(self, number: int) -> Report:
+        """The report of a piece."""
         name = self.folder.name(pieces.REPORT, number)
         return read_report(read_bytes(name).decode("utf-8", "replace"), name)
 
@@ -80,10 +83,12 @@ class Resumption:
         return commits
 
     def need(self, command: str, image: bytes, commits: int, statuses: set[int]) -> bytes:
+        """What the program writes to a call; refuses a status that isn't among these."""
         status, written = self.call(command, image, commits)
         return self.need_status(command, status, written, statuses)
 
     def need_status(self, command: str, status: int, written: bytes, statuses: set[int]) -> bytes:
+        """What a call wrote; refuses a status that isn't among these."""
         if status not in statuses:
             text = written[:200].decode("utf-8", "backslashreplace").strip()
             raise Refusal(f"`{command}` ended with status {status}{f' and said `{text}`' if text else ''}.")
@@ -113,6 +118,7 @@ class Resumption:
         return len(read), turns
 
     def check(self, image: bytes, report: bytes, turns: int, what: str) -> None:
+        """Has the program check a report; refuses one that it refuses."""
         # At the limit of a piece no further task may commit.
         commits = turns if end_of(report) == "limit" else pieces.MOST_COMMITS
         status, told = self.call("check", image + report, max(commits, 1))

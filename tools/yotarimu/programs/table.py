@@ -19,6 +19,7 @@ class Option:
     purpose: str
 
     def range_text(self) -> str:
+        """The values that the option may have, in words."""
         if isinstance(self.values, range):
             return f"{self.values[0]} to {self.values[-1]}"
         return f"one of {', '.join(map(str, self.values))}"
@@ -67,6 +68,7 @@ class Table:
 
 
 def table_lines() -> list[str]:
+    """The lines of the launcher's table."""
     try:
         done = subprocess.run([LAUNCHER, "table"], capture_output=True, text=True, check=True, stdin=subprocess.DEVNULL)
     except subprocess.CalledProcessError as error:

@@ -20,6 +20,7 @@ MOST_REPLIES = 200
 
 
 def image_line(path: FilePath, image: Image) -> str:
+    """An image in a sentence."""
     kind = "ordered" if image.is_ordered else "unordered"
     return (f"{path}: version {image.version}, an {kind} root domain, {len(image.text) // 4:,} words of text from "
             f"{TEXT:08x} on, {image.size:,} bytes of data.")
@@ -54,15 +55,18 @@ def reply_lines(replies: Sequence[ActAnswer]) -> list[str]:
 
 
 def reply_text(said: ActAnswer) -> str:
+    """What an act was answered, and what that means."""
     back = f", {said.taken_back:,} taken back" if said.taken_back else ""
     return f"{said.reply}{meaning(said.reply)}{back}"
 
 
 def meaning(reply: str) -> str:
+    """What a reply means, behind a colon; no words where it says so itself."""
     return f": {REPLIES[reply]}" if reply in REPLIES else ""
 
 
 def output_lines(output: bytes) -> list[str]:
+    """The output as text."""
     if not output:
         return ["No byte was emitted."]
     count = "1 byte" if len(output) == 1 else f"{len(output):,} bytes"
@@ -77,6 +81,7 @@ def text_lines(output: bytes) -> list[str]:
 
 
 def window_lines(window: Sequence[tuple[int, int]], listing: Listing) -> list[str]:
+    """The window, each word in decimal and in hexadecimal."""
     if not window:
         return []
     lines = ["Window, each word in decimal and in hexadecimal:", ""]
@@ -87,6 +92,7 @@ def window_lines(window: Sequence[tuple[int, int]], listing: Listing) -> list[st
 
 
 def end_lines(report: Report, machine: Machine, listing: Listing) -> list[str]:
+    """How the run ended; of a trap where, why, and what is usually wrong."""
     if not report.trap:
         return [ENDS[report.end]]
     trap = report.trap

@@ -52,6 +52,7 @@ def told_without_report(text: str) -> Optional[str]:
 
 
 def tasks_told(count: int) -> str:
+    """How many tasks took their turns."""
     return "1 task took its turn" if count == 1 else f"{count:,} tasks took their turns"
 
 

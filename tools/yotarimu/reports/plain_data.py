@@ -74,6 +74,7 @@ def all_of(image_path: FilePath, replies: Sequence[ActAnswer], report: Report, m
 
 
 def task_of(entry: Entry, machine: Machine, listing: Listing) -> TaskRow:
+    """The row of an entry; what its task was is None where it couldn't be followed."""
     task = machine.tasks.get(entry.name)
     known = task if task is not None and task.turn == entry.turn else None
     return {

@@ -53,6 +53,7 @@ def line_of(text: bytes, number: int) -> Optional[bytes]:
 
 
 def quote(line: bytes) -> str:
+    """A line between quotes, or the beginning of a long one."""
     text = printable(line).replace('\\"', '"')
     return f"`{text}`" if len(text) <= MOST_SHOWN else f"`{text[:MOST_SHOWN]}...`"
 
@@ -87,6 +88,7 @@ def number_fault(word: str, what: str, least: int, most: int) -> Optional[str]:
 
 
 def name_fault(word: str) -> Optional[str]:
+    """What is wrong with a name; None where nothing is."""
     creator, dot, index = word.partition(".")
     if not dot:
         return f"`{word[:MOST_SHOWN]}` is no name, which is `<creator>.<index>`"
@@ -119,10 +121,12 @@ def script_fault(line: bytes, tiles: int, cores: int) -> Optional[str]:
 
 
 def word_count(words: int) -> str:
+    """How many words there are."""
     return "one word" if words == 1 else f"{words} words"
 
 
 def list_text(names: Iterable[str]) -> str:
+    """Names as a list with an "or" before the last."""
     names = list(names)
     return f"{', '.join(names[:-1])} or {names[-1]}"
 
@@ -180,6 +184,7 @@ def shape_fault(kind: str, words: Sequence[str], number: int) -> Optional[str]:
 
 
 def entry_fault(words: Sequence[str], number: int) -> Optional[str]:
+    """What is wrong with an entry on a line of a number; None where nothing is."""
     if len(words) != 4:
         return f"an entry is {SHAPES['an entry']}, and not {word_count(len(words))}"
     turn, name, depth, timestamp = words
@@ -190,6 +195,7 @@ def entry_fault(words: Sequence[str], number: int) -> Optional[str]:
 
 
 def trap_fault(words: Sequence[str]) -> Optional[str]:
+    """What is wrong with the end of a run that trapped; None where nothing is."""
     if len(words) != 5 or not re.fullmatch("[0-9a-f]{8}", words[3]):
         return f"the end is {SHAPES['the end']}, with eight digits for the pc"
     return number_fault(words[2], "a cause", 1, MOST_CAUSE) or name_fault(words[4])
@@ -199,6 +205,7 @@ MOST_LINES = 2 ** 32
 
 
 def why(told: str, words: Sequence[str], data: bytes) -> str:
+    """Why the program refused a line, from what it said, the words of the call, and its input."""
     found = re.fullmatch("fault (script|journal) ([1-9][0-9]{0,9})", told)
     if not found:
         raise Refusal(f"`{told[:40]}` isn't what the program says of a script or of a report.")

@@ -34,6 +34,7 @@ class Entry:
 
 @dataclasses.dataclass
 class Trap:
+    """A trap that ended a run: its cause, the address of its instruction, and the task."""
     cause: int
     pc: int
     name: Name
@@ -63,9 +64,11 @@ class Lines:
         return found
 
     def need(self, pattern: str, what: str) -> re.Match[str]:
+        """Takes the next line, or refuses it as none of a pattern."""
         return self.take(pattern) or self.refuse(f"{what} is wanted")
 
     def refuse(self, why: str) -> NoReturn:
+        """Refuses the next line, with its number."""
         raise Refusal(f"{self.name}:{self.taken + 1}: this is no report: {why}.")
 
 

@@ -13,6 +13,7 @@ PACKAGE = PAGE.parent.parent
 
 
 def source(name: str) -> str:
+    """The text of a source of the page."""
     return (PAGE / name).read_text(encoding="utf-8")
 
 
@@ -44,6 +45,7 @@ def command_line(modules: Dict[str, bytes], table: str, commit: str) -> str:
 
 
 def sources(names: Sequence[str]) -> List[str]:
+    """The texts of sources of the page."""
     return [source(name) for name in names]
 
 
@@ -58,6 +60,7 @@ TABLES = {"sentences": "common/sentences.json", "exercises": "courses/exercises.
 
 
 def table_at(path: str) -> Any:
+    """The data of a file of JSON in the package."""
     return json.loads((PACKAGE / path).read_text(encoding="utf-8"))
 
 

@@ -43,13 +43,16 @@ class Call(NamedTuple):
     data: bytes
 
     def has_workers(self) -> bool:
+        """Whether the call runs an image with host threads."""
         return any(word.startswith("--workers") for word in self.words) and self.words[0] == "run"
 
     def text(self) -> str:
+        """The call in words."""
         return f"{self.program} {' '.join(self.words)} on {len(self.data):,} bytes"
 
 
 def native_answer(asked: Call) -> Answer:
+    """What the built program answers; refuses one that takes too long."""
     try:
         done = subprocess.run([NATIVE[asked.program], *asked.words], input=asked.data, capture_output=True, check=False,
                               timeout=MOST_SECONDS)
@@ -72,11 +75,13 @@ class Engine:
         self.process = subprocess.Popen(words, stdin=subprocess.PIPE, stdout=subprocess.PIPE)
 
     def answer(self, asked: Call) -> Answer:
+        """What the module answers."""
         told = self.ask({"program": asked.program, "words": list(asked.words),
                          "input": base64.b64encode(asked.data).decode("ascii")})
         return Answer(told["status"], base64.b64decode(told["output"]))
 
     def ask(self, question: Dict[str, Any]) -> Dict[str, Any]:
+        """What the engine answers to a question; refuses one that has ended."""
         assert self.process.stdin is not None and self.process.stdout is not None
         self.process.stdin.write(json.dumps(question).encode() + b"\n")
         self.process.stdin.flush()
@@ -87,6 +92,7 @@ class Engine:
         return told
 
     def close(self) -> None:
+        """Ends the engine."""
         self.process.kill()
         self.process.wait()
         self.folder.cleanup()
@@ -94,6 +100,7 @@ class Engine:
 
 @contextlib.contextmanager
 def engine(modules: Dict[str, pathlib.Path]) -> Iterator[Engine]:
+    """An engine with these modules, which is ended in the end."""
     running = Engine(modules)
     try:
         yield running
@@ -173,6 +180,7 @@ class Comparison:
                                     f"the module {module.status} and {len(module.output):,} bytes")
 
     def is_accepted(self, asked: Call, answer: Answer) -> bool:
+        """Whether the built program accepts a report that the module wrote."""
         limits = [word for word in asked.words if word.startswith(LIMITS)]
         return native_answer(Call("sim", ("check", *limits), asked.data + answer.output)).status == 0
 

@@ -19,6 +19,7 @@ def examples_in(root: pathlib.Path) -> List[Dict[str, Any]]:
 
 
 def group_of(root: pathlib.Path, title: str, folder: str) -> List[Dict[str, Any]]:
+    """The examples of a folder, those first that are opened first."""
     places = sorted(place for place in (root / folder).iterdir() if (place / IMAGE).is_file())
     places.sort(key=lambda place: place.name not in NAMED_FIRST)
     small = (place for place in places if (place / IMAGE).stat().st_size <= MOST_BYTES)
@@ -26,6 +27,7 @@ def group_of(root: pathlib.Path, title: str, folder: str) -> List[Dict[str, Any]
 
 
 def example_of(root: pathlib.Path, place: pathlib.Path) -> Dict[str, Any]:
+    """An example as the page reads it."""
     image = base64.b64encode((place / IMAGE).read_bytes()).decode("ascii")
     return {"name": place.relative_to(root).as_posix(), "title": place.name.replace("_", " "), "image": image,
             "script": text_of(place / "script"),
@@ -34,4 +36,5 @@ def example_of(root: pathlib.Path, place: pathlib.Path) -> Dict[str, Any]:
 
 
 def text_of(path: pathlib.Path) -> str:
+    """The text of a file; empty where there is none."""
     return path.read_text(encoding="utf-8") if path.is_file() else ""

@@ -49,6 +49,7 @@ class Tools:
             raise Refusal(f"{name} ended with status {done.returncode}: {said[0] if said else 'it said nothing'}.")
 
     def compile(self, words: Sequence[str], folder: pathlib.Path) -> None:
+        """Compiles in a folder, by the words of clang."""
         self.run(self.clang, "clang", words, folder)
 
 
@@ -63,6 +64,7 @@ def builtins_of() -> pathlib.Path:
 
 
 def version_in(path: pathlib.Path) -> List[int]:
+    """The numbers in a path, by which versions are ordered."""
     return [int(part) for part in path.parts if part.isdigit()]
 
 

@@ -60,6 +60,7 @@ def need_known(text: str, name: str) -> None:
 
 
 def is_known(function: str) -> bool:
+    """Whether a function is known to be there and to mean the same for WebAssembly."""
     if function.startswith("llvm."):
         return not function.startswith("llvm.x86.") or f"@{function}()" == PAUSE
     return function in KNOWN

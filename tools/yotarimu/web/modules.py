@@ -34,10 +34,12 @@ class Modules:
 
 
 def module_path(crate: str) -> pathlib.Path:
+    """Where the module of a program is."""
     return HOME / "crates" / crate / "out" / f"{crate}.wasm"
 
 
 def commit_path(crate: str) -> pathlib.Path:
+    """Where it is noted of which commit a module was made."""
     return module_path(crate).with_suffix(".wasm.commit")
 
 
@@ -70,6 +72,7 @@ def modules() -> Modules:
 
 
 def page_text(found: Modules) -> str:
+    """The page with both programs; refuses one that would be too large."""
     page = live_page(found.programs, "\n".join(table_lines()), found.commit, examples_in(EXAMPLES_FOLDER))
     if len(page.encode()) > MOST_BYTES:
         raise Refusal(f"the page would have {len(page.encode()):,} bytes, and at most {MOST_BYTES:,} are to be.")
@@ -77,6 +80,7 @@ def page_text(found: Modules) -> str:
 
 
 def command_text(found: Modules) -> str:
+    """The command with both programs."""
     return command_line(found.programs, "\n".join(table_lines()), found.commit)
 
 

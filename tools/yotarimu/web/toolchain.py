@@ -39,13 +39,16 @@ class Toolchain:
 
     @property
     def compiler(self) -> pathlib.Path:
+        """The folder of the compiler."""
         return self.folder / "toolchain"
 
     @property
     def prover(self) -> pathlib.Path:
+        """The program that proves."""
         return self.folder / "bin" / "rattle"
 
     def library(self, name: str) -> pathlib.Path:
+        """The file of one of the toolchain's crates."""
         return self.folder / "rlibs" / f"{name}.rlib"
 
 
@@ -79,6 +82,7 @@ class Crates:
         return list(found)
 
     def find_below(self, name: str, found: Dict[str, None]) -> None:
+        """Notes all crates that one stands on, each behind those below it."""
         for other in self.below[name]:
             if other in self.below and other not in found:
                 self.find_below(other, found)

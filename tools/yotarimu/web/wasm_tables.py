@@ -39,12 +39,14 @@ def number_at(data: bytes, place: int) -> Tuple[int, int]:
 
 
 def behind_number(data: bytes, place: int) -> int:
+    """The place behind a number."""
     while data[place] & 128:
         place += 1
     return place + 1
 
 
 def number(value: int) -> bytes:
+    """A number as the module has it, in LEB128."""
     made = bytearray()
     while value > 127:
         made.append(value & 127 | 128)
@@ -67,6 +69,7 @@ def narrow(module: bytes) -> bytes:
 
 
 def tables(section: bytes) -> bytes:
+    """The section of the tables, with those of 32 bits."""
     count, place = number_at(section, 0)
     made = bytearray(number(count))
     for _ in range(count):
@@ -80,6 +83,7 @@ def tables(section: bytes) -> bytes:
 
 
 def elements(section: bytes) -> bytes:
+    """The section of what fills the tables, with places of 32 bits."""
     count, place = number_at(section, 0)
     made = bytearray(number(count))
     for _ in range(count):
@@ -98,6 +102,7 @@ def elements(section: bytes) -> bytes:
 
 
 def code(section: bytes) -> bytes:
+    """The section of the functions, where each indirect call wraps its place."""
     count, place = number_at(section, 0)
     made = bytearray(number(count))
     for _ in range(count):
@@ -109,6 +114,7 @@ def code(section: bytes) -> bytes:
 
 
 def function_body(section: bytes, start: int, end: int) -> bytes:
+    """The body of a function, where each indirect call wraps its place."""
     groups, place = number_at(section, start)
     for _ in range(groups):
         place = behind_number(section, place) + 1
@@ -122,6 +128,7 @@ def function_body(section: bytes, start: int, end: int) -> bytes:
 
 
 def behind_instruction(section: bytes, place: int) -> int:
+    """The place behind an instruction; refuses one that isn't known."""
     opcode = section[place]
     place += 1
     if opcode in BYTES:
