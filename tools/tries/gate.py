@@ -7,7 +7,6 @@ import shutil
 
 from yotarimu.programs.examples import EXAMPLES, SCHEDULES
 
-from tries.files import files_of
 from tries.launcher import TRAP
 from tries.place import Place, expect
 
@@ -111,8 +110,9 @@ def lying_programs_fail(place: Place) -> None:
 def each_fails_the_gate(place: Place) -> None:
     """the gate runs plain `rt ci`, then the lint, then the examples where the program was built; each may fail it"""
     place.stub_tool("rt", f'echo "$@" >>"{place.root}/words"; exit $(cat "{place.root}/proved")\n')
-    names = {False: "hello", True: "trap"}
-    reports = {is_spoiled: pathlib.Path(files_of(place, name)[1]).read_bytes() for is_spoiled, name in names.items()}
+    # No unit test reads what was said to a schedule, so the examples alone fail where it is another one's.
+    schedules, stored = place.clone / "examples" / "schedules", pathlib.Path("conflict", "said")
+    said = {False: (schedules / stored).read_bytes(), True: (schedules / "kept_trap" / "said").read_bytes()}
     source = place.clone / "crates" / "rv_core" / "src" / "lib.rt"
     text = source.read_text()
     for proved, is_built, is_spoiled, is_wide, wanted in (
@@ -123,7 +123,7 @@ def each_fails_the_gate(place: Place) -> None:
         shutil.rmtree(place.program.parent, ignore_errors=True)
         if is_built:
             place.needs_program()
-        (place.clone / "examples" / "hello" / "report").write_bytes(reports[is_spoiled])
+        (schedules / stored).write_bytes(said[is_spoiled])
         source.write_text(f"{text}{'// wide' * 20 * is_wide}\n")
         answer = place.call(".ci/run", cwd="/")
         expect(answer.status == wanted, f"status {wanted}", answer)

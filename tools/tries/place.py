@@ -195,7 +195,7 @@ class Place:
 
     def interrupt(self, *words: Word, ready: Callable[[], object], number: int = signal.SIGINT,
                   cwd: Optional[Word] = None) -> Answer:
-        """Sends a signal to a call and to all that it started, once `ready` holds."""
+        """Calls a tool, and sends a signal to it and to all that it started, once `ready` holds; gives its answer."""
         process = subprocess.Popen([*self.command(words[0]), *map(str, words[1:])], stdin=subprocess.DEVNULL,
                                    stdout=subprocess.PIPE, stderr=subprocess.PIPE, cwd=cwd or self.root,
                                    env=self.environment, start_new_session=True)

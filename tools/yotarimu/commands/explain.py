@@ -66,7 +66,7 @@ def explain_no_report(text: str, sentence: str, form: Optional[str]) -> None:
 
 
 def explain_lines(image_path: str, image: Image, lines_path: str, source: Optional[str], form: Optional[str]) -> None:
-    """Why tasks were taken back."""
+    """Prints why the tasks of a run were taken back: as text, or in a form for other programs."""
     if form == "picture":
         raise Refusal("lines have no tree of tasks; the report of the run has.")
     listing, remark = listing_for(image_path, image, source)

@@ -43,7 +43,7 @@ class LinesTrack(Track):
         self.of_name: dict[str, list[Attempt]] = {}
         for attempt in self.attempts:
             self.of_name.setdefault(label_of(attempt.task), []).append(attempt)
-        self.telling = CauseSentences(self.task_told, self.notes.head["line"], listing)
+        self.sentences = CauseSentences(self.task_told, self.notes.head["line"], listing)
         # The runs of attempts, as far as they were followed last.
         self.cores: dict[int, AttemptCore] = {}
         self.go_to(Position(0, 0))
@@ -169,9 +169,9 @@ class LinesTrack(Track):
         cause = attempt.cause
         if cause is None:
             return "nothing tells why"
-        told = self.telling.sentence(cause)
+        told = self.sentences.sentence(cause)
         if cause.before is not None and cause.root.before is None:
-            told += f"; at the root of it {self.task_told(cause.root.task)}: {self.telling.sentence(cause.root)}"
+            told += f"; at the root of it {self.task_told(cause.root.task)}: {self.sentences.sentence(cause.root)}"
         return told
 
     def trap_words(self, attempt: Attempt) -> str:
@@ -247,12 +247,12 @@ class LinesTrack(Track):
         """[TASK]  the children that an attempt makes, and where it makes each"""
         attempt = self.attempt_named(word)
         rows = []
-        for task, making in self.notes.made.items():
-            if making.by is attempt:
-                not_yet = "" if making.position < self.position else "  (not yet)"
+        for task, origin in self.notes.made.items():
+            if origin.by is attempt:
+                not_yet = "" if origin.position < self.position else "  (not yet)"
                 of_task = self.of_task.get(task)
                 told = self.line(of_task[-1]) if of_task else f"  never dispatched  {self.task_told(task)}"
-                rows.append(f"{told}  by {self.place_told(making.pc)}{not_yet}")
+                rows.append(f"{told}  by {self.place_told(origin.pc)}{not_yet}")
         return rows or [f"{self.name_of(attempt.number)} makes no children"]
 
     def whence(self, word: Optional[str] = None) -> list[str]:
@@ -263,9 +263,9 @@ class LinesTrack(Track):
 
     def origins(self, attempt: Attempt) -> Iterator[Origin]:
         """Where the attempt's task was made, where the task that made it was, and so on."""
-        while (making := self.notes.made.get(attempt.task)) is not None:
-            yield making
-            attempt = making.by
+        while (origin := self.notes.made.get(attempt.task)) is not None:
+            yield origin
+            attempt = origin.by
 
     def goto(self, word: str = "1") -> list[str]:
         """TASK, TASK#N, TASK@N, TASK@end, TASK!, eN  to a start, the N-th attempt, N instructions on, an end, the call
@@ -276,10 +276,10 @@ class LinesTrack(Track):
             return [goals.arrival_text(self.thread)]
         attempt = self.attempt_named(goal.what)
         if goal.is_making:
-            making = self.notes.made.get(attempt.task)
-            if making is None:
+            origin = self.notes.made.get(attempt.task)
+            if origin is None:
                 raise Refusal(f"{goal.what} is the image's own, so no call made it.")
-            self.go_to(making.position)
+            self.go_to(origin.position)
         elif not attempt.stretches:
             raise Refusal(f"{goal.what} takes no leg in these lines.")
         else:

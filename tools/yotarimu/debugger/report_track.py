@@ -205,8 +205,8 @@ class ReportTrack(Track):
 
     def is_made(self, task: machine.Task) -> bool:
         """Whether a task is there at this position: it is of the image, or was made before."""
-        making = self.turns.made.get(task.name)
-        return making is None or making.position < self.position
+        origin = self.turns.made.get(task.name)
+        return origin is None or origin.position < self.position
 
     def name_of(self, thread: int) -> str:
         task = self.task_of(thread)
@@ -269,26 +269,26 @@ class ReportTrack(Track):
         task = self.task_named(word)
         turn = self.places[task.name] + 1 if task.name in self.places else 0
         rows = []
-        for name, making in self.turns.made.items():
+        for name, origin in self.turns.made.items():
             if name.creator == turn:
-                not_yet = "" if making.position < self.position else "  (not yet)"
-                rows.append(f"{self.line(self.turns.tasks[name])}  by {self.place_told(making.pc)}{not_yet}")
+                not_yet = "" if origin.position < self.position else "  (not yet)"
+                rows.append(f"{self.line(self.turns.tasks[name])}  by {self.place_told(origin.pc)}{not_yet}")
         return rows or [f"{task.name} makes no children"]
 
     def whence(self, word: Optional[str] = None) -> list[str]:
         """[TASK]  which task made it, which made that one, and so on up to the image"""
         task = self.task_named(word)
         rows = [self.line(task)]
-        for making in self.origins(task):
-            task = self.order[making.position.stretch]
-            rows.append(f"{self.line(task)}  at {self.place_told(making.pc)}")
+        for origin in self.origins(task):
+            task = self.order[origin.position.stretch]
+            rows.append(f"{self.line(task)}  at {self.place_told(origin.pc)}")
         return rows
 
     def origins(self, task: machine.Task) -> Iterator[Origin]:
         """Where a task was made, where the task that made it was, and so on."""
-        while (making := self.turns.made.get(task.name)) is not None:
-            yield making
-            task = self.order[making.position.stretch]
+        while (origin := self.turns.made.get(task.name)) is not None:
+            yield origin
+            task = self.order[origin.position.stretch]
 
     def goto(self, word: str = "1") -> list[str]:
         """TASK, TASK@N, TASK@end, TASK!  to a task's start, N instructions on, its end, or the call that made it"""
@@ -297,10 +297,10 @@ class ReportTrack(Track):
             raise Refusal(f"{word}: a report tells no events; the lines of ./fractal watch do.")
         task = self.task_named(goal.what)
         if goal.is_making:
-            making = self.turns.made.get(task.name)
-            if making is None:
+            origin = self.turns.made.get(task.name)
+            if origin is None:
                 raise Refusal(f"{task.name} is the image's own, so no call made it.")
-            self.go_to(making.position)
+            self.go_to(origin.position)
         elif task.name in self.places:
             place = self.places[task.name]
             self.go_to(Position(place, goal.within(self.stretches[place].length)))

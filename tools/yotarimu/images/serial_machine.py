@@ -22,6 +22,10 @@ MOST_BUDGET, MOST_BYTES = 65_536, 256
 STACK_POINTER, ENTRY, TIMESTAMP, FIRST_ARGUMENT, CALL = 2, 10, 11, 12, 17
 REGISTERS = ("zero", "ra", "sp", "gp", "tp", "t0", "t1", "t2", "s0", "s1", *(f"a{place}" for place in range(8)),
              *(f"s{place}" for place in range(2, 12)), "t3", "t4", "t5", "t6")
+# Opcodes, and the two instructions that are no more than a word.
+LUI, AUIPC, JAL, JALR, BRANCH, LOAD, STORE = 0x37, 0x17, 0x6F, 0x67, 0x63, 0x03, 0x23
+IMMEDIATE, REGISTER, FENCE, SYSTEM = 0x13, 0x33, 0x0F, 0x73
+ECALL, EBREAK = 0x73, 0x100073
 # Causes of traps.
 FETCH, ILLEGAL, TARGET, LOAD_MULTIPLE, LOAD_RANGE, STORE_MULTIPLE, STORE_RANGE, BREAK = range(1, 9)
 BAD_CALL, EARLY, NO_SUBDOMAIN, SECOND_SUBDOMAIN, NO_SUPERDOMAIN, TOO_DEEP, CHILD, BYTE, BUDGET = range(9, 18)
@@ -174,28 +178,28 @@ class Run:
         opcode, target, first, second, kind, immediate, is_other = decode(word)
         registers, result, following = self.registers, None, self.pc + 4
         one = registers[first]
-        if opcode == 0x13:
+        if opcode == IMMEDIATE:
             result = compute(kind, one, immediate & MASK, is_other and kind == 5)
-        elif opcode == 0x33:
+        elif opcode == REGISTER:
             result = compute(kind, one, registers[second], is_other)
-        elif opcode == 0x63:
+        elif opcode == BRANCH:
             following = self.pc + immediate if is_met(kind, one, registers[second]) else following
-        elif opcode == 0x03:
+        elif opcode == LOAD:
             result = self.load(kind, one + immediate & MASK)
-        elif opcode == 0x23:
+        elif opcode == STORE:
             self.store(1 << (kind & 3), one + immediate & MASK, registers[second])
-        elif opcode == 0x37:
+        elif opcode == LUI:
             result = immediate
-        elif opcode == 0x17:
+        elif opcode == AUIPC:
             result = self.pc + immediate
-        elif opcode == 0x6F:
+        elif opcode == JAL:
             result, following = following, self.pc + immediate
-        elif opcode == 0x67:
+        elif opcode == JALR:
             result, following = following, one + immediate & ~1
-        elif word == 0x73:
+        elif word == ECALL:
             self.call()
-        elif opcode != 0x0F:
-            raise TaskTrap(BREAK if word == 0x100073 else ILLEGAL)
+        elif opcode != FENCE:
+            raise TaskTrap(BREAK if word == EBREAK else ILLEGAL)
         if following % 4:
             raise TaskTrap(TARGET)
         if result is not None and target:
@@ -291,13 +295,13 @@ def decode(word: int) -> tuple[int, int, int, int, int, int, bool]:
 
 def immediate_of(opcode: int, word: int) -> int:
     """The immediate of an instruction, by the format that its opcode has."""
-    if opcode == 0x63:
+    if opcode == BRANCH:
         return branch_offset(word)
-    if opcode == 0x6F:
+    if opcode == JAL:
         return jump_offset(word)
-    if opcode == 0x23:
+    if opcode == STORE:
         return signed_number(word >> 25 << 5 | word >> 7 & 31, 12)
-    return word & 0xFFFFF000 if opcode in (0x37, 0x17) else signed_number(word >> 20, 12)
+    return word & 0xFFFFF000 if opcode in (LUI, AUIPC) else signed_number(word >> 20, 12)
 
 
 def compute(kind: int, one: int, two: int, is_other: bool) -> int:

@@ -8,14 +8,14 @@ from typing import NamedTuple, Optional
 from yotarimu.common.outcome import Refusal, note
 from yotarimu.images.elf import Label
 from yotarimu.images.image import TEXT, Image
-from yotarimu.images.serial_machine import branch_offset, jump_offset, signed_number
+from yotarimu.images.serial_machine import (
+    AUIPC, BRANCH, EBREAK, FENCE, IMMEDIATE, JAL, JALR, LUI, REGISTER, STORE, SYSTEM, branch_offset, jump_offset,
+    signed_number)
 from yotarimu.images.source import Assembly
 
 RA, SP, FRAME = 1, 2, 8
-LUI, AUIPC, JAL, JALR, BRANCH, IMMEDIATE, REGISTER, SYSTEM = 0x37, 0x17, 0x6F, 0x67, 0x63, 0x13, 0x33, 0x73
 # Opcodes whose instructions write no register.
-WRITES_NOTHING = (BRANCH, 0x23, 0x0F, SYSTEM)
-EBREAK = 0x100073
+WRITES_NOTHING = (BRANCH, STORE, FENCE, SYSTEM)
 # Of a longer way the rest is counted.
 MOST_PARTS = 16
 # How far above its use the number of a large frame is looked for.

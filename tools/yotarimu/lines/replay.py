@@ -138,7 +138,7 @@ class ToldLine:
         self.spilled: Sequence[Task] = ()
 
     def is_act(self) -> bool:
-        """Whether it tells an act, and neither where a task was placed nor a view."""
+        """Whether it tells an act; other lines tell where a task was placed, or a view of the machine."""
         return "reply" in self.line
 
 

@@ -16,17 +16,19 @@ class Rounds:
     all."""
 
     def __init__(self, head: Dict[str, Any]) -> None:
+        # So many rounds there are, and so many barren ones in a row bring the least task on.
         self.count, self.most, self.shuffle = head["rounds"], head["barren"], Shuffle(head["seed"])
         self.acts = self.shuffle.shuffle(round_of(head["tiles"], head["cores"]))
         # How many rounds came before the one that goes on or comes next, and the number of the act that it begins with.
         self.number, self.first = 0, 1
         # How many tasks had committed where it began, and how many have by now.
         self.begun = self.commits = 0
+        # How many rounds in a row brought no commit by now, and at most; how often the least task was brought on.
         self.barren = self.longest = self.advances = 0
         self.is_brought_on = False
 
     def begun_rounds(self) -> int:
-        """How many rounds were begun, once an act was told."""
+        """How many rounds were begun, once an act was told; none begins while the least task is brought on."""
         return self.number + (not self.is_brought_on)
 
     def need(self, line: Dict[str, Any]) -> None:

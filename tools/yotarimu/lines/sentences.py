@@ -214,16 +214,16 @@ def back_told(told: ToldLine, machine: Machine, listing: Listing) -> str:
     if not count:
         return ""
     line_size = machine.head["line"]
-    telling, causes = CauseSentences(label_of, line_size, listing), causes_of(told, line_size)
+    sentences, causes = CauseSentences(label_of, line_size, listing), causes_of(told, line_size)
     more = fill(SENTENCES["taken"]["more"], count=f"{count - MOST_NAMED:,}") if count > MOST_NAMED else ""
     return fill(SENTENCES["back"], tasks=count_text(count, "task"), are=is_or_are(count), more=more,
-                list="".join(taken_told(cause, telling) for cause in causes[:MOST_NAMED]))
+                list="".join(taken_told(cause, sentences) for cause in causes[:MOST_NAMED]))
 
 
-def taken_told(cause: Cause, telling: CauseSentences) -> str:
+def taken_told(cause: Cause, sentences: CauseSentences) -> str:
     """A task that was taken back, with the work that this undid, and why."""
     texts, taken = SENTENCES["taken"], cause.taken
-    return fill(texts["worked" if taken.work else "idle"], task=label_of(taken.task), cause=telling.sentence(cause),
+    return fill(texts["worked" if taken.work else "idle"], task=label_of(taken.task), cause=sentences.sentence(cause),
                 instructions=count_text(taken.work, "instruction"),
                 discarded=texts["discarded"] if taken.is_gone else "")
 

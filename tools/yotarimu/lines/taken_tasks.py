@@ -43,6 +43,7 @@ class Run:
     """The tasks that a run took back, from its lines."""
 
     def __init__(self, path: str, image: Image, listing: Listing) -> None:
+        # The rows come first, as the end is noted once all of them were read.
         self.path, self.found = path, list(taken_rows(path, image, listing, self))
 
     # What the lines' last one tells.
@@ -53,22 +54,22 @@ def taken_rows(path: str, image: Image, listing: Listing, run: Run) -> Iterator[
     """The rows of all tasks that a text of lines takes back, in its order; the run is told how it ended."""
     with open_lines(path, image=image) as watched:
         line_size = watched.head["line"]
-        telling = CauseSentences(label_of, line_size, listing)
+        sentences = CauseSentences(label_of, line_size, listing)
         for told in watched:
             if told.taken:
                 for cause in causes_of(told, line_size):
-                    yield row_of(cause, told.line["n"], telling)
+                    yield row_of(cause, told.line["n"], sentences)
         run.end = watched.end or {}
 
 
-def row_of(cause: Cause, event: int, telling: CauseSentences) -> TakenRow:
+def row_of(cause: Cause, event: int, sentences: CauseSentences) -> TakenRow:
     """The row of a task that was taken back, from its cause."""
     task, root = cause.task, cause.root
     return TakenRow(
-        event=event, task=label_of(task), label=telling.listing.address_text(task.entry), timestamp=task.timestamp,
+        event=event, task=label_of(task), label=sentences.listing.address_text(task.entry), timestamp=task.timestamp,
         work=cause.taken.work, is_discarded=cause.taken.is_gone, kind=cause.kind.value,
         shares=cause.meeting.sharing.word if cause.meeting else "", by=label_of(cause.by) if cause.by else "",
-        root=root.event, root_task=label_of(root.task), root_shares=cause.sharing.word, why=telling.sentence(cause))
+        root=root.event, root_task=label_of(root.task), root_shares=cause.sharing.word, why=sentences.sentence(cause))
 
 
 # ---- as text
@@ -91,7 +92,7 @@ def text_of(run: Run) -> List[str]:
 
 
 def counts_told(run: Run) -> List[str]:
-    """How many there are by what took each, and by what is at the root of it."""
+    """Lines that count the tasks which were taken back, by what took each and by what is at the root of it."""
     own = collections.Counter((it.kind, it.shares) for it in run.found)
     lines = ["By what took each:", ""]
     for kind, told in KINDS.items():

@@ -23,7 +23,8 @@ def answer_lines(faults: Sequence[tuple[str, Optional[str]]]) -> list[str]:
 
 
 def of_built(answers: Sequence[Case]) -> list[tuple[str, Optional[str]]]:
-    """The answers that only built programs give, and whether with these each status of each command was shown."""
+    """What is wrong with each answer that only built programs give, by its name; None where nothing is. The last row
+    holds that with these and other answers each status of each command was shown."""
     faults, shown = device_answers()
     lacking = missing_statuses(shown | {(case.words[0], case.status) for case in answers})
     return [*faults, *retold_schedules(), ("each status of each command", "; ".join(lacking) or None)]

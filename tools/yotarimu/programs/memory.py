@@ -30,7 +30,7 @@ class NamedCall(NamedTuple):
 
 
 def calls_of(name: str, program: pathlib.Path) -> list[NamedCall]:
-    """The calls of a name."""
+    """The calls that a command is tried by, or the workers of `run`."""
     if name in ("steps", "trace"):
         return [schedule_of(name, schedule) for schedule in SCHEDULES]
     if name == "load":
