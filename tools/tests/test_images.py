@@ -93,7 +93,6 @@ class Instructions(unittest.TestCase):
     def test_another_turn_is_told(self) -> None:
         machine = Machine(read_image(IMAGE, "here"))
         self.assertRegex(machine.follow([Entry(1, Name(0, 0), 1, 6)]) or "", "isn't one that the image allows")
-        self.assertTrue(machine.is_other)
 
 
 def elf_of(name: bytes, section: bytes, address: int) -> bytes:

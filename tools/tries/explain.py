@@ -128,6 +128,38 @@ def explanations_are_for_programs(place: Place) -> None:
     ])
 
 
+def one_task_is_explained(place: Place) -> None:
+    """--task tells what one task asked for, from where the program saves the run, or else by all turns before it"""
+    explain, (image, report) = "fractal explain", files_of(place, "nested")
+    parts = ("The task 7.0 is note 0 2.", "turn 8 of 8; timestamp 0, depth 3, in an unordered domain",
+             "load  10000008 logged, 4 bytes: 1  ", "store 10000008 logged, 4 bytes: 2  ", "task.s:55")
+    for words, way in (((), "All turns before it, 7, were run again here, since the program isn't built."),
+                       (("--tiles", "2"), "The program saved the run after 4 turns; 3 more were run again here.")):
+        if words:
+            place.needs_program()
+        answer = place.call(explain, image, report, "--task", "7.0", *words)
+        for part in (*parts, way):
+            expect(part in answer.output.decode(), f"`{part}`", answer)
+    place.stub(place.program, "cat >/dev/null; echo fractal 1; exit 4\n")
+    answer = place.call(explain, image, report, "--task=7.0")
+    expect(b"since with these options the program doesn't make this run again" in answer.output, "the reason", answer)
+    answer = place.call(explain, *files_of(place, "trap"), "--task", "0.1", "--json")
+    told = json.loads(answer.output)
+    expect((told["label"], told["turn"], told["instructions"]) == ("bad", None, 4), "the task that traps", told)
+    expect((told["trap"]["cause"], told["trap"]["registers"]["a1"]) == (10, 6), "its trap", told)
+    one_sentence_each([
+        (place.call(explain, image, report, "--task"), ["a value is missing"]),
+        (place.call(explain, image, report, "--task", "7"), ["a name as reports have it", "`7`"]),
+        (place.call(explain, image, report, "--task", "9.0"), ["9.0 has no turn in this report"]),
+        (place.call(explain, image, report, "--task", "7.0", "--csv"), ["--csv tells of all tasks"]),
+        (place.call(explain, image, report, "--task", "7.0", "--tiles", "17"), ["--tiles takes 1 to 16"]),
+        (place.call(explain, image, report, "--task", "7.0", "--commits", "7"), ["--commits has no place"]),
+        (place.call(explain, image, report, "--task", "7.0", "--program", "nowhere"), ["isn't built"]),
+        (place.call(explain, image, report, "--tiles", "4"), ["IMAGE REPORT"]),
+        (place.call(explain, files_of(place, "hello")[0], report, "--task", "7.0"), ["no report of a run of the image"]),
+    ])
+
+
 def explain_refuses_bad_files(place: Place) -> None:
     """bad words, missing, endless and other files, and another image's source are told in a sentence"""
     image, report = files_of(place, "hello")
@@ -176,5 +208,5 @@ def closed_pipes_are_borne(place: Place) -> None:
 TRIES = (
     reports_are_explained, traps_are_explained, each_instruction_has_its_line, pictures_are_drawn,
     faults_are_explained, other_runs_are_refused, played_scripts_are_explained, explanations_are_for_programs,
-    explain_refuses_bad_files, endless_windows_are_refused, closed_pipes_are_borne,
+    one_task_is_explained, explain_refuses_bad_files, endless_windows_are_refused, closed_pipes_are_borne,
 )

@@ -10,9 +10,7 @@ from yotarimu.applications.catalogue import APPLICATIONS
 from yotarimu.applications.image import Case
 from yotarimu.common.outcome import Refusal
 from yotarimu.common.words import need_number, number_in, take_option
-from yotarimu.courses.grid import values_of
 from yotarimu.images.compiler import CLANG, GCC
-from yotarimu.programs.table import Table
 
 MOST_SEED = 2 ** 32 - 1
 SIZE_UNLESS_TOLD = "small"
@@ -47,18 +45,6 @@ def read_words(words: Sequence[str]) -> Words:
                  (GCC, CLANG) if is_both else (CLANG if is_clang else GCC,),
                  None if program is None else pathlib.Path(program), None if second is None else pathlib.Path(second),
                  words[count:])
-
-
-def program_options(words: Sequence[str], grid: Table) -> tuple[list[str], list[str]]:
-    """The program's options among words, each with one value, and the other words."""
-    options, rest = [], list(words)
-    for name, option in grid.options.items():
-        text, rest = take_option(rest, f"--{name}")
-        values = [] if text is None else values_of(option, text)
-        if len(values) > 1:
-            raise Refusal(f"--{name} takes one value here.")
-        options += [f"--{name}={value}" for value in values]
-    return options, rest
 
 
 def need_application(name: str) -> Application:

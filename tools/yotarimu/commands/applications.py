@@ -36,12 +36,12 @@ from yotarimu.applications.application import Problem
 from yotarimu.applications.catalogue import APPLICATIONS
 from yotarimu.applications.image import IMAGE, Case, ApplicationImage, make, need_tools, whole_folder
 from yotarimu.applications.runs import check, run
-from yotarimu.applications.words import Words, cases_of, program_options, read_words
+from yotarimu.applications.words import Words, cases_of, read_words
 from yotarimu.commands import study
 from yotarimu.common.outcome import Refusal
 from yotarimu.common.tables import table
 from yotarimu.common.words import take_option
-from yotarimu.courses.grid import values_of
+from yotarimu.courses.grid import program_options, values_of
 from yotarimu.images.compiler import compiler_told
 from yotarimu.programs.calls import Calls
 from yotarimu.programs.program import PROGRAM, SECOND_PROGRAM

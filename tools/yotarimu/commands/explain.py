@@ -1,6 +1,7 @@
 """Turns a report into text for people: tasks with labels, the output as text, the window in decimal, the end in words.
 
 usage: ./fractal explain IMAGE REPORT [SOURCE] [--picture | --json | --csv]
+       ./fractal explain IMAGE REPORT [SOURCE] --task NAME [--json] [--OPTION VALUE]... [--program FILE]
        ./fractal explain IMAGE LINES [SOURCE] [--json | --csv]
 
 REPORT may be - for standard input; it may be what `steps` wrote, replies and all. SOURCE is a listing of
@@ -9,30 +10,44 @@ there is one. With --picture the tree of tasks is written as SVG. --json writes 
 --csv the tasks alone. What the report doesn't tell is found by running its tasks again, with the registers of one that
 traps. A report of another image is refused; ./fractal check judges whether one is a run's.
 
+With --task it tells of one task alone, which the report names so, what it asked for: loads and stores of the data,
+children, a subdomain, bytes, and its trap. The built program makes the run again by the OPTIONs, which are those of
+`run` that the report comes from, and saves it as near before the task as it can; only the turns from there on are run
+again here. Where the program isn't built, makes another run or can't save it, all turns before the task are, and that
+is told. --program names a built program in place of the one of this clone.
+
 LINES is what `./fractal watch` told; of these it tells each task that was taken back, and why: the access or the need
 of room behind it, and what both share.
 """
 from __future__ import annotations
 
 import json
+import pathlib
+import re
 import sys
 from typing import NamedTuple, Optional
 
 from yotarimu.common.files import read_bytes
 from yotarimu.common.outcome import Refusal
-from yotarimu.common.words import Words
+from yotarimu.common.words import Words, take_option
+from yotarimu.courses.grid import program_options
 from yotarimu.courses.schedules import read_replies
 from yotarimu.images.image import Image, read_image
 from yotarimu.images.labels import listing_for
+from yotarimu.images.listing import Listing
 from yotarimu.images.serial_machine import Machine
 from yotarimu.lines import taken_tasks
 from yotarimu.pictures import tree
 from yotarimu.pictures.tree import nodes_of
-from yotarimu.reports import plain_data
+from yotarimu.programs.calls import Calls
+from yotarimu.programs.program import PROGRAM
+from yotarimu.programs.table import Table
+from yotarimu.programs.turns import WrittenRun, shown
+from yotarimu.reports import one_task, plain_data
 from yotarimu.reports.explanation import text_of
 from yotarimu.reports.meanings import told_without_report
 from yotarimu.reports.plain_data import other_run
-from yotarimu.reports.report import read_report
+from yotarimu.reports.report import NUMBER, Name, read_report
 
 FORMS = ("picture", "json", "csv")
 # So lines of the second program begin.
@@ -40,22 +55,51 @@ LINES = b"{"
 
 
 class Request(NamedTuple):
-    """The files that are named, and the form that is asked for, if one is."""
+    """The files that are named, the form that is asked for, if one is, and what is asked of one task alone."""
     image: str
     report: str
     source: Optional[str]
     form: Optional[str]
+    task: Optional[TaskRequest]
+
+
+class TaskRequest(NamedTuple):
+    """A task's name, the options of its run, and the program that makes it again, if there is one."""
+    name: Name
+    options: list[str]
+    calls: Optional[Calls]
 
 
 def read_words(words: list[str]) -> Request:
     """What the words ask for; refuses others."""
+    task, words = take_task(words)
     given = Words("explain", flags=FORMS).read_known(words)
     unknown = [word for word in given.others if word.startswith("--")]
     if unknown or len(given.flags) > 1 or not 2 <= len(given.others) <= 3:
         raise Refusal("it wants IMAGE REPORT [SOURCE] and one of --picture, --json and --csv, or none; "
                       "./fractal explain --help tells more.")
     image, report, *source = given.others
-    return Request(image, report, source[0] if source else None, next(iter(given.flags), None))
+    form = next(iter(given.flags), None)
+    if task is not None and form in ("picture", "csv"):
+        raise Refusal(f"--{form} tells of all tasks, so --task has no place beside it.")
+    return Request(image, report, source[0] if source else None, form, task)
+
+
+def take_task(words: list[str]) -> tuple[Optional[TaskRequest], list[str]]:
+    """What is asked of one task alone, and the other words."""
+    text, words = take_option(words, "--task")
+    if text is None:
+        return None, words
+    found = re.fullmatch(rf"{NUMBER}\.{NUMBER}", text)
+    if not found:
+        raise Refusal(f"--task takes a name as reports have it, such as 2.0, and not `{text}`.")
+    program, words = take_option(words, "--program")
+    options, words = program_options(words, Table())
+    if any(option.startswith("--commits=") for option in options):
+        raise Refusal("the report tells how many tasks committed, so --commits has no place here.")
+    path = PROGRAM if program is None else pathlib.Path(program)
+    calls = None if program is None and not path.is_file() else Calls(path)
+    return TaskRequest(Name(int(found[1]), int(found[2])), options, calls), words
 
 
 def explain_no_report(text: str, sentence: str, form: Optional[str]) -> None:
@@ -79,6 +123,15 @@ def explain_lines(image_path: str, image: Image, lines_path: str, source: Option
         print(*taken_tasks.text_of(run), *([f"\n{remark}"] if remark else []), sep="\n")
 
 
+def explain_task(run: WrittenRun, name: Name, listing: Listing, remark: Optional[str], form: Optional[str]) -> None:
+    """What one task asked for."""
+    told = run.run_of(name)
+    if form == "json":
+        print(json.dumps(one_task.plain_data_of(told, listing), indent=2))
+    else:
+        print(*one_task.text_of(told, listing), *([f"\n{remark}"] if remark else []), sep="\n")
+
+
 def begins_as_lines(path: str) -> bool:
     """Whether a file is what the second program told; standard input is a report."""
     if path == "-":
@@ -89,9 +142,12 @@ def begins_as_lines(path: str) -> bool:
 
 def main(words: list[str]) -> None:
     """Does what the words of the call ask for."""
-    image_path, report_path, source, form = read_words(words)
-    image = read_image(read_bytes(image_path), image_path)
+    image_path, report_path, source, form, task = read_words(words)
+    data = read_bytes(image_path)
+    image = read_image(data, image_path)
     if begins_as_lines(report_path):
+        if task is not None:
+            raise Refusal("--task wants a report, and not lines; ./fractal show goes through these act by act.")
         explain_lines(image_path, image, report_path, source, form)
         return
     text = read_bytes(report_path).decode("ascii", "replace")
@@ -101,11 +157,14 @@ def main(words: list[str]) -> None:
     replies = read_replies(text)
     report = read_report(text, report_path, len(replies))
     listing, remark = listing_for(image_path, image, source)
+    if task is not None:
+        explain_task(WrittenRun(data, image, text, report, task.calls, task.options), task.name, listing, remark, form)
+        return
     machine = Machine(image)
-    lost = machine.follow(report.entries)
-    if why := other_run(report, machine, lost):
+    wrong_turn = machine.follow(shown(report.entries))
+    if why := other_run(report, machine, wrong_turn):
         raise Refusal(f"{report_path}: this is no report of a run of {image_path}: {why}.")
-    remarks = [it for it in (remark, lost and f"Labels of later tasks aren't known: {lost}.") if it]
+    remarks = [remark] if remark else []
     if form == "picture":
         print(tree.draw(nodes_of(report, machine, listing), len(report.entries)), end="")
     elif form == "json":

@@ -9,7 +9,7 @@ from typing import Optional, TypeVar
 
 from yotarimu.common.files import encode
 from yotarimu.common.outcome import Refusal
-from yotarimu.common.words import number_in
+from yotarimu.common.words import number_in, take_option
 from yotarimu.pictures import plot
 from yotarimu.programs.table import Option, Table
 
@@ -43,6 +43,18 @@ def values_in(option: Option, piece: str) -> Sequence[int]:
     if len(values) > MOST_RUNS:
         raise Refusal(f"--{option.name}: `{piece}` has {len(values):,} values, and {MOST_RUNS:,} are the most.")
     return values
+
+
+def program_options(words: Sequence[str], grid: Table) -> tuple[list[str], list[str]]:
+    """The program's options among words, each with one value, and the other words."""
+    options, rest = [], list(words)
+    for name, option in grid.options.items():
+        text, rest = take_option(rest, f"--{name}")
+        values = [] if text is None else values_of(option, text)
+        if len(values) > 1:
+            raise Refusal(f"--{name} takes one value here.")
+        options += [f"--{name}={value}" for value in values]
+    return options, rest
 
 
 def cells_of(table: Table, values: Mapping[str, Sequence[int]], what: str = "runs") -> list[dict[str, int]]:

@@ -15,8 +15,6 @@ from yotarimu.images.image import DATA, STACK, TEXT, Image
 from yotarimu.reports.report import Entry, Name, Trap
 
 MASK = 0xFFFFFFFF
-# How many instructions are run at most, which takes some seconds.
-MOST_STEPS = 3_000_000
 # The greatest budget of a task, and how many bytes it may emit.
 MOST_BUDGET, MOST_BYTES = 65_536, 256
 STACK_POINTER, ENTRY, TIMESTAMP, FIRST_ARGUMENT, CALL = 2, 10, 11, 12, 17
@@ -29,10 +27,6 @@ ECALL, EBREAK = 0x73, 0x100073
 # Causes of traps.
 FETCH, ILLEGAL, TARGET, LOAD_MULTIPLE, LOAD_RANGE, STORE_MULTIPLE, STORE_RANGE, BREAK = range(1, 9)
 BAD_CALL, EARLY, NO_SUBDOMAIN, SECOND_SUBDOMAIN, NO_SUPERDOMAIN, TOO_DEEP, CHILD, BYTE, BUDGET = range(9, 18)
-
-
-class LostRun(Exception):
-    """The tasks can't be followed further; the text says why."""
 
 
 class TaskTrap(Exception):
@@ -81,13 +75,23 @@ class Machine:
         self.memory = bytearray(image.initial) + bytes(image.size - len(image.initial))
         self.steps = 0
         self.tasks: dict[Name, Task] = {}
-        # What the tasks emitted, and whether a turn was none of this image.
-        self.output, self.is_other = bytearray(), False
+        # What the tasks emitted.
+        self.output = bytearray()
         root = Domain(1, image.is_ordered)
         # The domains from the root to the innermost one.
         self.domains = [root]
         for index, initial in enumerate(image.tasks):
             self.add(Name(0, index), initial.entry, initial.timestamp, initial.arguments, root)
+
+    @classmethod
+    def after(cls, turns: int, saved: Image, names: Sequence[Name]) -> Machine:
+        """The machine after so many turns, by the image that was saved there, whose tasks have these names."""
+        machine = cls(saved)
+        machine.turns = turns
+        for task, name in zip(machine.tasks.values(), names):
+            task.name = name
+        machine.tasks = {task.name: task for task in machine.tasks.values()}
+        return machine
 
     def add(self, name: Name, entry: int, timestamp: int, arguments: Iterable[int], domain: Domain) -> None:
         """Adds a pending task; in an unordered domain its timestamp counts as 0."""
@@ -106,12 +110,18 @@ class Machine:
         domain = self.domains[-1]
         return task.domain is domain and task.timestamp == domain.pending[0]
 
+    def task_of(self, entry: Entry) -> Optional[Task]:
+        """The task that an entry tells, which may take the next turn; None where there is no such task."""
+        task = self.tasks.get(entry.name)
+        if task is None or task.turn or not self.is_next(task) or not task.is_told_by(entry):
+            return None
+        return task
+
     def follow(self, entries: Iterable[Entry]) -> Optional[str]:
-        """Takes the turns of these entries. It ends with None, or with a sentence on why it can't go on."""
+        """Takes the turns of these entries. It ends with None, or with a sentence on why one is none of the image."""
         for entry in entries:
-            task = self.tasks.get(entry.name)
-            if task is None or task.turn or not self.is_next(task) or not task.is_told_by(entry):
-                self.is_other = True
+            task = self.task_of(entry)
+            if task is None:
                 return f"turn {entry.turn} isn't one that the image allows; ./fractal check says more"
             task.turn = entry.turn
             self.turns += 1
@@ -119,10 +129,7 @@ class Machine:
             run = self.run_of(task)
             try:
                 run.go()
-            except LostRun as lost:
-                return f"turn {entry.turn} {lost}"
             except TaskTrap as trapped:
-                self.is_other = True
                 return f"turn {entry.turn} traps with cause {trapped.cause}; ./fractal check says more"
             if run.inner:
                 self.domains.append(run.inner)
@@ -138,8 +145,6 @@ class Machine:
             run.go()
         except TaskTrap as found:
             return (run, found) if (found.cause, run.pc) == (trap.cause, trap.pc) else None
-        except LostRun:
-            return None
         return None
 
 
@@ -168,8 +173,6 @@ class Run:
             word = machine.image.word(self.pc)
             if word is None or self.pc % 4:
                 raise TaskTrap(FETCH)
-            if machine.steps == MOST_STEPS:
-                raise LostRun(f"comes after {MOST_STEPS:,} instructions, and no more are run again for labels")
             self.step(word)
             machine.steps += 1
 

@@ -6,9 +6,9 @@ from collections.abc import Sequence
 from yotarimu.common.files import FilePath
 from yotarimu.common.text import printable
 from yotarimu.courses.schedules import ActAnswer
-from yotarimu.images.image import DATA, STACK, TEXT, Image
+from yotarimu.images.image import DATA, STACK, TEXT, Image, Limits
 from yotarimu.images.listing import Listing
-from yotarimu.images.serial_machine import REGISTERS, Machine
+from yotarimu.images.serial_machine import REGISTERS, Machine, Run, TaskTrap
 from yotarimu.reports.meanings import ENDS, REPLIES, cause_told, tasks_told
 from yotarimu.reports.report import Report, Trap
 
@@ -97,25 +97,33 @@ def end_lines(report: Report, machine: Machine, listing: Listing) -> list[str]:
         return [ENDS[report.end]]
     trap = report.trap
     task = machine.tasks.get(trap.name)
-    what, usual = cause_told(trap.cause, machine.image.limits)
     known = ""
     if task:
         words = listing.task_words(task.entry, task.arguments)
         known = f" ({words}; timestamp {task.timestamp}, depth {task.domain.depth})"
-    place = listing.place(trap.pc)
     return [f"The run ended in a trap of the task {trap.name}{known}.",
-            f"  cause {trap.cause}: {what}; usually from {usual}",
-            f"  at {trap.pc:08x}, {listing.label(trap.pc) or 'without a label'}" + (f", {place}" if place else ""),
-            *state_lines(machine, listing, trap)]
+            *trap_lines(trap.cause, trap.pc, machine.image.limits, listing), *state_lines(machine, listing, trap)]
+
+
+def trap_lines(cause: int, pc: int, limits: Limits, listing: Listing) -> list[str]:
+    """A trap's cause in words, and where it was."""
+    what, usual = cause_told(cause, limits)
+    place = listing.place(pc)
+    return [f"  cause {cause}: {what}; usually from {usual}",
+            f"  at {pc:08x}, {listing.label(pc) or 'without a label'}" + (f", {place}" if place else "")]
 
 
 def state_lines(machine: Machine, listing: Listing, trap: Trap) -> list[str]:
     """The address and the registers of the trap, where running the task again comes to it."""
     found = machine.run_at_trap(trap)
-    if not found:
-        return []
-    run, trapped = found
-    lines = [] if trapped.address is None else [f"  address {address_text(listing, machine.image, trapped.address)}"]
+    return register_lines(*found, listing) if found else []
+
+
+def register_lines(run: Run, trapped: TaskTrap, listing: Listing) -> list[str]:
+    """The address and the registers of a run at its trap."""
+    lines = []
+    if trapped.address is not None:
+        lines.append(f"  address {address_text(listing, run.machine.image, trapped.address)}")
     registers = [f"{name} {value:08x}" for name, value in zip(REGISTERS, run.registers) if value]
     for first in range(0, len(registers), REGISTERS_IN_LINE):
         title = "" if first else "registers"

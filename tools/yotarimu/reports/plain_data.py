@@ -9,9 +9,9 @@ from typing import Optional, TextIO, TypedDict
 from yotarimu.common.files import FilePath
 from yotarimu.common.text import printable
 from yotarimu.courses.schedules import ActAnswer
-from yotarimu.images.image import DATA
+from yotarimu.images.image import DATA, Limits
 from yotarimu.images.listing import Listing
-from yotarimu.images.serial_machine import REGISTERS, Machine
+from yotarimu.images.serial_machine import REGISTERS, Machine, Run, TaskTrap
 from yotarimu.reports.meanings import cause_told
 from yotarimu.reports.report import Entry, Report
 
@@ -31,10 +31,10 @@ class TaskRow(TypedDict):
     arguments: Optional[list[int]]
 
 
-def other_run(report: Report, machine: Machine, lost: Optional[str]) -> Optional[str]:
+def other_run(report: Report, machine: Machine, wrong_turn: Optional[str]) -> Optional[str]:
     """Why a report is of no run of the image that the machine ran again; None where nothing speaks against it."""
-    if machine.is_other:
-        return lost
+    if wrong_turn is not None:
+        return wrong_turn
     image = machine.image
     start = DATA + image.window_offset
     count = image.window_words
@@ -42,8 +42,6 @@ def other_run(report: Report, machine: Machine, lost: Optional[str]) -> Optional
                                           for place, (address, _) in enumerate(report.window)):
         told = f"{count} words from {start:08x} on" if count else "no words"
         return f"the image's window has {told}"
-    if lost:
-        return None
     if report.output != bytes(machine.output):
         return "its tasks emit other bytes"
     for address, value in report.window:
@@ -90,14 +88,21 @@ def end_of(report: Report, machine: Machine, listing: Listing) -> dict[str, obje
     if not report.trap:
         return {"kind": report.end}
     trap, found = report.trap, machine.run_at_trap(report.trap)
-    meaning, usual = cause_told(trap.cause, machine.image.limits)
-    told: dict[str, object] = {
-        "kind": "trap", "cause": trap.cause, "meaning": meaning, "usually": usual, "pc": trap.pc,
-        "label": listing.label(trap.pc), "place": listing.place(trap.pc), "task": str(trap.name)}
-    if found:
-        run, trapped = found
-        told["address"], told["registers"] = trapped.address, dict(zip(REGISTERS, run.registers))
-    return told
+    state = state_data(*found) if found else {}
+    return {"kind": "trap", **trap_data(trap.cause, trap.pc, machine.image.limits, listing), "task": str(trap.name),
+            **state}
+
+
+def trap_data(cause: int, pc: int, limits: Limits, listing: Listing) -> dict[str, object]:
+    """A trap's cause in words, and where it was."""
+    meaning, usual = cause_told(cause, limits)
+    return {"cause": cause, "meaning": meaning, "usually": usual, "pc": pc, "label": listing.label(pc),
+            "place": listing.place(pc)}
+
+
+def state_data(run: Run, trapped: TaskTrap) -> dict[str, object]:
+    """The address and the registers of a run at its trap."""
+    return {"address": trapped.address, "registers": dict(zip(REGISTERS, run.registers))}
 
 
 def write_tasks(report: Report, machine: Machine, listing: Listing, file: TextIO) -> None:

@@ -1,0 +1,173 @@
+"""The serial machine as it stands before a turn of a report.
+
+Where the built program can save the run a little before, only the turns from there on are run again; else all of them.
+A saved image tells no names, so its tasks are held against those that pend by the report.
+"""
+from __future__ import annotations
+
+import dataclasses
+from collections.abc import Iterator, Sequence
+from typing import NamedTuple, Optional, Union
+
+from yotarimu.common.outcome import Refusal, is_at_terminal
+from yotarimu.common.progress import show_line
+from yotarimu.images.image import INITIAL_TASKS, Image, read_image
+from yotarimu.images.serial_machine import Machine
+from yotarimu.programs.calls import Calls
+from yotarimu.programs.program import STATUSES
+from yotarimu.reports.one_task import AskingRun, OneTask, way_text
+from yotarimu.reports.report import Entry, Name, Report
+
+# After so many turns a terminal is told how far it is.
+TURNS_TOLD = 10_000
+
+
+class Reached(NamedTuple):
+    """The machine before a turn, the turn behind which it began, and why that is the start where it is."""
+    machine: Machine
+    start: int
+    why: str
+
+
+class Pending(NamedTuple):
+    """A task that pends: its name, and its timestamp."""
+    name: Name
+    timestamp: int
+
+
+@dataclasses.dataclass(frozen=True)
+class WrittenRun:
+    """An image as bytes and as read, and a report of a run of it as text and as read. The program's calls and options
+    are those by which the run is made again; without a program all turns are run again."""
+    data: bytes
+    image: Image
+    text: str
+    report: Report
+    calls: Optional[Calls]
+    options: Sequence[str]
+
+    def turn_of(self, name: Name) -> int:
+        """The turn of a task; that of one which traps is the turn behind the last."""
+        found = next((entry.turn for entry in self.report.entries if entry.name == name), None)
+        if found is not None:
+            return found
+        if self.report.trap is None or self.report.trap.name != name:
+            raise Refusal(f"the task {name} has no turn in this report.")
+        return len(self.report.entries) + 1
+
+    def run_of(self, name: Name) -> OneTask:
+        """The run of a task alone, up to its end or its trap."""
+        turn, report = self.turn_of(name), self.report
+        machine, start, why = self.before(turn)
+        task = machine.tasks.get(name) if turn > len(report.entries) else machine.task_of(report.entries[turn - 1])
+        if task is None or task.turn:
+            raise Refusal(f"this is no report of a run of the image: its turn {turn} isn't one that the image allows; "
+                          "./fractal check says more.")
+        run = AskingRun(machine, task)
+        run.go_to_end()
+        turns = {entry.name: entry.turn for entry in report.entries if entry.name.creator == turn}
+        return OneTask(run, len(report.entries), turns, way_text(start, turn, why))
+
+    def before(self, turn: int) -> Reached:
+        """The machine before a turn."""
+        entries, why = self.report.entries, ""
+        for start in starts_before(entries, turn):
+            machine = self.saved_machine(start)
+            if isinstance(machine, str):
+                why = machine
+            elif machine.follow(entries[start:turn - 1]) is None:
+                return Reached(machine, start, "")
+        machine = Machine(self.image)
+        if wrong := machine.follow(shown(entries[:turn - 1])):
+            raise Refusal(f"this is no report of a run of the image: {wrong}.")
+        return Reached(machine, 0, why)
+
+    def saved_machine(self, turns: int) -> Union[Machine, str]:
+        """The machine after so many turns, by the image that the program saves there; or why that can't be had."""
+        if self.calls is None:
+            return "the program isn't built"
+        words = [*self.options, f"--commits={turns}"]
+        status, written = self.calls.call(["run", *words], self.data)
+        if written.split(b"\n")[1:turns + 1] != self.entry_lines(turns):
+            return "with these options the program doesn't make this run again"
+        status, written = self.calls.call(["save", *words], self.data)
+        if status != STATUSES["limit"]:
+            return "the program can't save the run there"
+        saved = read_image(written, "what `save` wrote")
+        names = names_in(saved, self.pending(turns, saved))
+        if names is None:
+            return "the report doesn't tell which of the saved tasks it is"
+        return Machine.after(turns, saved, names)
+
+    def entry_lines(self, count: int) -> list[bytes]:
+        """The first lines of the report on tasks."""
+        lines = self.text.split("\n")
+        first = lines.index("fractal 1") + 1
+        return [line.encode("ascii", "replace") for line in lines[first:first + count]]
+
+    def pending(self, turns: int, saved: Image) -> list[Pending]:
+        """The tasks that pend after so many turns, as far as the report tells, by their names. A task that traps after
+        the last of them is the least."""
+        report = self.report
+        found = [Pending(entry.name, entry.timestamp) for entry in report.entries[turns:]
+                 if entry.name.creator <= turns]
+        if report.trap is not None and turns == len(report.entries):
+            found.append(Pending(report.trap.name, min(timestamps_in(saved), default=0)))
+        return sorted(found, key=lambda it: (it.name.creator, it.name.index))
+
+
+def starts_before(entries: Sequence[Entry], turn: int) -> list[int]:
+    """After how many turns below `turn` the run may be saved, by its report, the best first. The next task is of the
+    root domain, so that no subdomain is left, and not too many tasks pend. Of a task that traps the report doesn't tell
+    its domain."""
+    creators = sorted(entry.name.creator for entry in entries)
+    made, start = 0, 0
+    for count, entry in enumerate(entries[:turn]):
+        while made < len(creators) and creators[made] <= count:
+            made += 1
+        if entry.depth == 1 and made - count <= INITIAL_TASKS:
+            start = count
+    starts = [turn - 1, start] if turn > len(entries) else [start]
+    return [count for count in starts if count]
+
+
+def timestamps_in(saved: Image) -> list[int]:
+    """The timestamps of the tasks of an image, all 0 where its root domain is unordered."""
+    return [task.timestamp if saved.is_ordered else 0 for task in saved.tasks]
+
+
+def names_in(saved: Image, known: Sequence[Pending]) -> Optional[list[Name]]:
+    """The names of saved tasks, which stand in the order of their names. Some of them may never commit, so that the
+    report doesn't tell of them: these get names that no task has. None where it isn't sure which ones they are."""
+    timestamps, wanted = timestamps_in(saved), [it.timestamp for it in known]
+    first, last = places_of(timestamps, wanted), places_of(timestamps[::-1], wanted[::-1])
+    if first is None or last is None or [len(timestamps) - 1 - place for place in last[::-1]] != first:
+        return None
+    names = [Name(-1, place) for place in range(len(timestamps))]
+    for place, it in zip(first, known):
+        names[place] = it.name
+    return names
+
+
+def places_of(timestamps: Sequence[int], wanted: Sequence[int]) -> Optional[list[int]]:
+    """The first places, one behind another, at which the wanted timestamps stand; None where some don't."""
+    places, place = [], 0
+    for timestamp in wanted:
+        while place < len(timestamps) and timestamps[place] != timestamp:
+            place += 1
+        if place == len(timestamps):
+            return None
+        places.append(place)
+        place += 1
+    return places
+
+
+def shown(entries: Sequence[Entry]) -> Iterator[Entry]:
+    """The entries; a terminal is told how many were taken."""
+    is_told = is_at_terminal() and len(entries) > TURNS_TOLD
+    for first in range(0, len(entries), TURNS_TOLD):
+        if is_told:
+            show_line(f"explain: {first:,} of {len(entries):,} turns are run again")
+        yield from entries[first:first + TURNS_TOLD]
+    if is_told:
+        show_line("")
