@@ -156,7 +156,7 @@ def one_task_is_explained(place: Place) -> None:
         (place.call(explain, image, report, "--task", "7.0", "--commits", "7"), ["--commits has no place"]),
         (place.call(explain, image, report, "--task", "7.0", "--program", "nowhere"), ["isn't built"]),
         (place.call(explain, image, report, "--tiles", "4"), ["IMAGE REPORT"]),
-        (place.call(explain, files_of(place, "hello")[0], report, "--task", "7.0"), ["no report of a run of the image"]),
+        (place.call(explain, files_of(place, "hello")[0], report, "--task", "7.0"), ["no report of a run of the"]),
     ])
 
 
