@@ -6,6 +6,7 @@ A saved image tells no names, so its tasks are held against those that pend by t
 from __future__ import annotations
 
 import dataclasses
+import functools
 from collections.abc import Iterator, Sequence
 from typing import NamedTuple, Optional, Union
 
@@ -16,7 +17,7 @@ from yotarimu.images.serial_machine import Machine
 from yotarimu.programs.calls import Calls
 from yotarimu.programs.program import STATUSES
 from yotarimu.reports.one_task import AskingRun, OneTask, way_text
-from yotarimu.reports.report import Entry, Name, Report
+from yotarimu.reports.report import Entry, Name, Report, read_report
 
 # After so many turns a terminal is told how far it is.
 TURNS_TOLD = 10_000
@@ -86,34 +87,40 @@ class WrittenRun:
         """The machine after so many turns, by the image that the program saves there; or why that can't be had."""
         if self.calls is None:
             return "the program isn't built"
-        words = [*self.options, f"--commits={turns}"]
-        status, written = self.calls.call(["run", *words], self.data)
-        if written.split(b"\n")[1:turns + 1] != self.entry_lines(turns):
+        if self.whole is None:
             return "with these options the program doesn't make this run again"
-        status, written = self.calls.call(["save", *words], self.data)
+        status, written = self.calls.call(["save", *self.options, f"--commits={turns}"], self.data)
         if status != STATUSES["limit"]:
             return "the program can't save the run there"
         saved = read_image(written, "what `save` wrote")
-        names = names_in(saved, self.pending(turns, saved))
+        names = names_in(saved, pending_in(self.whole, turns, saved))
         if names is None:
-            return "the report doesn't tell which of the saved tasks it is"
+            return "no report tells which of the saved tasks it is"
         return Machine.after(turns, saved, names)
 
-    def entry_lines(self, count: int) -> list[bytes]:
-        """The first lines of the report on tasks."""
-        lines = self.text.split("\n")
-        first = lines.index("fractal 1") + 1
-        return [line.encode("ascii", "replace") for line in lines[first:first + count]]
+    @functools.cached_property
+    def whole(self) -> Optional[Report]:
+        """The report of the whole run, of which this one may have the beginning alone; None where the program makes
+        another run."""
+        assert self.calls is not None
+        _, written = self.calls.call(["run", *self.options], self.data)
+        text = written.decode("ascii", "replace")
+        if text == self.text:
+            return self.report
+        try:
+            whole = read_report(text, "what `run` wrote")
+        except Refusal:
+            return None
+        return whole if whole.entries[:len(self.report.entries)] == self.report.entries else None
 
-    def pending(self, turns: int, saved: Image) -> list[Pending]:
-        """The tasks that pend after so many turns, as far as the report tells, by their names. A task that traps after
-        the last of them is the least."""
-        report = self.report
-        found = [Pending(entry.name, entry.timestamp) for entry in report.entries[turns:]
-                 if entry.name.creator <= turns]
-        if report.trap is not None and turns == len(report.entries):
-            found.append(Pending(report.trap.name, min(timestamps_in(saved), default=0)))
-        return sorted(found, key=lambda it: (it.name.creator, it.name.index))
+
+def pending_in(report: Report, turns: int, saved: Image) -> list[Pending]:
+    """The tasks that pend after so many turns, as far as a report tells, by their names. A task that traps after the
+    last of them is the least."""
+    found = [Pending(entry.name, entry.timestamp) for entry in report.entries[turns:] if entry.name.creator <= turns]
+    if report.trap is not None and turns == len(report.entries):
+        found.append(Pending(report.trap.name, min(timestamps_in(saved), default=0)))
+    return sorted(found, key=lambda it: (it.name.creator, it.name.index))
 
 
 def starts_before(entries: Sequence[Entry], turn: int) -> list[int]:
