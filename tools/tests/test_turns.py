@@ -25,6 +25,8 @@ def saved(*timestamps: int, is_ordered: bool = True) -> Image:
 
 
 class Starts(unittest.TestCase):
+    """After how many turns a run is saved."""
+
     def test_a_run_is_saved_where_no_subdomain_is_left(self) -> None:
         self.assertEqual([starts_before(ENTRIES, turn) for turn in (1, 2, 3, 4)], [[], [], [], [3]])
 
@@ -39,6 +41,8 @@ class Starts(unittest.TestCase):
 
 
 class Names(unittest.TestCase):
+    """Which names the tasks of a saved image have."""
+
     def test_all_that_pend_are_known(self) -> None:
         known = [Pending(Name(0, 1), 5), Pending(Name(2, 0), 5)]
         self.assertEqual(names_in(saved(5, 5), known), [Name(0, 1), Name(2, 0)])
@@ -64,6 +68,8 @@ class Names(unittest.TestCase):
 
 
 class OneTask(unittest.TestCase):
+    """What a task asks for, and how its turn is told to be come to."""
+
     def test_what_a_task_asks_for(self) -> None:
         image = Image(True, struct.pack(f"<{len(WORDS)}I", *WORDS), b"\0\0\0\0\2\1", 12, 0, 0,
                       [InitialTask(TEXT, 8, (0, 0, 0))])
