@@ -1,6 +1,7 @@
 """Tries what ./fractal, its tools and the scripts of bench/ promise, each in a fresh clone of what is committed.
 
-usage: ./fractal tries [WORD]...     the tries whose names hold one of the words; all where none is told
+usage: ./fractal tries [WORD]...          the tries whose names hold one of the words; all where none is told
+       ./fractal tries --list [WORD]...   their names, each with what it tries, and runs none
 
 A try fails loudly, and the status is then 1. This stands beside the gate: it takes some minutes, and wants the
 toolchain, git, the built programs, GNU binutils, gcc and clang for RISC-V, and Chromium. Where a program isn't built or
@@ -13,6 +14,7 @@ import time
 from typing import Callable, Optional
 
 from yotarimu.common.outcome import Refusal
+from yotarimu.common.words import Words
 
 from tries import (
     applications, build, c_tasks, causes, contents, debug, documents, explain, figures, gate, interrupts, launcher,
@@ -40,11 +42,16 @@ def verdict_of(attempt: Attempt) -> tuple[str, Optional[str]]:
     return OK, None
 
 
-def main(told: list[str]) -> int:
+def main(words: list[str]) -> int:
     """Does what the words of the call ask for, and gives the status."""
+    given = Words("tries", flags=["list"]).read(words)
+    told = given.others
     chosen = [attempt for attempt in TRIES if not told or any(word in attempt.__name__ for word in told)]
     if not chosen:
-        raise Refusal("no try has such a name.")
+        raise Refusal("no try has such a name; ./fractal tries --list tells all.")
+    if "list" in given.flags:
+        print(*(f"{attempt.__name__}: {attempt.__doc__}" for attempt in chosen), sep="\n")
+        return 0
     counts: collections.Counter[str] = collections.Counter()
     for attempt in chosen:
         start = time.monotonic()
