@@ -9,12 +9,12 @@ import tempfile
 from collections.abc import Iterable, Iterator, Sequence
 from typing import Callable, Optional
 
+from yotarimu.common.acts import ACTS, form_of
 from yotarimu.common.files import encode, need_outputs, need_writable, write_whole
 from yotarimu.common.outcome import Refusal, say, error_text
 from yotarimu.common.text import count_text
 from yotarimu.common.words import need_number
 from yotarimu.courses.growth import Performance, Schedule
-from yotarimu.courses.schedules import NUMBERS
 from yotarimu.images.listing import NO_LISTING
 from yotarimu.pictures.page import page_of
 from yotarimu.reports.refusals import script_fault
@@ -25,8 +25,6 @@ PAGE_START = b"<!doctype html>"
 MOST_TYPED = 1_000
 # So many acts `advance` may be asked for at once.
 MOST_RUN = 10_000
-ACTS = {"dispatch": "T", "step": "T C", "take": "T C", "give": "T C", "abort": "T", "commit": "", "coalesce": "T",
-        "split": "T", "advance": ""}
 
 
 class Console:
@@ -66,7 +64,7 @@ class Console:
         if word in self.words:
             self.words[word](list(rest))
             return
-        if word not in NUMBERS:
+        if word not in ACTS:
             raise Refusal(f"`{word[:40]}` is no act and no word of the console; `help` tells them.")
         act = " ".join((word, *rest))
         fault = script_fault(act.encode("utf-8", "replace"), self.schedule.tiles, self.schedule.cores)
@@ -152,7 +150,7 @@ class Console:
     def help(self, words: Sequence[str]) -> None:
         """Tells the acts, and the words of the console."""
         need_none("help", words)
-        acts = ", ".join(f"{word} {numbers}".strip() for word, numbers in ACTS.items())
+        acts = ", ".join(map(form_of, ACTS))
         write([f"Acts, with a tile T and a core C: {acts}.", "", self.usage])
 
     def quit(self, words: Sequence[str]) -> None:

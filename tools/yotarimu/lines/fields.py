@@ -9,16 +9,12 @@ import json
 import re
 from typing import Any, Callable, Optional
 
-WORDS = ("dispatch", "step", "take", "give", "abort", "commit", "coalesce", "split", "advance")
-# Those that are events; the others are told under their own word where no event was handed in.
-EVENTS = ("dispatch", "step", "abort", "commit", "coalesce", "split")
+from yotarimu.common.acts import ACTS, ENDED
+
+# Acts that are events; the others are told under their own word where no event was handed in.
+EVENTS = tuple(word for word, kind in ACTS.items() if kind.is_event)
 # The replies that an act may have; each may also come after the run's end.
-REPLIES = {
-    "dispatch": ("ok", "empty", "busy"), "step": ("ok", "stale"), "take": ("ok", "stale"), "give": ("stale",),
-    "abort": ("ok", "empty", "firm"), "commit": ("ok", "empty"), "coalesce": ("ok", "empty"),
-    "split": ("ok", "empty", "stall"), "advance": (),
-}
-ENDED = "ended"
+REPLIES = {word: kind.told for word, kind in ACTS.items()}
 # A step may stall where its task asks for these.
 STALLING = ("enqueue", "end")
 KINDS = ("ordered", "unordered")

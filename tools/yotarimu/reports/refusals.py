@@ -6,10 +6,10 @@ import struct
 from collections.abc import Iterable, Sequence
 from typing import Optional
 
+from yotarimu.common.acts import ACTS
 from yotarimu.common.outcome import Refusal
 from yotarimu.common.text import printable
 from yotarimu.common.words import need_number, take_option
-from yotarimu.courses.schedules import NUMBERS
 from yotarimu.programs.table import Table
 
 # Where the image's header tells how many words of text, bytes of data and initial tasks come behind it.
@@ -105,9 +105,9 @@ def script_fault(line: bytes, tiles: int, cores: int) -> Optional[str]:
     if fault := layout_fault(line):
         return fault
     word, *numbers = line.decode("ascii").split(" ")
-    if word not in NUMBERS:
-        return f"`{word[:MOST_SHOWN]}` is no act, which is {list_text(NUMBERS)}"
-    places = ("tile", "core")[:NUMBERS[word]]
+    if word not in ACTS:
+        return f"`{word[:MOST_SHOWN]}` is no act, which is {list_text(ACTS)}"
+    places = ("tile", "core")[:ACTS[word].numbers]
     if len(numbers) != len(places):
         wanted = " and ".join(f"a {place}" for place in places) or "nothing"
         return f"behind `{word}` comes {wanted}, and not {word_count(len(numbers))}"
