@@ -10,7 +10,7 @@ import sys
 from collections.abc import Iterable, Iterator
 
 from yotarimu.common.acts import ACTS
-from yotarimu.common.outcome import Refused
+from yotarimu.common.outcome import Refusal
 from yotarimu.common.places import HOME
 from yotarimu.common.sentences import SENTENCES
 from yotarimu.lines.fields import COURSES, EVENTS, SETTINGS
@@ -44,7 +44,7 @@ def part_of(path: str, start: str, end: str) -> str:
     """The text of a file between two others, the first of which it has."""
     _, found, rest = whole(path).partition(start)
     if not found:
-        raise Refused(f"{path}: `{start.strip()}` isn't there any more, behind which .ci/lists.py reads a list.")
+        raise Refusal(f"{path}: `{start.strip()}` isn't there any more, behind which .ci/lists.py reads a list.")
     return rest.partition(end)[0]
 
 
