@@ -16,7 +16,7 @@ from yotarimu.programs.table import Table
 
 from tries.launcher import image_of
 from tries.place import Answer, Place, expect, need_built, one_sentence_each
-from tries.words import change, number
+from tries.words import change, number, some_value
 
 USAGE = b'{"fault":"usage"}\n'
 # Words that are refused, and what standard error tells of each.
@@ -136,11 +136,46 @@ def random_call(chance: random.Random, table: Table) -> list[str]:
     if course == "lockstep":
         words += [number(chance, 1, 1_000_000), number(chance, 0, 2 ** 32 - 1)]
         words += ["barren", number(chance, 1, 1_000_000)] if chance.random() < 0.3 else []
-    for option in chance.sample(list(table.options.values()), chance.choice((0, 0, 1, 2))):
-        words += [f"--{option.name}", number(chance, option.values[0], option.values[-1])]
+    for option in chance.sample(list(table.course_options.values()), chance.choice((0, 0, 1, 2))):
+        words += [f"--{option.name}", some_value(chance, option)]
     for _ in range(chance.choice((0, 0, 1, 2))):
         change(chance, words, table)
     return [word for word in words if word != "--help"]
+
+
+def options_of_watch_alone_may_be_words(place: Place) -> None:
+    """an option of `watch` alone, whose values are words, is told, judged, completed and handed on by all that know
+    the launcher's table"""
+    launcher = place.clone / "fractal"
+    row = "course-option|taste|sweet,sour,salt|sour|how it tastes\n"
+    launcher.write_text(launcher.read_text().replace("seed|any|", f"{row}seed|any|"))
+    told = "--taste        how it tastes (sweet, sour, salt; sour unless given)"
+    expect(told in place.call("fractal help").output.decode(), "the option on the page")
+    expect(told in place.call("fractal help", "watch").output.decode(), "the option of watch")
+    expect(told not in place.call("fractal help", "run").output.decode(), "no such option of run")
+    place.stub(place.program, "printf 'fault usage\\n'; exit 1\n")
+    place.stub(place.second_program, 'echo "$@" >>"$(dirname "$0")/words"; echo \'{"fault":"usage"}\'; exit 1\n')
+    one_sentence_each([
+        (place.call("fractal", "run", "--taste", "salt"), ["`--taste` belongs to ./fractal watch, and not to `run`"]),
+        (place.call("fractal", "watch", "least", "--taste", "bitter"), ["`bitter`", "sweet, sour, salt"]),
+        (place.call("fractal", "watch", "least", "--taste=sweet,sour"), ["`sweet,sour`", "sweet, sour, salt"]),
+        (place.call("fractal", "watch", "least", "--taste", ""), ["sweet, sour, salt"]),
+        (place.call("fractal", "watch", "least", "--taste"), ["a value is missing", "sweet, sour, salt"]),
+        (place.call("fractal", "watch", "least", "--tastes", "salt"), ["--phase or --taste"]),
+        (place.call("fractal play", "x", "--taste", "salt"), ["`--taste` isn't known"]),
+    ])
+    image = str(place.clone / "examples" / "hello" / "image.bin")
+    one_sentence_each([
+        (place.call("fractal console", image, "--taste", "bitter"), ["--taste takes one of sweet, sour, salt"]),
+        (place.call("fractal study", image, "--taste", "salt,bitter"), ["--taste takes one of sweet", "`bitter`"])])
+    place.call("fractal console", image, "--taste", "salt")
+    place.call("fractal study", image, "--taste", "salt,sweet")
+    words = (place.second_program.parent / "words").read_text()
+    expect("steps --taste=salt\n" in words, "the option handed on by the console", words)
+    completed = place.call("fractal shell", "bash").output.decode()
+    expect("--taste) words='sweet sour salt' ;;" in completed, "the words as completions", completed)
+    for kind in ("zsh", "man"):
+        expect("sweet, sour, salt" in place.call("fractal shell", kind).output.decode(), f"the words for {kind}")
 
 
 def schedules_are_watched(place: Place) -> None:
@@ -276,6 +311,7 @@ def consoles_are_interrupted(place: Place) -> None:
 
 
 TRIES = (
-    watch_words_are_told, watch_hands_on, random_watch_words_agree, schedules_are_watched, acts_are_typed,
+    watch_words_are_told, watch_hands_on, random_watch_words_agree, options_of_watch_alone_may_be_words,
+    schedules_are_watched, acts_are_typed,
     schedules_are_typed, pages_are_opened, no_file_is_lost, console_refuses_bad_words, consoles_are_interrupted,
 )

@@ -9,7 +9,7 @@ import subprocess
 from collections.abc import Sequence
 
 from yotarimu.programs.examples import SCHEDULES
-from yotarimu.programs.table import Table
+from yotarimu.programs.table import Option, Table
 
 from tries.files import picture_in
 from tries.place import Answer, Place, expect, one_sentence_each
@@ -139,8 +139,7 @@ def random_call(chance: random.Random, table: Table) -> list[str]:
         kind = chance.choice(("walk", "nest"))
         words += [kind, number(chance, 0, 2 ** 32 - 1), number(chance, 1, {"walk": 100_000, "nest": 10_000}[kind])]
     for option in chance.sample(list(table.options.values()), chance.choice((0, 0, 1, 1, 2, 3, 10))):
-        some = option.values if len(option.values) < 20 else ()
-        value = number(chance, option.values[0], option.values[-1], some)
+        value = some_value(chance, option)
         pair = chance.choice(([f"--{option.name}", value], [f"--{option.name}={value}"]))
         place = 1 + chance.randrange(len(words)) if command == "load" and len(words) == 4 else len(words)
         words[place:place] = pair
@@ -149,6 +148,16 @@ def random_call(chance: random.Random, table: Table) -> list[str]:
     # What is the launcher's own isn't the program's.
     words = [word for word in words if word != "--help"]
     return words if words and words[0] not in table.own else ["run", *words[1:]]
+
+
+def some_value(chance: random.Random, option: Option) -> str:
+    """A value of an option, or what is nearly one."""
+    if option.has_words:
+        one, other = (str(chance.choice(option.values)) for _ in range(2))
+        return chance.choice((one, one, one, f"{one},{other}", one.upper(), one[:-1], f"{one} ", f"{one}{other}", "1"))
+    values = [int(value) for value in (option.values[0], option.values[-1])]
+    few = [int(value) for value in option.values] if len(option.values) < 20 else []
+    return number(chance, *values, few)
 
 
 def number(chance: random.Random, least: int, most: int, values: Sequence[int] = ()) -> str:

@@ -37,7 +37,7 @@ from yotarimu.programs.table import Table
 def main(words: list[str]) -> int:
     """Does what the words of the call ask for, and gives the status."""
     table = Table()
-    given = Words(NAME, ["script", *table.options]).read(words)
+    given = Words(NAME, ["script", *table.course_options]).read(words)
     options = options_of(given.values, table)
     word, = given.need("one IMAGE, or a folder that has an image.bin", 1)
     path = pathlib.Path(word)

@@ -15,8 +15,7 @@ from __future__ import annotations
 from yotarimu.common.files import read_bytes
 from yotarimu.common.outcome import Refusal
 from yotarimu.common.text import count_text
-from yotarimu.common.words import GivenWords, Words, need_number, number_in
-from yotarimu.courses.grid import MOST_VALUE
+from yotarimu.common.words import GivenWords, Words, need_number
 from yotarimu.images.image import read_image
 from yotarimu.programs import pieces
 from yotarimu.programs.calls import Calls, program_at
@@ -35,8 +34,7 @@ def options_of(given: GivenWords, table: Table) -> list[str]:
             raise Refusal("--every tells how many commits a piece has, so --commits has no place here.")
         if name == "workers" and value.strip("0"):
             raise Refusal("--workers takes 0 alone here: a run with workers isn't made twice alike.")
-        if number_in(value, 0, MOST_VALUE) not in option.values:
-            raise Refusal(f"--{name} takes {option.range_text()}, and not `{value}`.")
+        option.need(value)
         options.append(f"--{name}={value}")
     return options
 

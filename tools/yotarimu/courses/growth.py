@@ -18,7 +18,7 @@ from yotarimu.lines.reader import Reader
 from yotarimu.lines.replay import Machine, ToldLine
 from yotarimu.lines.sentences import end_told, name_told, opening_told, sentence_of
 from yotarimu.programs.launcher import launch
-from yotarimu.programs.table import Table
+from yotarimu.programs.table import Table, size_of
 
 # The statuses of a script that was played.
 PLAYED = (0, 3, 4)
@@ -34,7 +34,7 @@ class Schedule:
         self.data = read_bytes(path)
         self.image = read_image(self.data, path)
         self.listing, self.remark = listing_for(path, self.image, None)
-        self.tiles, self.cores = (options.get(name, table.options[name].default) for name in ("tiles", "cores"))
+        self.tiles, self.cores = (size_of(name, options, table) for name in ("tiles", "cores"))
 
     def lines_of(self, acts: Sequence[str]) -> bytes:
         """What the second program tells of these acts."""

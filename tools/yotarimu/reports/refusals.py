@@ -10,7 +10,7 @@ from yotarimu.common.acts import ACTS
 from yotarimu.common.outcome import Refusal
 from yotarimu.common.text import printable
 from yotarimu.common.words import need_number, take_option
-from yotarimu.programs.table import Table
+from yotarimu.programs.table import Table, size_of
 
 # Where the image's header tells how many words of text, bytes of data and initial tasks come behind it.
 HEADER_BYTES, COUNTS, TASK_BYTES = 32, struct.Struct("<8xIIIIII"), 20
@@ -225,6 +225,6 @@ def why(told: str, words: Sequence[str], data: bytes) -> str:
 
 def count_of(name: str, words: Sequence[str]) -> int:
     """How many tiles or cores the words ask for."""
-    option = Table().options[name]
+    table = Table()
     value, _ = take_option(words, f"--{name}")
-    return option.default if value is None else need_number(f"--{name}", value, option.values[0], option.values[-1])
+    return size_of(name, {} if value is None else {name: table.options[name].need(value)}, table)
