@@ -144,8 +144,7 @@ def random_call(chance: random.Random, table: Table) -> list[str]:
 
 
 def options_of_watch_alone_may_be_words(place: Place) -> None:
-    """an option of `watch` alone, whose values are words, is told, judged, completed and handed on by all that know
-    the launcher's table"""
+    """an option of `watch` alone, whose values are words, is told, judged, completed and handed on by all tools"""
     launcher = place.clone / "fractal"
     row = "course-option|taste|sweet,sour,salt|sour|how it tastes\n"
     launcher.write_text(launcher.read_text().replace("seed|any|", f"{row}seed|any|"))

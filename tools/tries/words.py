@@ -155,9 +155,8 @@ def some_value(chance: random.Random, option: Option) -> str:
     if option.has_words:
         one, other = (str(chance.choice(option.values)) for _ in range(2))
         return chance.choice((one, one, one, f"{one},{other}", one.upper(), one[:-1], f"{one} ", f"{one}{other}", "1"))
-    values = [int(value) for value in (option.values[0], option.values[-1])]
     few = [int(value) for value in option.values] if len(option.values) < 20 else []
-    return number(chance, *values, few)
+    return number(chance, int(option.values[0]), int(option.values[-1]), few)
 
 
 def number(chance: random.Random, least: int, most: int, values: Sequence[int] = ()) -> str:
