@@ -154,8 +154,9 @@ def row_address(line: str) -> Optional[int]:
 
 
 def page_of(path: FilePath, listing_path: Optional[FilePath], first: int = 0, last: float = float("inf"),
-            is_cut_allowed: bool = False) -> str:
-    """The page of a text's acts: those behind the act `first`, up to the act `last`."""
+            is_cut_allowed: bool = False, name: Optional[str] = None) -> str:
+    """The page of a text's acts: those behind the act `first`, up to the act `last`. It is called by a name, or by that
+    of the text."""
     with open_lines(path, is_cut_allowed) as watched:
         listing, rows = read_rows(listing_path, watched.head)
         excerpt = Excerpt(path, watched.head, first, last)
@@ -163,7 +164,7 @@ def page_of(path: FilePath, listing_path: Optional[FilePath], first: int = 0, la
             excerpt.follow(told, watched.machine, listing)
         excerpt.close(watched.machine, watched.end, listing)
     head = json.dumps(watched.head, separators=(",", ":"))
-    title = "A run, act by act" if str(path) == "-" else f"{pathlib.Path(path).name}, act by act"
+    title = f"{name or ('A run' if str(path) == '-' else pathlib.Path(path).name)}, act by act"
     return recorded_page(in_page(title), {
         "lines": f"[{','.join([head, *excerpt.lines])}]", "opening": excerpt.opening or "",
         "sentences": within(excerpt.sentences), "listing": within(rows)})

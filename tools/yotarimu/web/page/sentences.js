@@ -86,9 +86,10 @@ class Sayer {
 
   task(id, machine) { return machine.label(machine.tasks.get(id)); }
 
-  leg(line, before) {
+  /** Who made a leg, and how many plain instructions it has. One that stalled executes none of them. */
+  leg(line, before, text = "plain") {
     const who = filled(sentences.leg.who, {...line, task: this.task(line.task, before)});
-    return line.leg ? filled(sentences.leg.plain, {who, instructions: plural(line.leg, "plain instruction")}) : who;
+    return line.leg ? filled(sentences.leg[text], {who, instructions: plural(line.leg, "plain instruction")}) : who;
   }
 
   request(line, before, behind) {
@@ -166,7 +167,7 @@ class Sayer {
   wish(line, before) {
     const {wishes} = sentences;
     if (line.asks === "enqueue" || line.asks === "end") {
-      return filled(wishes[line.asks], {leg: this.leg(line, before), domain: sentences.domains[line.to]});
+      return filled(wishes[line.asks], {leg: this.leg(line, before, "stalled"), domain: sentences.domains[line.to]});
     }
     if (line.do === "step" && line.task !== undefined) {
       return filled(wishes.leg, {...line, task: this.task(line.task, before)});
