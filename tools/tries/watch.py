@@ -68,22 +68,24 @@ REFUSED_LINES = ("`halt` is no act", "there is no tile 9", "mine: this is there 
 ORDERS = {
     "journal": (["order 0.0 0.1", "dispatch 0", *["step 0 0"] * 4, "order 0.0+2 0.1", "order 0.0 0.0+2",
                  "order 0.0+2 0.0+1", "order 0.0+2", "order 0.0 0.0"],
-                ["0.1 comes after 0.0: in the ordered root domain, 0.0 has the timestamp 0 and 0.1 has the timestamp 2.",
+                ["0.1 comes after 0.0: in the ordered root domain, 0.0 has the timestamp 0 and 0.1 has the timestamp "
+                 "2.",
                  "0.1 comes after 0.0+2: in the ordered root domain, 0.0, within whose domain 0.0+2 is, has the "
                  "timestamp 0 and 0.1 has the timestamp 2.",
-                 "0.0+2 comes after 0.0: it is within the domain that 0.0 made, and all tasks there come right after 0.0.",
+                 "0.0+2 comes after 0.0: it is within the domain that 0.0 made, and all tasks there come right after "
+                 "0.0.",
                  "0.0+1 comes after 0.0+2: in the ordered root domain, 0.0, within whose domain 0.0+2 is, has the "
                  "timestamp 0 and 0.0+1 has the timestamp 1.",
                  "0.0+2: `letter 84` with the timestamp 9, at depth 2 in the ordered subdomain of 0.0",
                  "letter 84  timestamp 9  depth 2, the ordered subdomain of 0.0  idle",
                  "These are the same task."]),
     "order": (["order 0.1 0.0", "dispatch 1", "order 0.1 0.0", "dispatch 0", "order 0.1 0.0"],
-              ["0.1 comes after 0.0: in the unordered root domain, timestamps don't count, and neither is dispatched, but "
-               "0.0 waits in tile 0 and 0.1 in tile 1.",
-               "0.0 comes after 0.1: in the unordered root domain, timestamps don't count, and 0.1 is dispatched and 0.0 "
-               "isn't.",
-               "0.0 comes after 0.1: in the unordered root domain, timestamps don't count, and 0.1 was dispatched before "
-               "0.0."]),
+              ["0.1 comes after 0.0: in the unordered root domain, timestamps don't count, and neither is dispatched, "
+               "but 0.0 waits in tile 0 and 0.1 in tile 1.",
+               "0.0 comes after 0.1: in the unordered root domain, timestamps don't count, and 0.1 is dispatched and "
+               "0.0 isn't.",
+               "0.0 comes after 0.1: in the unordered root domain, timestamps don't count, and 0.1 was dispatched "
+               "before 0.0."]),
 }
 
 # What stands in a sentence when the script of a schedule is typed.
@@ -249,8 +251,7 @@ def orders_are_told(place: Place) -> None:
         answer = place.call("fractal console", folder, stdin="\n".join(typed).encode())
         missing = [sentence for sentence in told if sentence not in answer.output.decode()]
         expect((answer.status, answer.errors, missing) == (0, "", []), f"the orders of {name}", missing or answer)
-    typed = b"order\norder 0.0 0.1 0.2\norder 0.0 5.5\n"
-    answer = place.call("fractal console", folder, stdin=typed)
+    answer = place.call("fractal console", folder, stdin=b"order\norder 0.0 0.1 0.2\norder 0.0 5.5\n")
     answer.tells("takes the labels of two tasks", "No uncommitted task is called `5.5` here.")
     expect((answer.status, answer.errors.count("\n")) == (1, 3), "three refusals", answer)
 
