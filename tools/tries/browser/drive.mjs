@@ -158,7 +158,7 @@ const TRIES = {
         expect(seen.verdict.startsWith(kind), kind, seen);
       };
       for (const [name, answer] of [["journal", read("journal")], ["false_conflict", read("false_conflict", "task.s")],
-        ["order", read("order", "task.s")]]) {
+        ["order", read("order", "task.s")], ["domains", read("domains", "task.s")], ["why", read("why")]]) {
         await begin(name);
         await judged("wrong");
         await driver.page.run(`at("answer").value = ${JSON.stringify(answer)}`);

@@ -2,6 +2,7 @@
 from __future__ import annotations
 
 import pathlib
+import subprocess
 from collections.abc import Iterator, Mapping, Sequence
 from typing import NamedTuple, Optional
 
@@ -9,7 +10,7 @@ from yotarimu.common.files import FilePath, read_bytes, read_text
 from yotarimu.common.outcome import Refusal
 from yotarimu.common.words import Words
 from yotarimu.courses.schedules import PlayedScript, ActAnswer, read_played, read_script
-from yotarimu.programs.launcher import launch
+from yotarimu.programs.launcher import launch, pass_on, why_no_answer
 from yotarimu.programs.table import Table, Value, size_of
 from yotarimu.reports.refusals import script_fault, quote
 
@@ -92,10 +93,13 @@ def play(image: FilePath, acts: Sequence[NumberedAct], options: Options, name: s
 def ask(words: Sequence[str], image: FilePath, behind: bytes = b"") -> tuple[int, str]:
     """The status of a call on an image and what comes behind it, and what the program wrote; a refusal in place of a
     fault."""
-    status, written, _ = launch(words, read_bytes(image) + behind)
+    status, written, said = launch(words, read_bytes(image) + behind, subprocess.PIPE)
     text = written.decode("utf-8", "replace")
-    if text.startswith("fault") or not text:
-        raise Refusal(f"{image}: the program refused it: {text.strip() or f'status {status}'}.")
+    if text.startswith("fault"):
+        raise Refusal(f"{image}: the program refused it: {text.strip()}.")
+    if not text:
+        raise Refusal(why_no_answer(status, said))
+    pass_on(said)
     return status, text
 
 
