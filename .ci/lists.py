@@ -13,6 +13,7 @@ from yotarimu.common.acts import ACTS
 from yotarimu.common.outcome import Refusal
 from yotarimu.common.places import HOME
 from yotarimu.common.sentences import SENTENCES
+from yotarimu.courses.study import value_text
 from yotarimu.lines.fields import COURSES, EVENTS, SETTINGS
 from yotarimu.lines.reader import RANGES
 from yotarimu.lines.replay import MADE
@@ -97,9 +98,9 @@ def differing(what: str, wanted: Iterable[str], places: Iterable[Place]) -> Iter
 
 def told_values(option: Option) -> str:
     """The values of an option and the one unless given, as tables of documents have them."""
-    values = list(option.values)
-    range_told = f"{values[0]:,} to {values[-1]:,}" if isinstance(option.values, range) else ", ".join(map(str, values))
-    return f"{range_told} | {option.default:,}"
+    values = [value_text(value) for value in option.values]
+    range_told = f"{values[0]} to {values[-1]}" if isinstance(option.values, range) else ", ".join(values)
+    return f"{range_told} | {value_text(option.default)}"
 
 
 def values_that_differ(table: Table) -> Iterator[str]:
