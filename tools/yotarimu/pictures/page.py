@@ -104,8 +104,9 @@ def opening_of(machine: Machine, passed: Totals) -> dict[str, object]:
     makers = {dispatch: maker.name for (_, dispatch), maker in domains if maker.name is not None}
     return {"at": machine.acts, "events": machine.events, "commits": machine.commits, "useful": passed.useful,
             "dispatches": machine.dispatches, "wasted": passed.wasted, "emitted": passed.emitted,
-            "journal": list(passed.entries), "tasks": [task_of(task) for task in tasks], "queues": machine.queues, "cores": machine.cores,
-            "finished": machine.finished, "blocks": [list(map(task_of, block.values())) for block in machine.blocks],
+            "journal": list(passed.entries), "tasks": [task_of(task) for task in tasks],
+            "queues": machine.queues, "cores": machine.cores, "finished": machine.finished,
+            "blocks": [list(map(task_of, block.values())) for block in machine.blocks],
             "memory": words_of(machine), "stores": [pair for pair in stores if pair[1]],
             "makers": [[dispatch, name_told(name)] for dispatch, name in makers.items()]}
 

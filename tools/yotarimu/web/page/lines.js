@@ -10,6 +10,7 @@ class Interruption extends Error {}
 // Whether a person wants what lasts to be stopped: a call, or the reading of its answer.
 const stopping = {isWanted: false};
 
+// It is held here: one that nothing holds may be gone before its message comes.
 const channel = new MessageChannel();
 
 /** Lets everything else in the page come first. A browser keeps a timer waiting for longer than a message. */

@@ -283,10 +283,11 @@ function go(wanted) {
   showTiles(machine, line);
   showJournal(machine, current);
   showMemory(current, line);
-  showListing(machine, line);
   showCurves(current);
   showPair();
   showPlace(machine.at);
+  // It asks where a row is, for which all that was changed is laid out: so it comes last.
+  showListing(machine, line);
 }
 
 // What else is to follow where another act is shown, by its number.
