@@ -33,18 +33,20 @@ const opened = (source, options = {}, kind = "least") => `perform(() => openSour
   text: ${JSON.stringify(source)}}], {options: ${JSON.stringify(options)},
   course: {kind: "${kind}", rounds: "9", seed: "1"}}))`;
 
-// A timer of the page runs each 5 milliseconds where its thread is free. On a busy machine it does so less often.
-const MOST_BETWEEN = 40, MOST_STILL = 1000;
+// While lines are read a timer of the page is to run at least once for so many acts, and once in so many milliseconds.
+// Slices of 8 milliseconds have some 800 acts on a machine that read 90 in a millisecond; a busy one has fewer in each.
+const MOST_ACTS_BETWEEN = 2500, MOST_STILL = 5000;
 const STOPPING = `
-  const beats = {count: 0, most: 0, began: 0, last: 0};
+  const beats = {count: 0, most: 0, last: 0};
   function beginBeats() {
-    beats.began = beats.last = performance.now();
     setInterval(() => {
-      const now = performance.now();
-      Object.assign(beats, {count: beats.count + 1, most: Math.max(beats.most, now - beats.last), last: now});
+      const now = performance.now(), isReading = !machines.waiting.size && toldRun.course !== course;
+      if (isReading && beats.last)
+        Object.assign(beats, {count: beats.count + 1, most: Math.max(beats.most, now - beats.last)});
+      beats.last = now;
     }, 5);
   }
-  function beatsSoFar() { return {count: beats.count, most: beats.most, lasted: beats.last - beats.began}; }
+  function beatsSoFar() { return beats; }
   function kept() {
     return JSON.stringify([subject.name, script.length, course.length, current, at("said").textContent,
       toldRun.bytes.length, toldRun.end, toldRun.course === course, at("call").textContent]);
@@ -370,7 +372,9 @@ const TRIES = {
       expect(
         seen.acts > 100000 && seen.call.includes("isn't shown whole"), "the first acts of a run that is too long",
         seen);
-      expect(beats.count * MOST_BETWEEN > beats.lasted && beats.most < MOST_STILL, "a page that is alive", beats);
+      expect(
+        beats.count * MOST_ACTS_BETWEEN > seen.acts && beats.most < MOST_STILL, "a page that is alive",
+        [beats, seen.acts]);
     });
   },
 
