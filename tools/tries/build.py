@@ -300,8 +300,8 @@ def bad_words_are_refused(place: Place) -> None:
     one_sentence_each([
         (place.call("fractal build", "nowhere"), ["nowhere", "no such folder"]),
         (place.call("fractal build", "--fast"), ["--fast"]),
-        (place.call("fractal build"), ["a FOLDER of sources", "./fractal prove"]),
-        (place.call("fractal build", "--clang"), ["a FOLDER of sources"]),
+        (place.call("fractal build"), ["which FOLDER of sources", "./fractal prove"]),
+        (place.call("fractal build", "--clang"), ["which FOLDER of sources"]),
         (place.call("fractal build", "--all", "hello"), ["--all", "no FOLDER"]),
         (place.call("fractal build", str(empty)), ["empty", "no source"]),
         (place.call("fractal build", ""), ["no such folder"]),

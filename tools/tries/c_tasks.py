@@ -568,6 +568,26 @@ def large_programs_are_held_against_plain_ones(place: Place) -> None:
     place.is_clean()
 
 
+def interrupted_large_programs_are_made_again(place: Place) -> None:
+    """a large program that was interrupted is made by the same words; other words, and other files there, are refused"""
+    place.needs_program()
+    folder, mark = place.root / "large", place.root / "mark"
+    waiting = place.stub(place.root / "waiting", f"touch '{mark}'; exec sleep 100\n")
+    words = ("fractal large", "roads", str(folder), "--size", "60")
+    answer = place.interrupt(*words, "--program", str(waiting), ready=mark.exists)
+    answer.sentence("interrupted", status=130)
+    expect((folder / "task.c").is_file(), "sources")
+    (folder / "listing").unlink()
+    (folder / "plain" / "plain.c").unlink()
+    for _ in range(2):
+        answer = place.call(*words)
+        expect((answer.status, answer.errors) == (0, ""), "a whole call", answer)
+    place.call(*words[:-1], "61").sentence("not empty", "than the same words left there")
+    (folder / "notes").write_text("mine")
+    place.call(*words).sentence("not empty", "than the same words left there")
+    expect((folder / "notes").read_text() == "mine", "the file of another")
+
+
 def other_results_of_large_programs_are_told(place: Place) -> None:
     """a result that isn't the plain program's, and a report that is refused, are told in a sentence"""
     place.needs_program()
@@ -632,9 +652,10 @@ def large_refuses_bad_words(place: Place) -> None:
 TRIES = (
     examples_in_c_are_one_for_both_compilers, c_and_assembly_are_one, what_needs_no_stack_runs_in_version_1,
     sources_are_mixed, calls_keep_arguments_apart, mistakes_in_c_are_refused, arguments_in_c_are_taken,
-    arguments_in_cpp_are_refused, names_of_several_sources_are_told, doubts_in_c_are_noted,
-    traps_in_c_are_explained, silent_mistakes_are_silent, ties_come_in_any_order, scratch_of_all_conflicts,
-    packed_structs_are_read, traps_are_explained_from_sources, long_ways_are_counted, missing_compilers_are_told,
-    missing_libgcc_is_told, large_programs_are_held_against_plain_ones, other_results_of_large_programs_are_told,
-    other_programs_of_large_are_told, missing_compilers_leave_no_folder, large_refuses_bad_words,
+    arguments_in_cpp_are_refused, names_of_several_sources_are_told, doubts_in_c_are_noted, traps_in_c_are_explained,
+    silent_mistakes_are_silent, ties_come_in_any_order, scratch_of_all_conflicts, packed_structs_are_read,
+    traps_are_explained_from_sources, long_ways_are_counted, missing_compilers_are_told, missing_libgcc_is_told,
+    large_programs_are_held_against_plain_ones, other_results_of_large_programs_are_told,
+    interrupted_large_programs_are_made_again, other_programs_of_large_are_told, missing_compilers_leave_no_folder,
+    large_refuses_bad_words,
 )

@@ -204,13 +204,18 @@ def endless_windows_are_refused(place: Place) -> None:
 
 
 def closed_pipes_are_borne(place: Place) -> None:
-    """a reader that goes away, a full disk and a closed standard output are told in a sentence"""
+    """a full disk and a closed standard output are told in a sentence; of a reader that goes away nothing is said"""
     image, report = files_of(place, "nested")
-    for target, part in (("| exec sh -c :", "nobody reads"), (">/dev/full", "no space"), (">&-", "closed")):
-        script = f'"$0" explain "$1" "$2" {target}'
+    for target, part in ((">/dev/full", "no space"), (">&-", "closed")):
+        place.by_shell(f'"$0" explain "$1" "$2" {target}; exit 1', image, report).sentence(part)
+    status = place.root / "status"
+    for words in ("explain '{image}' '{report}'", "explain --help", "build --help", "tries --help", "generate walk 7 20",
+                  "help", "help run", "table"):
+        call = words.format(image=image, report=report)
         # The reader has gone before the script, which takes longer to begin, writes.
-        answer = place.by_shell(f"{script}; exit 1", image, report)
-        answer.sentence(part)
+        answer = place.by_shell(f'{{ sleep 1; "$0" {call}; echo $? >"$1"; }} | exec sh -c :', status)
+        expect((answer.status, answer.errors) == (0, ""), f"silence of {words}", answer)
+        expect(status.read_text().strip() in ("0", "141"), f"status 0 or 141 of {words}", status.read_text())
 
 
 TRIES = (
