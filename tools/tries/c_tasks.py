@@ -569,7 +569,7 @@ def large_programs_are_held_against_plain_ones(place: Place) -> None:
 
 
 def interrupted_large_programs_are_made_again(place: Place) -> None:
-    """a large program that was interrupted is made by the same words; other words, and other files there, are refused"""
+    """a large program that was interrupted is made by the same words; other words and other files are refused"""
     place.needs_program()
     folder, mark = place.root / "large", place.root / "mark"
     waiting = place.stub(place.root / "waiting", f"touch '{mark}'; exec sleep 100\n")

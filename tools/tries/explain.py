@@ -204,7 +204,7 @@ def endless_windows_are_refused(place: Place) -> None:
 
 
 def closed_pipes_are_borne(place: Place) -> None:
-    """a full disk and a closed standard output are told in a sentence; of a reader that goes away nothing is said"""
+    """a full disk and a closed standard output are told in a sentence; a reader that goes away is borne in silence"""
     image, report = files_of(place, "nested")
     for target, part in ((">/dev/full", "no space"), (">&-", "closed")):
         place.by_shell(f'"$0" explain "$1" "$2" {target}; exit 1', image, report).sentence(part)

@@ -4,9 +4,10 @@ usage: ./fractal large roads FOLDER [--size N] [--seed N]       shortest paths i
        ./fractal large circuit FOLDER [--size N] [--seed N]     a circuit that multiplies numbers of N bits (8)
 
 FOLDER gets task.c with its data, image.bin and listing, and plain/plain.c, which the host's cc compiles. It is to be
-empty, or not there, or to have what the same words left there: so a call that was interrupted is made again. It tells how many tasks took their turns, in how many events, and that each word of the result
-is the same. --seed makes other data (1 unless told), --clang compiles the tasks by clang, and --program FILE names a
-built program in place of the one of this clone.
+empty, or not there, or to have what the same words left there: so a call that was interrupted is made again. It tells
+how many tasks took their turns, in how many events, and that each word of the result is the same. --seed makes other
+data (1 unless told), --clang compiles the tasks by clang, and --program FILE names a built program in place of the one
+of this clone.
 """
 from __future__ import annotations
 
