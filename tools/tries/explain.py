@@ -209,8 +209,8 @@ def closed_pipes_are_borne(place: Place) -> None:
     for target, part in ((">/dev/full", "no space"), (">&-", "closed")):
         place.by_shell(f'"$0" explain "$1" "$2" {target}; exit 1', image, report).sentence(part)
     status = place.root / "status"
-    for words in ("explain '{image}' '{report}'", "explain --help", "build --help", "tries --help", "generate walk 7 20",
-                  "help", "help run", "table"):
+    for words in ("explain '{image}' '{report}'", "explain --help", "build --help", "tries --help", "help", "table",
+                  "generate walk 7 20", "help run"):
         call = words.format(image=image, report=report)
         # The reader has gone before the script, which takes longer to begin, writes.
         answer = place.by_shell(f'{{ sleep 1; "$0" {call}; echo $? >"$1"; }} | exec sh -c :', status)
