@@ -372,10 +372,17 @@ TASK(start, uint32_t place, uint32_t end)
 {
     if (spread(start, place, place, end))
         return;
-    enqueue(none, -1), enqueue(none, 0, .hint = small), enqueue(one, whole), enqueue(one, letter, kind);
-    enqueue(one, 5, at(&x), .hint = letter), enqueue(three, 0, 'a', x ? 1 : 2, end / 3u, .hint = place);
-    enqueue(four, 0, 1, 2, 3, .hint = 4), enqueue(four, 0), enqueue(unknown, 0, 1, 2, 3);
-    enqueue(x ? one : three, 0, 1, 2, 3), enqueue(one, (uint32_t)wide, (uint32_t)(wide >> 32));
+    enqueue(none, -1);
+    enqueue(none, 0, .hint = small);
+    enqueue(one, whole);
+    enqueue(one, letter, kind);
+    enqueue(one, 5, at(&x), .hint = letter);
+    enqueue(three, 0, 'a', x ? 1 : 2, end / 3u, .hint = place);
+    enqueue(four, 0, 1, 2, 3, .hint = 4);
+    enqueue(four, 0);
+    enqueue(unknown, 0, 1, 2, 3);
+    enqueue(x ? one : three, 0, 1, 2, 3);
+    enqueue(one, (uint32_t)wide, (uint32_t)(wide >> 32));
 }
 TASK(unknown) { }
 """
