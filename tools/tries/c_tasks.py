@@ -25,7 +25,8 @@ REFUSED = {
         "static void helper(uint32_t n) { emit(n); }\nTASK(start) { enqueue(helper, 0, 65); }\n",
         "task.c:4: only a task can be enqueued"),
     "a pointer that is no number": (
-        "uint32_t x;\nTASK(start) { enqueue(start, 0, &x); }\n", "task.c:4:", "a pointer is given as at(pointer)"),
+        "uint32_t x;\nTASK(start, uint32_t *p) { enqueue(start, 0, &x); }\n",
+        "task.c:4:", "a pointer is given as at(pointer)"),
     "a fifth parameter": (
         "TASK(start, uint32_t a, uint32_t b, uint32_t c, uint32_t ts, uint32_t d) { emit(d); }\n",
         "task.c:3: a task has three arguments"),
