@@ -42,7 +42,7 @@ def reasons_of_traps_are_told(place: Place) -> None:
     for name, text, report, parts in (
             ("past", "    la a0, main\n    addi a1, a3, -1\n    li a7, 1\n    ecall\n" + end,
              "end trap 10 00010010 0.0", ("timestamp 4 was asked for, and 5 is the least, the task's own",)),
-            ("floor", below_floor, "end trap 10 0001003c 1.0",
+            ("floor", below_floor, "end trap 10 00010038 1.0",
              ("timestamp 4 was asked for, and 5 is the least, the floor: that of the task that made the subdomain",)),
             ("entry", "    li a0, 8\n    li a7, 1\n    li a1, 6\n    ecall\n" + end, "end trap 1 00000008 1.0",
              ("the task begins there: its creator gave it this entry address, which is outside of the text",
