@@ -36,11 +36,12 @@ class LostRun(Exception):
 
 
 class TaskTrap(Exception):
-    """A task traps: its cause, and the address of the load or store that does."""
+    """A task traps: its cause, the address of the load or store that does, and for a timestamp in the past the least
+    that might have been given."""
 
-    def __init__(self, cause: int, address: Optional[int] = None) -> None:
+    def __init__(self, cause: int, address: Optional[int] = None, least: Optional[int] = None) -> None:
         super().__init__(cause)
-        self.cause, self.address = cause, address
+        self.cause, self.address, self.least = cause, address, least
 
 
 @dataclasses.dataclass
@@ -76,8 +77,8 @@ class Machine:
     # How many turns were taken.
     turns = 0
 
-    def __init__(self, image: Image) -> None:
-        self.image = image
+    def __init__(self, image: Image, budget: int = MOST_BUDGET) -> None:
+        self.image, self.budget = image, budget
         self.memory = bytearray(image.initial) + bytes(image.size - len(image.initial))
         self.steps = 0
         self.tasks: dict[Name, Task] = {}
@@ -161,7 +162,7 @@ class Run:
 
     def go(self) -> None:
         """Executes the task up to its end; raises TaskTrap where it traps."""
-        machine, last = self.machine, self.machine.steps + MOST_BUDGET
+        machine, last = self.machine, self.machine.steps + self.machine.budget
         while not self.is_over:
             if machine.steps == last:
                 raise TaskTrap(BUDGET)
@@ -271,7 +272,7 @@ class Run:
         # A subdomain's timestamps start afresh.
         least = {1: self.task.timestamp, 2: 0, 3: own.floor}[number]
         if domain.is_ordered and timestamp < least:
-            raise TaskTrap(EARLY)
+            raise TaskTrap(EARLY, least=least)
         if self.children == self.limits.children:
             raise TaskTrap(CHILD)
         self.machine.add(Name(self.turn, self.children), entry, timestamp, arguments, domain)
