@@ -115,6 +115,8 @@ def core_of(*words: int) -> Core:
 
 
 class Legs(unittest.TestCase):
+    """Where legs end that the image's text is replayed for, worked out by counting."""
+
     def test_a_leg_stops_at_its_quantum_within_straight_instructions(self) -> None:
         core = core_of(*[ADD_ONE] * 150, CALL)
         for executed in (7, 14):
