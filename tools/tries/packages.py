@@ -65,6 +65,7 @@ def packages_run_elsewhere(place: Place) -> None:
     answer = place.call("fractal", "watch", "least", stdin=image_of(place, "hello"))
     expect(answer.output.startswith(b'{"watch":1,') and answer.errors == "", "the second program's lines", answer)
     expect((place.clone / "fractal.html").is_file(), "the machine in a page")
+    place.call("fractal", "build").sentence("which FOLDER of sources is to be built?", "programs are there already")
     for word in ("prove", "package"):
         expect(place.call("fractal", word).status == 69, f"that {word} wants a clone")
 

@@ -1,13 +1,14 @@
 """Turns a report into text for people: tasks with labels, the output as text, the window in decimal, the end in words.
 
-usage: ./fractal explain IMAGE REPORT [SOURCE] [--picture | --json | --csv]
+usage: ./fractal explain IMAGE REPORT [SOURCE] [--picture | --json | --csv | --registers]
        ./fractal explain IMAGE LINES [SOURCE] [--json | --csv]
 
 REPORT may be - for standard input; it may be what `steps` wrote, replies and all. SOURCE is a listing of
 ./fractal build, a source, or the folder of the sources; where none is named the listing beside the image serves, if
 there is one. With --picture the tree of tasks is written as SVG. --json writes what it tells for other programs, and
 --csv the tasks alone. What the report doesn't tell is found by running its tasks again, with the registers of one that
-traps. A report of another image is refused; ./fractal check judges whether one is a run's.
+traps: those that aren't 0, or with --registers all. A report of another image is refused; ./fractal check judges
+whether one is a run's.
 
 LINES is what `./fractal watch` told; of these it tells each task that was taken back, and why: the access or the need
 of room behind it, and what both share.
@@ -34,7 +35,8 @@ from yotarimu.reports.meanings import told_without_report
 from yotarimu.reports.plain_data import other_run
 from yotarimu.reports.report import read_report
 
-FORMS = ("picture", "json", "csv")
+REGISTERS = "registers"
+FORMS = ("picture", "json", "csv", REGISTERS)
 # So lines of the second program begin.
 LINES = b"{"
 
@@ -52,7 +54,7 @@ def read_words(words: list[str]) -> Request:
     given = Words("explain", flags=FORMS).read_known(words)
     unknown = [word for word in given.others if word.startswith("--")]
     if unknown or len(given.flags) > 1 or not 2 <= len(given.others) <= 3:
-        raise Refusal("it wants IMAGE REPORT [SOURCE] and one of --picture, --json and --csv, or none; "
+        raise Refusal("it wants IMAGE REPORT [SOURCE] and one of --picture, --json, --csv and --registers, or none; "
                       "./fractal explain --help tells more.")
     image, report, *source = given.others
     return Request(image, report, source[0] if source else None, next(iter(given.flags), None))
@@ -62,13 +64,14 @@ def explain_no_report(text: str, sentence: str, form: Optional[str]) -> None:
     """What the program said in a report's place."""
     if form in ("picture", "csv"):
         raise Refusal(f"`{text.strip()}` has no tasks. {sentence}")
-    print(json.dumps({"said": text.strip(), "meaning": sentence}, indent=2) if form else sentence)
+    print(json.dumps({"said": text.strip(), "meaning": sentence}, indent=2) if form == "json" else sentence)
 
 
 def explain_lines(image_path: str, image: Image, lines_path: str, source: Optional[str], form: Optional[str]) -> None:
     """Prints why the tasks of a run were taken back: as text, or in a form for other programs."""
-    if form == "picture":
-        raise Refusal("lines have no tree of tasks; the report of the run has.")
+    if form in ("picture", REGISTERS):
+        what = "tree of tasks" if form == "picture" else "registers of a trap"
+        raise Refusal(f"lines have no {what}; the report of the run has.")
     listing, remark = listing_for(image_path, image, source)
     run = taken_tasks.Run(lines_path, image, listing)
     if form == "json":
@@ -113,5 +116,6 @@ def main(words: list[str]) -> None:
     elif form == "csv":
         plain_data.write_tasks(report, machine, listing, sys.stdout)
     else:
-        print(*text_of(image_path, image, replies, report, machine, listing), sep="\n")
+        told = text_of(image_path, image, replies, report, machine, listing, form == REGISTERS)
+        print(*told, sep="\n")
         print(*(f"\n{sentence}" for sentence in remarks), sep="\n", end="\n" if remarks else "")

@@ -6,7 +6,8 @@ usage: ./fractal resume IMAGE FOLDER --every N [--OPTION VALUE]... [--program FI
 FOLDER is all that it keeps: `0001.image` and `0001.report`, and so on, and at the end `report`, the run as one. Where
 it was interrupted, the same words go on with the piece that was under way. A run can't be cut where a task of a
 subdomain pends, or more tasks than an image has room for: then it is told, and cut at the next count of commits at
-which it can be. The joined report is checked, up to 1,000,000 commits; of a longer run each piece is. OPTION is one of
+which it can be. The joined report is checked, up to 1,000,000 commits; of a longer run each piece is. Where a piece
+isn't as it was made, it says which files to delete, so that the same words make them again. OPTION is one of
 the program but --commits, and --workers 0 alone, since a run with workers isn't made twice alike. --program names a
 built program in place of the one of this clone.
 """
@@ -55,8 +56,11 @@ def main(words: list[str]) -> int:
     calls = Calls(program_at(given.values["program"]))
     folder = pieces.Folder(pieces_path, image, [f"--every={every}", *options])
     resumption = Resumption(calls, options, every, folder)
-    resumption.run_all()
-    count, turns = resumption.join()
+    try:
+        resumption.run_all()
+        count, turns = resumption.join()
+    except pieces.DamagedPiece as damaged:
+        raise Refusal(f"{str(damaged).rstrip('.')}; {folder.remedy(damaged.number)}.") from None
     told = f"{count_text(turns, 'commit')} in {count_text(count, 'piece')}"
     print(f"{folder.name(pieces.REPORT)}: {told}; accepted by check.")
     return 0

@@ -4,8 +4,9 @@ usage: ./fractal tries [WORD]...          the tries whose names hold one of the 
        ./fractal tries --list [WORD]...   their names, each with what it tries, and runs none
 
 A try fails loudly, and the status is then 1. This stands beside the gate: it takes some minutes, and wants the
-toolchain, git, the built programs, GNU binutils, gcc and clang for RISC-V, and Chromium. Where a program isn't built or
-there is no browser, the tries that want it are left out, and counted.
+toolchain, git, the built programs, GNU binutils, gcc and clang for RISC-V, qemu's user mode, and Chromium. Where one
+of these isn't there, the tries that want it are left out, and counted. RISCV_TESTS may name a folder of the public
+riscv-tests, whose tests of RV32I are then run as tasks.
 """
 from __future__ import annotations
 
@@ -17,13 +18,13 @@ from yotarimu.common.outcome import Refusal
 from yotarimu.common.words import Words
 
 from tries import (
-    applications, build, c_tasks, causes, contents, debug, documents, explain, figures, gate, interrupts, launcher,
-    lockstep, packages, pages, resume, schedules, studies, sweep, watch, web, words)
+    applications, build, c_tasks, causes, contents, debug, documents, explain, figures, gate, instruction_set,
+    interrupts, launcher, lockstep, packages, pages, resume, schedules, studies, sweep, watch, web, words)
 from tries.place import Failure, Omission, Place
 
 Attempt = Callable[[Place], None]
-PARTS = (launcher, words, packages, build, c_tasks, contents, applications, explain, gate, sweep, resume, schedules,
-         lockstep, studies, watch, causes, debug, figures, pages, web, interrupts, documents)
+PARTS = (launcher, words, packages, build, c_tasks, instruction_set, contents, applications, explain, gate, sweep,
+         resume, schedules, lockstep, studies, watch, causes, debug, figures, pages, web, interrupts, documents)
 TRIES: list[Attempt] = [attempt for part in PARTS for attempt in part.TRIES]
 OK, FAILED, LEFT_OUT = "ok", "FAILED", "left"
 

@@ -234,6 +234,11 @@ class Machine:
             raise WrongLine(f"no task has the id {number}")
         return task
 
+    def need_place(self, line: Line) -> None:
+        """Refuses a tile or a core that isn't there."""
+        self.need_tile(line)
+        need_below(line.get("core", 0), self.head["cores"], "a core")
+
     def need_tile(self, line: Line) -> int:
         """The tile that a line tells; refuses one that the machine hasn't."""
         tile: int = line["tile"]
@@ -271,28 +276,26 @@ class Machine:
     def act(self, told: ToldLine, line: Line) -> None:
         """Follows an act: what it tells is held against the machine, and is made."""
         self.count_act(line)
-        told.is_made = line["reply"] == "ok" and line["do"] in EVENTS
-        if line["n"] != self.events + told.is_made:
-            raise WrongLine(f"it tells {line['n']} events, and {self.events + told.is_made} were made")
-        if "tile" in line:
-            self.need_tile(line)
-        if "core" in line:
-            need_below(line["core"], self.head["cores"], "a core")
+        word, reply = line["do"], line["reply"]
+        told.is_made = is_made = reply == "ok" and word in EVENTS
+        if line["n"] != self.events + is_made:
+            raise WrongLine(f"it tells {line['n']} events, and {self.events + is_made} were made")
         if "task" in line:
             told.task = self.task_at(line["task"])
-        if line["do"] == "take" and line["reply"] == "ok" and self.cores[line["tile"]][line["core"]] is None:
+        if line.get("tile", 0) >= self.head["tiles"] or line.get("core", 0) >= self.head["cores"]:
+            self.need_place(line)
+        if word == "take" and reply == "ok" and self.cores[line["tile"]][line["core"]] is None:
             raise WrongLine(f"core {line['core']} of tile {line['tile']} holds no task")
         if "leg" in line:
             if told.task is None:
                 raise WrongLine("no task is told that takes this leg")
             self.need_leg(told.task, line)
-        reasons = REFUSALS.get(line["do"], {})
-        if line["reply"] in reasons and not reasons[line["reply"]](self, line["tile"]):
-            raise WrongLine(f"the tile has no reason to answer `{line['reply']}`")
-        if told.is_made:
+        if is_made:
             self.events += 1
             self.force(told, line)
-            MADE[line["do"]](self, told, line)
+            MADE[word](self, told, line)
+        elif word in REFUSALS and reply in REFUSALS[word] and not REFUSALS[word][reply](self, line["tile"]):
+            raise WrongLine(f"the tile has no reason to answer `{reply}`")
         if self.rounds is not None:
             self.rounds.note_commits(self.commits)
 

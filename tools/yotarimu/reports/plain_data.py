@@ -12,6 +12,7 @@ from yotarimu.courses.schedules import ActAnswer
 from yotarimu.images.image import DATA
 from yotarimu.images.listing import Listing
 from yotarimu.images.serial_machine import REGISTERS, Machine
+from yotarimu.reports.explanation import begins_at_trap
 from yotarimu.reports.meanings import cause_told
 from yotarimu.reports.report import Entry, Report
 
@@ -97,6 +98,8 @@ def end_of(report: Report, machine: Machine, listing: Listing) -> dict[str, obje
     if found:
         run, trapped = found
         told["address"], told["registers"] = trapped.address, dict(zip(REGISTERS, run.registers))
+        told["least_timestamp"] = trapped.least
+        told["begins_at_pc"] = begins_at_trap(run, trapped)
     return told
 
 
