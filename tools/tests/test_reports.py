@@ -69,12 +69,15 @@ class Refusals(unittest.TestCase):
 
 
 class Disagreements(unittest.TestCase):
+    """The one thing that speaks against a line of a report."""
+
     # Two tasks that end at once, at the timestamps 0 and 5, and a word of data that stays 42.
     IMAGE = Image(True, b"\x93\x08\x00\x00\x73\x00\x00\x00", b"\x2a\x00\x00\x00", 4, 0, 1,
                   [InitialTask(TEXT, 0, (0, 0, 0)), InitialTask(TEXT, 5, (0, 0, 0))])
     REPORT = "fractal 1\n1 0.0 1 0\n2 0.1 1 5\noutput -\nwindow 10000000 0000002a\nend normal\n"
 
     def told(self, text: str, number: int, commits: int = 9) -> str:
+        """What is told of a line of a report; nothing where it is a run's."""
         return disagreement(self.IMAGE, read_front(text, number - 1), read_front(text, number), commits, 99) or ""
 
     def test_a_run_has_none(self) -> None:
