@@ -1,9 +1,9 @@
 # What is wrong with the words of a call of ./fractal, in a sentence. The launcher reads this file where it is there: it
 # hands over its table and what finds rows in it. Without it the program judges the words, and says less.
 
-# The names of all rows of a kind, as `a, b or c`.
+# The names of all rows of a kind, which is a pattern of sed, as `a, b or c`.
 names_of() {
-    table | sed -n "s/^$1|\([^|]*\)|.*/\1/p" | awk '
+    table | sed -n "/^$1|/ { s/^[^|]*|\([^|]*\)|.*/\1/; p; }" | awk '
         { names[NR] = $0 }
         END {
             for (place = 1; place <= NR; place++)
@@ -136,11 +136,15 @@ fault_of_name() {
     case $given in
         *" $1 "*) put "\`--$1\` stands twice." && return ;;
     esac
-    row option "$1" && return 1
+    option_row "$1" && return 1
+    kinds=option
+    [ "$rows_of" != course ] || kinds='\(course-\)\{0,1\}option'
     if [ "$1" = version ]; then
         put "\`--version\` stands alone: $(quoted "$0") --version"
+    elif row course-option "$1"; then
+        put "\`--$1\` belongs to ./fractal watch, and not to \`$command\`."
     else
-        put "$(shown "--$1") is no option, which is --$(names_of option | sed 's/, /, --/g; s/ or / or --/')."
+        put "$(shown "--$1") is no option, which is --$(names_of "$kinds" | sed 's/, /, --/g; s/ or / or --/')."
     fi
 }
 
@@ -217,8 +221,22 @@ fault_of_files() {
     put "no file stands behind \`$command\`: $input comes on standard input, as in: $line"
 }
 
-# Whether a word is a number that the values of a row allow: 1 to 10 digits, leading zeros too.
+# Whether a word is a number that the values of a row allow: 1 to 10 digits, leading zeros too. Where the values are
+# words, it is to be one of these.
 is_allowed() {
+    case $1 in
+        [a-z]*)
+            case $2 in
+                '' | *,*) return 1 ;;
+                *) ;;
+            esac
+            case ,$1, in
+                *",$2,"*) return ;;
+                *) return 1 ;;
+            esac
+            ;;
+        *) ;;
+    esac
     case $2 in
         '' | *[!0-9]* | ???????????*) return 1 ;;
         *) ;;

@@ -5,6 +5,7 @@ from __future__ import annotations
 import collections
 import re
 
+from yotarimu.common.acts import ACTS, replies_of
 from yotarimu.common.outcome import Refusal
 from yotarimu.courses.schedules import read_replies
 from yotarimu.images.image import image_bytes, read_image
@@ -16,11 +17,7 @@ from cases.images import FAULTS
 from cases.shape import TRAPS
 
 ENDS = ("normal", "limit", "open", *(f"trap {cause}" for cause in TRAPS))
-REPLIES = {"dispatch": ("ok", "empty", "busy", "ended"), "step": ("ok", "stall", "stale", "ended"),
-           "take": ("ok", "stale"), "give": ("ok", "stall", "stale", "ended"),
-           "abort": ("ok", "empty", "firm", "ended"), "commit": ("ok", "empty", "ended"),
-           "coalesce": ("ok", "empty", "ended"), "split": ("ok", "empty", "stall", "ended"),
-           "advance": ("moved", "committed", "ended")}
+REPLIES = {act: replies_of(act) for act in ACTS}
 TAKERS = ("dispatch", "step", "give", "abort", "split", "advance")
 EVENTS = ("a dispatch", "an access", "a call", "a leg", "an abort", "a commit", "a coalescing", "a split")
 OPTIONS = ("tiles", "cores", "task-queue", "commit-queue", "line", "quantum", "workers", "commits", "budget", "phase")

@@ -14,7 +14,8 @@ from yotarimu.images.folder import build
 from yotarimu.images.image import DATA, TEXT, Image, InitialTask, image_bytes, read_image
 from yotarimu.images.listing import read_listing
 from yotarimu.images.loads import generate
-from yotarimu.images.serial_machine import Machine, branch_offset, compute, is_met, jump_offset, signed_number
+from yotarimu.images.serial_machine import (
+    Machine, arithmetic, branch_offset, comparison, jump_offset, signed_number)
 from yotarimu.reports.report import Entry, Name
 
 # li a7, 0; ecall.
@@ -75,14 +76,14 @@ class Instructions(unittest.TestCase):
                          [-1, 2047, -2 ** 31])
 
     def test_shifts_and_comparisons(self) -> None:
-        arithmetic, less, less_unsigned = 5, 2, 3
-        self.assertEqual(compute(arithmetic, 0x80000000, 31, True), -1)
-        self.assertEqual(compute(arithmetic, 0x80000000, 31, False), 1)
-        self.assertEqual([compute(kind, 0xFFFFFFFF, 0, False) for kind in (less, less_unsigned)], [True, False])
+        right, less, less_unsigned = 5, 2, 3
+        self.assertEqual(arithmetic(right, True)(0x80000000, 31), -1)
+        self.assertEqual(arithmetic(right, False)(0x80000000, 31), 1)
+        self.assertEqual([arithmetic(kind, False)(0xFFFFFFFF, 0) for kind in (less, less_unsigned)], [True, False])
 
     def test_branches(self) -> None:
         equal, unequal, less, less_unsigned = 0, 1, 4, 6
-        self.assertEqual([is_met(kind, 0xFFFFFFFF, 1) for kind in (equal, unequal, less, less_unsigned)],
+        self.assertEqual([comparison(kind)(0xFFFFFFFF, 1) for kind in (equal, unequal, less, less_unsigned)],
                          [False, True, True, False])
 
     def test_a_report_of_a_run_is_followed(self) -> None:

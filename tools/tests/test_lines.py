@@ -8,9 +8,11 @@ from typing import Any, Callable, Optional
 
 from yotarimu.common.outcome import Refusal
 from yotarimu.common.places import EXAMPLES_FOLDER
-from yotarimu.images.image import Image, read_image
+from yotarimu.images.image import TEXT, Image, read_image
 from yotarimu.lines.dispatch_numbers import DISPATCH_NUMBERS, DispatchNumbers
+from yotarimu.lines.legs import Core, Scratch
 from yotarimu.lines.reader import Reader
+from yotarimu.lines.replay import Task
 from yotarimu.lines.times import UNDISPATCHED, Domain, Time, root
 
 SCHEDULES = EXAMPLES_FOLDER / "schedules"
@@ -99,6 +101,39 @@ class Refusals(unittest.TestCase):
                                          (1, "root", "unordered", "`root`"), (3, "ts", 3, "another one"),
                                          (2, "entry", 65_540, "another one"), (2, "args", [1, 0, 0], "another one")):
             self.refuse("by_hand", field_change(line, field, value), line, part, True)
+
+
+# addi a0, a0, 1, which is straight; ecall, with the number 0 in a7; and j 0, back to itself.
+ADD_ONE, CALL, STAY = 0x00150513, 0x00000073, 0x0000006F
+
+
+def core_of(*words: int) -> Core:
+    """The core of a task that begins at the first of these words."""
+    text = b"".join(word.to_bytes(4, "little") for word in words)
+    line = {"tile": 0, "entry": TEXT, "ts": 0, "args": [0, 0, 0], "hint": 0}
+    return Core(Scratch(Image(True, text, b"", 0, 0, 0, [])), Task(line, None, 0, root(True)))
+
+
+class Legs(unittest.TestCase):
+    """Where legs end that the image's text is replayed for, worked out by counting."""
+
+    def test_a_leg_stops_at_its_quantum_within_straight_instructions(self) -> None:
+        core = core_of(*[ADD_ONE] * 150, CALL)
+        for executed in (7, 14):
+            self.assertEqual(core.leg(7, 1_000), {"leg": 7, "pc": TEXT + 4 * executed, "asks": "go"})
+        self.assertEqual(core.leg(1_000, 1_000), {"leg": 136, "pc": TEXT + 600, "asks": "end"})
+        self.assertEqual((core.registers[10], core.passed), (150, set(range(TEXT + 56, TEXT + 604, 4))))
+
+    def test_a_leg_that_has_its_quantum_goes_on_whatever_comes_then(self) -> None:
+        core = core_of(ADD_ONE, ADD_ONE, CALL)
+        self.assertEqual(core.leg(2, 9), {"leg": 2, "pc": TEXT + 8, "asks": "go"})
+        self.assertEqual(core.leg(2, 9), {"leg": 0, "pc": TEXT + 8, "asks": "end"})
+
+    def test_no_leg_goes_beyond_the_budget_or_the_text(self) -> None:
+        trapped = {"leg": 3, "pc": TEXT + 12, "asks": "trap", "cause": 17}
+        self.assertEqual(core_of(*[ADD_ONE] * 9).leg(64, 3), trapped)
+        self.assertEqual(core_of(*[ADD_ONE] * 3).leg(64, 4), {**trapped, "cause": 1})
+        self.assertEqual(core_of(ADD_ONE, STAY).leg(64, 40), {"leg": 40, "pc": TEXT + 4, "asks": "trap", "cause": 17})
 
 
 class NumberedTask:

@@ -2,12 +2,15 @@
 from __future__ import annotations
 
 import unittest
+import unittest.mock
 
 from yotarimu.common.outcome import Refusal
 from yotarimu.courses.schedules import Act, ActAnswer, is_commit, read_played, read_script
+from yotarimu.images.image import TEXT, Image, InitialTask
 from yotarimu.programs.program import end_of
 from yotarimu.reports.refusals import line_of, report_fault, script_fault
-from yotarimu.reports.report import Entry, Name, Trap, read_report
+from yotarimu.reports.disagreements import disagreement
+from yotarimu.reports.report import Entry, Name, Trap, read_front, read_report
 
 REPORT = "fractal 1\n1 0.0 1 0\n2 1.3 2 7\noutput 4869\nwindow 10000000 000000ff\nend trap 10 00010024 0.1\n"
 
@@ -64,6 +67,43 @@ class Refusals(unittest.TestCase):
 
     def test_lines_are_counted_from_1(self) -> None:
         self.assertEqual([line_of(b"a\n\nb", number) for number in (1, 2, 3, 4)], [b"a", b"", b"b", None])
+
+
+class Disagreements(unittest.TestCase):
+    """The one thing that speaks against a line of a report."""
+
+    # Two tasks that end at once, at the timestamps 0 and 5, and a word of data that stays 42.
+    IMAGE = Image(True, b"\x93\x08\x00\x00\x73\x00\x00\x00", b"\x2a\x00\x00\x00", 4, 0, 1,
+                  [InitialTask(TEXT, 0, (0, 0, 0)), InitialTask(TEXT, 5, (0, 0, 0))])
+    REPORT = "fractal 1\n1 0.0 1 0\n2 0.1 1 5\noutput -\nwindow 10000000 0000002a\nend normal\n"
+
+    def told(self, text: str, number: int, commits: int = 9) -> str:
+        """What is told of a line of a report; nothing where it is a run's."""
+        return disagreement(self.IMAGE, read_front(text, number - 1), read_front(text, number), commits, 99) or ""
+
+    def test_a_run_has_none(self) -> None:
+        for number in (2, 3, 4, 5):
+            self.assertEqual(self.told(self.REPORT, number), "", number)
+
+    def test_the_one_reason_is_told(self) -> None:
+        for old, new, number, part in (
+                ("2 0.1 1 5", "2 0.1 3 5", 3, "its depth is 1"), ("2 0.1 1 5", "2 0.1 1 6", 3, "its timestamp is 5"),
+                ("2 0.1 1 5", "2 0.0 1 0", 3, "took turn 1"), ("2 0.1 1 5", "2 0.2 1 5", 3, "the image has 2 tasks"),
+                ("1 0.0 1 0", "1 0.1 1 5", 2, "the task 0.0 comes before it"),
+                ("2 0.1 1 5", "2 1.0 1 5", 3, "the task of turn 1 made 0 tasks"),
+                ("output -", "output 41", 4, "emitted 0 bytes"), ("0000002a", "0000002b", 5, "holds 0000002a"),
+                ("window 10000000", "window 10000004", 5, "stands at 10000000"),
+                ("end normal", "end limit", 6, "no task is left"), ("2 0.1 1 5\n", "", 5, "one task is left: 0.1")):
+            self.assertIn(part, self.told(self.REPORT.replace(old, new), number), new)
+        self.assertIn("--commits allows 1 tasks", self.told(self.REPORT, 3, 1))
+
+    def test_long_runs_are_not_waited_for(self) -> None:
+        wrong = self.REPORT.replace("end normal", "end limit")
+        # Each task executes two instructions: the second turn isn't taken again.
+        with unittest.mock.patch("yotarimu.reports.disagreements.MOST_STEPS", 2):
+            self.assertEqual(self.told(wrong, 6), "")
+        with unittest.mock.patch("yotarimu.reports.disagreements.MOST_STEPS", 3):
+            self.assertIn("no task is left", self.told(wrong, 6))
 
 
 if __name__ == "__main__":

@@ -22,7 +22,8 @@ MISSHAPEN = (
     ("# image: root ordered now", "root ordered"),
     ("# image: window", "window LABEL [WORDS]"),
     ("# image: window foo", "no label `foo`"),
-    ("# image: window first", "a number of words is wanted"),
+    ("# image: window first", "doesn't tell how large `first` is, so a number of words is wanted"),
+    ("# image: window first 5000", "0 to 4096"),
     ("# image: window foo 1", "no label `foo`"),
     ("# image: window first -1", "0 to 4096"),
     ("# image: window first 3", "ends after the data"),
@@ -191,6 +192,22 @@ def odd_windows_are_refused(place: Place) -> None:
     place.call("fractal build", str(folder)).sentence("task.s:1:", "multiple of 4")
 
 
+def odd_tasks_are_refused(place: Place) -> None:
+    """a task at no multiple of 4 is refused with its line; of another label there explain reads the listing"""
+    odd = "    .byte 1\nodd:\n    li a7, 0\n    ecall\n"
+    folder = folder_with(place, "odd", task=f"# image: task odd\n{END}{odd}")
+    answer = place.call("fractal build", str(folder))
+    answer.sentence("task.s:1: the label `odd` stands at 00010009, and a task begins at a multiple of 4", "`.balign 4`")
+    nothing_is_written(folder)
+    child = "main:\n    la a0, odd\n    li a7, 1\n    ecall\n    li a7, 0\n    ecall\n"
+    folder = folder_with(place, "odd child", task=f"# image: task main\n{child}{odd}")
+    expect(place.call("fractal build", str(folder)).status == 0, "an image")
+    report = b"fractal 1\n1 0.0 1 0\noutput -\nend trap 1 00010019 1.0\n"
+    answer = place.call("fractal explain", str(folder / "image.bin"), "-", stdin=report)
+    for part in ("(odd; timestamp 0", "at 00010019, odd"):
+        expect(part in answer.output.decode(), f"`{part}`", answer)
+
+
 def missing_tasks_are_told(place: Place) -> None:
     """where no line tells a task it says where"""
     for name, text in (("no line", ""), ("no text", DATA)):
@@ -198,6 +215,19 @@ def missing_tasks_are_told(place: Place) -> None:
     folder = folder_with(place, "none", task=END)
     place.call("fractal build", str(folder)).sentence("none/task.s", "no line tells an initial task")
     nothing_is_written(folder)
+
+
+def names_of_sources_are_told(place: Place) -> None:
+    """a label that another source keeps to itself, and one that stands twice, are told with their lines"""
+    for name, sources, parts in (
+            ("kept", {"a": GOOD + "    j other\n", "b": "other:\n    ret\n"},
+             ("a.s:5: `other` is defined at ", "b.s:1, without a line `.globl other`")),
+            ("twice", {"a": GOOD + END}, ("a.s:5: `main` is defined here and at ", "a.s:2.")),
+            ("in two", {name: f"    .globl main\n{GOOD}" for name in "ab"},
+             ("b.s:3: `main` is defined here and at ", "a.s:3;"))):
+        folder = folder_with(place, name, **sources)
+        place.call("fractal build", str(folder)).sentence(*parts)
+        nothing_is_written(folder)
 
 
 def faults_of_the_source_are_told(place: Place) -> None:
@@ -270,8 +300,8 @@ def bad_words_are_refused(place: Place) -> None:
     one_sentence_each([
         (place.call("fractal build", "nowhere"), ["nowhere", "no such folder"]),
         (place.call("fractal build", "--fast"), ["--fast"]),
-        (place.call("fractal build"), ["a FOLDER of sources", "./fractal prove"]),
-        (place.call("fractal build", "--clang"), ["a FOLDER of sources"]),
+        (place.call("fractal build"), ["which FOLDER of sources", "./fractal prove"]),
+        (place.call("fractal build", "--clang"), ["which FOLDER of sources"]),
         (place.call("fractal build", "--all", "hello"), ["--all", "no FOLDER"]),
         (place.call("fractal build", str(empty)), ["empty", "no source"]),
         (place.call("fractal build", ""), ["no such folder"]),
@@ -315,9 +345,8 @@ def interrupts_leave_nothing(place: Place) -> None:
 
 TRIES = (
     examples_are_rebuilt, folders_are_anywhere, sources_are_linked, sections_are_placed, other_sections_are_refused,
-    sections_without_flags_are_refused,
-    misshapen_lines_are_refused, second_lines_are_refused, odd_windows_are_refused, missing_tasks_are_told,
-    faults_of_the_source_are_told, other_machines_are_refused, huge_sections_are_refused, odd_names_are_kept,
-    claimed_sizes_are_bounded, bad_words_are_refused,
-    missing_assembler_is_told, unwritable_folders_are_told, interrupts_leave_nothing,
+    sections_without_flags_are_refused, misshapen_lines_are_refused, second_lines_are_refused, odd_windows_are_refused,
+    odd_tasks_are_refused, missing_tasks_are_told, names_of_sources_are_told, faults_of_the_source_are_told,
+    other_machines_are_refused, huge_sections_are_refused, odd_names_are_kept, claimed_sizes_are_bounded,
+    bad_words_are_refused, missing_assembler_is_told, unwritable_folders_are_told, interrupts_leave_nothing,
 )

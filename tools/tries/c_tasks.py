@@ -25,7 +25,8 @@ REFUSED = {
         "static void helper(uint32_t n) { emit(n); }\nTASK(start) { enqueue(helper, 0, 65); }\n",
         "task.c:4: only a task can be enqueued"),
     "a pointer that is no number": (
-        "uint32_t x;\nTASK(start) { enqueue(start, 0, &x); }\n", "task.c:4:", "a pointer is given as at(pointer)"),
+        "uint32_t x;\nTASK(start, uint32_t *p) { enqueue(start, 0, &x); }\n",
+        "task.c:4:", "a pointer is given as at(pointer)"),
     "a fifth parameter": (
         "TASK(start, uint32_t a, uint32_t b, uint32_t c, uint32_t ts, uint32_t d) { emit(d); }\n",
         "task.c:3: a task has three arguments"),
@@ -35,6 +36,40 @@ REFUSED = {
         "TASK(start, uint64_t a) { emit(a); }\n", "task.c:3: a parameter of a task has 32 bits"),
     "a parameter with a point": (
         "TASK(start, float a) { emit(a); }\n", "task.c:3: a parameter of a task has 32 bits"),
+    "an argument of 64 bits": (
+        "uint64_t x;\nTASK(start, uint32_t a) { enqueue(start, 0, x); }\n",
+        "task.c:4: a child is given numbers of 32 bits"),
+    "a hint of 64 bits": (
+        "uint64_t x;\nTASK(start, uint32_t a) { enqueue_sub(start, 0, a, .hint = x); }\n",
+        "task.c:4: a child is given numbers of 32 bits"),
+    "a constant of 64 bits": (
+        "TASK(start, uint32_t a) { enqueue_super(start, 1ull << 40, a); }\n",
+        "task.c:3: a child is given numbers of 32 bits"),
+    "a timestamp with a point": (
+        "float x;\nTASK(start, uint32_t a) { enqueue(start, x * 3, a); }\n",
+        "task.c:4: a child is given numbers of 32 bits"),
+    "an argument with a point": (
+        "double x;\nTASK(start, uint32_t a) { enqueue(start, 0, x); }\n",
+        "task.c:4: a child is given numbers of 32 bits"),
+    "an end of 64 bits": (
+        "uint64_t x;\nTASK(start, uint32_t a, uint32_t b) { if (spread(start, a, a, x)) return; }\n",
+        "task.c:4: a child is given numbers of 32 bits"),
+    "more arguments than parameters": (
+        "TASK(start, uint32_t a) { enqueue(start, 0, a, 2); }\n",
+        "task.c:3: the task `start` has fewer parameters than it is given arguments"),
+    "an argument of a task without parameters": (
+        "TASK(start) { enqueue(start, 0, 0, .hint = 3); }\n",
+        "task.c:3: the task `start` has fewer parameters than it is given arguments"),
+    "a hint without its name": (
+        "TASK(start, uint32_t a, uint32_t b, uint32_t c) { enqueue(start, 0, a, b, c, 4); }\n",
+        "task.c:3: a child has a timestamp and up to three arguments, and a hint is given as .hint = h"),
+    "a range for a task of one parameter": (
+        "TASK(start, uint32_t a) { if (spread(start, a, a, 100)) return; }\n",
+        "task.c:3: the task `start` has fewer parameters"),
+    "a task that is defined below": (
+        "TASK(start) { enqueue(later, 0); }\nTASK(later) { }\n", "task.c:3:", "`extern task_entry later;` above this"),
+    "two tasks of one name": (
+        "TASK(start) { }\nTASK(start) { }\n", "task.c:4:", "one TASK defines a task"),
     "a call of printf": (
         'TASK(start) { printf("%d", 3); }\n', "task.c:3:", "emit_text and emit_number write"),
     "a header of the C library": (
@@ -80,7 +115,7 @@ REFUSED = {
         "task.c:3: the label `b` doesn't stand at a multiple of 4: __attribute__((aligned(4))) helps"),
     "a window that is too large": (
         "// image: window x\nuint32_t x[5000];\nTASK(start) { emit(x[3]++); }\n",
-        "task.c:3: `x` has 20,000 bytes, so a number of words is wanted"),
+        "task.c:3: `x` has 20,000 bytes, and a window up to 4,096 words, so a number of words is wanted"),
     "a version that isn't there": (
         "// image: version 3\nTASK(start) { }\n", "task.c:3: this isn't `// image: version 1` or"),
     "a line without a colon": (
@@ -115,6 +150,8 @@ NOTED = {
         "static void one(void) { emit('a'); }\nstatic void two(void) { emit('b'); }\n"
         "static void (*const calls[2])(void) = {one, two};\nTASK(start, uint32_t n) { calls[n & 1](); emit('.'); }\n",
         "task.c:6: `start_body` calls by a pointer"),
+    "a constant 0 below a line": (
+        "uint32_t r;\nTASK(start, uint32_t a) { r = a / 0; }\n", "task.c:4: division by zero"),
     "an unused variable": ("TASK(start) { uint32_t x; }\n", "task.c:3: unused variable 'x' (a warning)."),
 }
 # Sources whose run ends in a trap, and what ./fractal explain tells of it beside the line.
@@ -181,6 +218,12 @@ SILENT = {
         "TASK(late, uint32_t letter) { emit(letter); }\n"
         "TASK(start, uint32_t, uint32_t, uint32_t, uint32_t ts)\n"
         "{\n    enqueue(late, ts - 1, 'b');\n    enqueue(late, 5, 'a');\n}\n", "ab", None),
+    "a quotient by 0": (
+        "// image: window seen\nuint32_t seen = 9;\nTASK(divide, uint32_t a, uint32_t b) { seen = a / b; }\n"
+        "TASK(start) { enqueue(divide, 0, 100, 0); }\n", "", 0xFFFFFFFF),
+    "a remainder by 0": (
+        "// image: window seen\nuint32_t seen = 9;\nTASK(divide, uint32_t a, uint32_t b) { seen = a % b; }\n"
+        "TASK(start) { enqueue(divide, 0, 100, 0); }\n", "", 100),
     "timestamps of an unordered domain": (
         "// image: root unordered\nTASK(late, uint32_t letter) { emit(letter); }\n"
         "TASK(start) { enqueue(late, 2, 'b', .hint = 0); enqueue(late, 1, 'a', .hint = 1); }\n", "ba", None),
@@ -318,6 +361,87 @@ def mistakes_in_c_are_refused(place: Place) -> None:
     expect(not any(place.temporary.iterdir()), "no temporary file")
 
 
+def arguments_in_c_are_taken(place: Place) -> None:
+    """a child takes numbers of each type up to 32 bits, as many as its task has parameters, in C and in C++"""
+    text = FIRST_LINES + """extern task_entry unknown;
+int8_t small; long whole; enum { A, B } kind; uint64_t wide; char letter; uint32_t x;
+TASK(none) { x++; }
+TASK(one, uint32_t a) { x += a; }
+TASK(three, uint32_t a, uint32_t b, uint32_t c) { x += a + b + c; }
+TASK(four, uint32_t a, uint32_t b, uint32_t c, uint32_t ts) { x += a + b + c + ts; }
+TASK(start, uint32_t place, uint32_t end)
+{
+    if (spread(start, place, place, end))
+        return;
+    enqueue(none, -1);
+    enqueue(none, 0, .hint = small);
+    enqueue(one, whole);
+    enqueue(one, letter, kind);
+    enqueue(one, 5, at(&x), .hint = letter);
+    enqueue(three, 0, 'a', x ? 1 : 2, end / 3u, .hint = place);
+    enqueue(four, 0, 1, 2, 3, .hint = 4);
+    enqueue(four, 0);
+    enqueue(unknown, 0, 1, 2, 3);
+    enqueue(x ? one : three, 0, 1, 2, 3);
+    enqueue(one, (uint32_t)wide, (uint32_t)(wide >> 32));
+}
+TASK(unknown) { }
+"""
+    for words in COMPILERS:
+        for suffix in (".c", ".cpp"):
+            folder = folder_with(place, "-".join(["taken", suffix, *words]))
+            (folder / f"task{suffix}").write_text(text)
+            answer = place.call("fractal build", *words, str(folder))
+            expect((answer.status, answer.errors) == (0, ""), f"an image of {suffix} by {words or GCC}", answer)
+
+
+def arguments_in_cpp_are_refused(place: Place) -> None:
+    """in C++ too an argument of 64 bits, one with a point, and one too many are told with their lines"""
+    for words in COMPILERS:
+        for number, (call, part) in enumerate((
+                ("enqueue(one, 0, wide)", "a child is given numbers of 32 bits"),
+                ("enqueue(one, 0, 1, .hint = wide)", "a child is given numbers of 32 bits"),
+                ("enqueue(one, point)", "a child is given numbers of 32 bits"),
+                ("enqueue(one, 0, 1, 2)", "the task `one` has fewer parameters than it is given arguments"),
+                ("enqueue(one, 0, 1, 2, 3, 4)", "a child has a timestamp and up to three arguments"))):
+            folder = folder_with(place, "-".join([str(number), *words]))
+            (folder / "task.cpp").write_text(FIRST_LINES + "uint64_t wide;\ndouble point;\nTASK(one, uint32_t) { }\n"
+                                             f"TASK(start)\n{{\n    {call};\n}}\n")
+            answer = place.call("fractal build", *words, str(folder))
+            expect(answer.status == 1, f"a refusal of {call}", answer)
+            answer.tells(f"task.cpp:8: {part}")
+            nothing_is_written(folder)
+
+
+def names_of_several_sources_are_told(place: Place) -> None:
+    """a name that another source keeps to itself, and one that two define, are told with their places"""
+    sources = {
+        "task.c": FIRST_LINES + "extern task_entry other, kept;\nvoid own(void);\n"
+                                "TASK(start) { enqueue(other, 0); enqueue(kept, 0); own(); }\n",
+        "more.c": '#include "task.h"\nuint32_t x;\nstatic void own(void) { x++; }\nTASK(more) { own(); }\n',
+        "by_hand.s": "    .text\nother:\n    li a7, 0\n    ecall\n"}
+    twice = {
+        "task.c": FIRST_LINES + "uint32_t x;\nTASK(start) { emit(x++); }\nTASK(same) { }\n",
+        "more.c": '#include "task.h"\nuint32_t x = 3;\nTASK(same) { x++; }\n',
+        "by_hand.s": "    .globl more\nmore:\n    ret\n", "other.s": "    .globl more\nmore:\n    ret\n"}
+    for words in COMPILERS:
+        for name, files, parts in (
+                ("kept", sources, ("task.c:5: `other` is defined at ", "by_hand.s:2, without a line `.globl other`",
+                                   "task.c:5: `kept` is defined nowhere.",
+                                   "task.c:5: `own` is defined at ", "more.c:3, as `static`")),
+                ("twice", twice, ("task.c:3: `x` is defined here and at ", "more.c:2;", "more.c:3;",
+                                  "task.c:5: `same` is defined here", "other.s:2: `more` is defined here and at ",
+                                  "by_hand.s:2;"))):
+            folder = folder_with(place, "-".join([name, *words]))
+            for file, text in files.items():
+                (folder / file).write_text(text)
+            answer = place.call("fractal build", *words, str(folder))
+            expect(answer.status == 1, f"a refusal of {name}", answer)
+            answer.tells(*parts)
+            expect("multiple definition" not in answer.errors, "no text of the linker", answer)
+            nothing_is_written(folder)
+
+
 def doubts_in_c_are_noted(place: Place) -> None:
     """what may be wrong is told in a note, and built all the same"""
     for words in COMPILERS:
@@ -452,6 +576,26 @@ def large_programs_are_held_against_plain_ones(place: Place) -> None:
     place.is_clean()
 
 
+def interrupted_large_programs_are_made_again(place: Place) -> None:
+    """a large program that was interrupted is made by the same words; other words and other files are refused"""
+    place.needs_program()
+    folder, mark = place.root / "large", place.root / "mark"
+    waiting = place.stub(place.root / "waiting", f"touch '{mark}'; exec sleep 100\n")
+    words = ("fractal large", "roads", str(folder), "--size", "60")
+    answer = place.interrupt(*words, "--program", str(waiting), ready=mark.exists)
+    answer.sentence("interrupted", status=130)
+    expect((folder / "task.c").is_file(), "sources")
+    (folder / "listing").unlink()
+    (folder / "plain" / "plain.c").unlink()
+    for _ in range(2):
+        answer = place.call(*words)
+        expect((answer.status, answer.errors) == (0, ""), "a whole call", answer)
+    place.call(*words[:-1], "61").sentence("not empty", "than the same words left there")
+    (folder / "notes").write_text("mine")
+    place.call(*words).sentence("not empty", "than the same words left there")
+    expect((folder / "notes").read_text() == "mine", "the file of another")
+
+
 def other_results_of_large_programs_are_told(place: Place) -> None:
     """a result that isn't the plain program's, and a report that is refused, are told in a sentence"""
     place.needs_program()
@@ -515,9 +659,11 @@ def large_refuses_bad_words(place: Place) -> None:
 
 TRIES = (
     examples_in_c_are_one_for_both_compilers, c_and_assembly_are_one, what_needs_no_stack_runs_in_version_1,
-    sources_are_mixed, calls_keep_arguments_apart, mistakes_in_c_are_refused, doubts_in_c_are_noted,
-    traps_in_c_are_explained, silent_mistakes_are_silent, ties_come_in_any_order, scratch_of_all_conflicts,
-    packed_structs_are_read, traps_are_explained_from_sources, long_ways_are_counted, missing_compilers_are_told,
-    missing_libgcc_is_told, large_programs_are_held_against_plain_ones, other_results_of_large_programs_are_told,
-    other_programs_of_large_are_told, missing_compilers_leave_no_folder, large_refuses_bad_words,
+    sources_are_mixed, calls_keep_arguments_apart, mistakes_in_c_are_refused, arguments_in_c_are_taken,
+    arguments_in_cpp_are_refused, names_of_several_sources_are_told, doubts_in_c_are_noted, traps_in_c_are_explained,
+    silent_mistakes_are_silent, ties_come_in_any_order, scratch_of_all_conflicts, packed_structs_are_read,
+    traps_are_explained_from_sources, long_ways_are_counted, missing_compilers_are_told, missing_libgcc_is_told,
+    large_programs_are_held_against_plain_ones, other_results_of_large_programs_are_told,
+    interrupted_large_programs_are_made_again, other_programs_of_large_are_told, missing_compilers_leave_no_folder,
+    large_refuses_bad_words,
 )

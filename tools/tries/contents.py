@@ -66,10 +66,14 @@ TASK(feed, uint32_t place, uint32_t end)
 TASK(start) { enqueue(feed, 1, 0, 40); }
 """
 REFUSED_IN_CPP = {
-    "a pointer": ("uint32_t x;\nTASK(start) { enqueue(start, 0, &x); }\n", "task.cpp:4: a pointer is given as at"),
-    "64 bits": ("TASK(start) { enqueue(start, 0, 5ull); }\n", "task.cpp:3: a child is given numbers of 32 bits"),
-    "a point": ("TASK(start) { enqueue(start, 0, 1.5f); }\n", "task.cpp:3: a child is given numbers of 32 bits"),
-    "too many": ("TASK(start) { enqueue(start, 0, 1, 2, 3, 4, 5); }\n", "task.cpp:3:", "a timestamp, three arguments"),
+    "a pointer": ("uint32_t x;\nTASK(start, uint32_t) { enqueue(start, 0, &x); }\n",
+                  "task.cpp:4: a pointer is given as at"),
+    "64 bits": ("TASK(start, uint32_t) { enqueue(start, 0, 5ull); }\n",
+                "task.cpp:3: a child is given numbers of 32 bits"),
+    "a point": ("TASK(start, uint32_t) { enqueue(start, 0, 1.5f); }\n",
+                "task.cpp:3: a child is given numbers of 32 bits"),
+    "too many": ("TASK(start) { enqueue(start, 0, 1, 2, 3, 4, 5); }\n",
+                 "task.cpp:3:", "a timestamp and up to three arguments"),
     "a function": ("void f() {}\nTASK(start) { enqueue(f, 0); }\n", "task.cpp:4: only a task can be enqueued"),
     "a byte": ("TASK(start, char c) { emit(c); }\n", "task.cpp:3: a parameter of a task has 32 bits"),
     "a fifth": ("TASK(start, int, int, int, int, int) { }\n", "task.cpp:3: a task has three arguments"),

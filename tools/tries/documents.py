@@ -29,6 +29,7 @@ LEFT_OUT = {
     "./fractal study chain/image.bin": "chain and tree stand for images of one's own",
     "./fractal applications table": "it takes minutes; one application is tried with the tool",
     ". <(": "it is for a shell at a terminal",
+    "./fractal exercise /tmp/mine": "it wants an exercise of one's own, which is tried with the tool",
     "./fractal large roads /tmp/roads": "it takes minutes; smaller ones are tried with the tool",
 }
 # The page whose tables one command makes again, which is tried by itself, and takes minutes as a whole.
@@ -42,7 +43,7 @@ STATUSES = {"cp -r examples/exercises/": 1, "./fractal run --commits 1 ": 4, "he
 # What no command of a document is to be answered.
 FAULTS = ("Traceback", "not found", "o such file", "isn't known")
 # What a reader writes first, by the block that wants it.
-ANSWERS = {"./fractal exercise journal /tmp/journal": "journal"}
+ANSWERS = {"./fractal exercise journal /tmp/journal": "journal", "./fractal exercise why /tmp/why": "why"}
 
 
 class Block(NamedTuple):

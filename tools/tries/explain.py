@@ -33,6 +33,46 @@ def traps_are_explained(place: Place) -> None:
             expect(part in answer.output.decode(), f"`{part}`", answer)
 
 
+def reasons_of_traps_are_told(place: Place) -> None:
+    """a timestamp in the past is told with the least that may stand there, and a task that begins at no instruction"""
+    head = "# image: root ordered\n# image: task main ts 5\nmain:\n"
+    end = "    li a7, 0\n    ecall\n"
+    below_floor = ("    li a7, 4\n    li a0, 1\n    ecall\n    la a0, inner\n    li a1, 2\n    li a7, 2\n    ecall\n"
+                   + end + "inner:\n    la a0, main\n    li a1, 4\n    li a7, 3\n    ecall\n" + end)
+    for name, text, report, parts in (
+            ("past", "    la a0, main\n    addi a1, a3, -1\n    li a7, 1\n    ecall\n" + end,
+             "end trap 10 00010010 0.0", ("timestamp 4 was asked for, and 5 is the least, the task's own",)),
+            ("floor", below_floor, "end trap 10 00010038 1.0",
+             ("timestamp 4 was asked for, and 5 is the least, the floor: that of the task that made the subdomain",)),
+            ("entry", "    li a0, 8\n    li a7, 1\n    li a1, 6\n    ecall\n" + end, "end trap 1 00000008 1.0",
+             ("the task begins there: its creator gave it this entry address, which is outside of the text",
+              "registers a3 00000006")),
+            ("behind", "    nop\n", "end trap 1 00010004 0.0", ("at 00010004, main+4", "registers a3 00000005"))):
+        folder = folder_with(place, name, task=head + text)
+        expect(place.call("fractal build", str(folder)).status == 0, f"an image of {name}")
+        turns = "1 0.0 1 5\n" if report.endswith("1.0") else ""
+        given = f"fractal 1\n{turns}output -\n{report}\n".encode()
+        answer = place.call("fractal explain", str(folder / "image.bin"), "-", stdin=given)
+        for part in parts:
+            expect(part in answer.output.decode(), f"`{part}` of {name}", answer)
+        expect(("begins there" in answer.output.decode()) == (name == "entry"), f"where {name} begins", answer)
+        told = json.loads(place.call("fractal explain", str(folder / "image.bin"), "-", "--json", stdin=given).output)
+        least = 5 if name in ("past", "floor") else None
+        expect((told["end"]["least_timestamp"], told["end"]["begins_at_pc"]) == (least, name == "entry"), "JSON", told)
+
+
+def all_registers_are_told(place: Place) -> None:
+    """with --registers each register of a trap is told, by its number and its name; else those that aren't 0"""
+    image, report = files_of(place, "trap")
+    text = place.call("fractal explain", image, report, "--registers").output.decode()
+    told = dict(re.findall(r"\b(x[0-9]+) +[a-z0-9]+ +([0-9a-f]{8})\b", text))
+    expect(list(told) == [f"x{number}" for number in range(32)], "32 registers", text)
+    expect((told["x10"], told["x11"], told["x13"], told["x17"]) == ("00010000", "00000006", "00000007", "00000001")
+           and sum(value != "00000000" for value in told.values()) == 4, "their values", text)
+    expect("all others are 0" in place.call("fractal explain", image, report).output.decode(), "the others, else")
+    place.call("fractal explain", image, report, "--registers", "--json").sentence("--registers, or none")
+
+
 def each_instruction_has_its_line(place: Place) -> None:
     """each instruction of a listing has its source line, also the second one of a line, where a trap names it"""
     for name in EXAMPLES:
@@ -124,7 +164,7 @@ def explanations_are_for_programs(place: Place) -> None:
     expect("depth 2" in json.loads(answer.output)["meaning"], "a fault in words", answer)
     one_sentence_each([
         (place.call("fractal explain", image, "-", "--csv", stdin=b"fault nested 2\n"), ["has no tasks", "depth 2"]),
-        (place.call("fractal explain", image, report, "--csv", "--json"), ["--picture, --json and --csv"]),
+        (place.call("fractal explain", image, report, "--csv", "--json"), ["--picture, --json, --csv and --registers"]),
     ])
 
 
@@ -147,6 +187,27 @@ def one_task_is_explained(place: Place) -> None:
     told = json.loads(answer.output)
     expect((told["label"], told["turn"], told["instructions"]) == ("bad", None, 4), "the task that traps", told)
     expect((told["trap"]["cause"], told["trap"]["registers"]["a1"]) == (10, 6), "its trap", told)
+    expect((told["trap"]["least_timestamp"], told["trap"]["begins_at_pc"]) == (7, False), "why it traps", told)
+    text = place.call(explain, *files_of(place, "trap"), "--task", "0.1", "--registers").output.decode()
+    for part in ("timestamp 6 was asked for, and 7 is the least, the task's own", "x11 a1   00000006",
+                 "x31 t6   00000000"):
+        expect(part in text, f"`{part}`", text)
+
+
+def one_task_has_its_budget(place: Place) -> None:
+    """--task with the budget of the run tells a trap by it, and refuses one that ends otherwise than told"""
+    explain, (image, _) = "fractal explain", files_of(place, "trap")
+    report = b"fractal 1\noutput -\nend trap 17 00010004 0.0\n"
+    words = explain, image, "-", "--task", "0.0"
+    told = json.loads(place.call(*words, "--json", "--budget", "1", stdin=report).output)
+    expect((told["trap"]["cause"], told["instructions"]) == (17, 1), "the trap by the budget", told)
+    for budget in ((), ("--budget", "2")):
+        place.call(*words, *budget, stdin=report).sentence("doesn't end as the report tells")
+
+
+def one_task_wants_right_words(place: Place) -> None:
+    """beside --task bad names, options, programs and files are told in a sentence"""
+    explain, (image, report) = "fractal explain", files_of(place, "nested")
     one_sentence_each([
         (place.call(explain, image, report, "--task"), ["a value is missing"]),
         (place.call(explain, image, report, "--task", "7"), ["a name as reports have it", "`7`"]),
@@ -196,17 +257,23 @@ def endless_windows_are_refused(place: Place) -> None:
 
 
 def closed_pipes_are_borne(place: Place) -> None:
-    """a reader that goes away, a full disk and a closed standard output are told in a sentence"""
+    """a full disk and a closed standard output are told in a sentence; a reader that goes away is borne in silence"""
     image, report = files_of(place, "nested")
-    for target, part in (("| exec sh -c :", "nobody reads"), (">/dev/full", "no space"), (">&-", "closed")):
-        script = f'"$0" explain "$1" "$2" {target}'
+    for target, part in ((">/dev/full", "no space"), (">&-", "closed")):
+        place.by_shell(f'"$0" explain "$1" "$2" {target}; exit 1', image, report).sentence(part)
+    status = place.root / "status"
+    for words in ("explain '{image}' '{report}'", "explain --help", "build --help", "tries --help", "help", "table",
+                  "generate walk 7 20", "help run"):
+        call = words.format(image=image, report=report)
         # The reader has gone before the script, which takes longer to begin, writes.
-        answer = place.by_shell(f"{script}; exit 1", image, report)
-        answer.sentence(part)
+        answer = place.by_shell(f'{{ sleep 1; "$0" {call}; echo $? >"$1"; }} | exec sh -c :', status)
+        expect((answer.status, answer.errors) == (0, ""), f"silence of {words}", answer)
+        expect(status.read_text().strip() in ("0", "141"), f"status 0 or 141 of {words}", status.read_text())
 
 
 TRIES = (
-    reports_are_explained, traps_are_explained, each_instruction_has_its_line, pictures_are_drawn,
-    faults_are_explained, other_runs_are_refused, played_scripts_are_explained, explanations_are_for_programs,
-    one_task_is_explained, explain_refuses_bad_files, endless_windows_are_refused, closed_pipes_are_borne,
+    reports_are_explained, traps_are_explained, reasons_of_traps_are_told, all_registers_are_told,
+    each_instruction_has_its_line, pictures_are_drawn, faults_are_explained, other_runs_are_refused,
+    played_scripts_are_explained, explanations_are_for_programs, one_task_is_explained, one_task_has_its_budget,
+    one_task_wants_right_words, explain_refuses_bad_files, endless_windows_are_refused, closed_pipes_are_borne,
 )

@@ -128,6 +128,7 @@ def each_fails_the_gate(place: Place) -> None:
         answer = place.call(".ci/run", cwd="/")
         expect(answer.status == wanted, f"status {wanted}", answer)
         expect((b"columns" in answer.output) == is_wide, "a line that is told where it is too wide", answer)
+        expect(("stored answers: ./fractal prove" in answer.errors) != is_built, "what was left out", answer)
     expect(set((place.root / "words").read_text().split("\n")) == {"ci", ""}, "plain rt ci")
 
 
@@ -166,6 +167,28 @@ def odd_sources_are_told(place: Place) -> None:
     place.call(".ci/lint").sentence(edit.name, "no text in UTF-8")
 
 
+def lists_are_held(place: Place) -> None:
+    """an act, an option, a command, a course or a status that one list has and another hasn't fails the lint"""
+    for path, old, new, told in (
+            ("docs/guest/FORMATS.md", "| `coalesce t` |", "| `coalesced t` |", "has no `coalesce`, which is an act"),
+            ("docs/guest/FORMATS.md", "| `--quantum` (plain instructions of a leg) | 1 to 1,024 |",
+             "| `--quantum` (plain instructions of a leg) | 1 to 1,025 |", "--quantum is `1 to 1,025 | 64`"),
+            ("fractal", "option|phase|", "option|phases|", "has `phase`, which isn't an option"),
+            ("fractal", "command|trace|", "command|traces|", "SHOWN has `trace`, which isn't a command"),
+            ("fractal", "course|least|", "course|last|", "COURSES has `least`, which isn't a course"),
+            ("fractal", "status|13|", "status|14|", "has `13`, which isn't a status"),
+            ("tools/yotarimu/web/page/live.js", "coalesce: 1", "coalesce: 2", "actWords has no `coalesce: 1`"),
+            ("tools/yotarimu/common/sentences.json", '"coalesce": "Tile {tile} is to', '"coal": "Tile {tile} is to',
+             "wishes has no `coalesce`")):
+        file = place.clone / path
+        text = file.read_text()
+        expect(text.count(old) == 1, f"`{old}` once in {path}")
+        file.write_text(text.replace(old, new))
+        answer = place.call(".ci/lint")
+        expect(answer.status == 1 and told in answer.output.decode(), told, answer)
+        file.write_text(text)
+
+
 def clones_that_fail_are_told(place: Place) -> None:
     """where no clone can be made, the tries say so and leave nothing"""
     shutil.rmtree(place.clone / ".git")
@@ -175,5 +198,6 @@ def clones_that_fail_are_told(place: Place) -> None:
 
 TRIES = (
     accepted_examples_are_named, one_unproved_run_plays_all, other_reports_fail, worked_lines_are_held,
-    lying_programs_fail, each_fails_the_gate, wide_lines_only_fall, odd_sources_are_told, clones_that_fail_are_told,
+    lying_programs_fail, each_fails_the_gate, wide_lines_only_fall, odd_sources_are_told, lists_are_held,
+    clones_that_fail_are_told,
 )

@@ -11,7 +11,17 @@ from yotarimu.programs.table import Table
 from tries.launcher import HELLO, image_of
 from tries.place import Answer, Place, expect, need_built, one_sentence_each
 
-EXERCISES = ("journal", "abort", "stall", "false_conflict", "order")
+EXERCISES = ("journal", "abort", "stall", "false_conflict", "order", "domains", "why")
+# Of an exercise of one's own, the one that wants a task taken back: what is wanted, and what is told of its answer.
+OWN = (("taken 1..\ncommits 3\nend normal\n", "right: what is wanted holds, 3 lines"),
+       ("reply ok 1..\nacts ..20\ndepth 1\noutput\n", "right: what is wanted holds, 4 lines"),
+       ("end normal\ntaken 2\n", "wrong: `taken 2` is wanted by line 3, and here it is 1"),
+       ("end trap\n", "wrong: `end trap` is wanted by line 2, and here it is normal"))
+# A file `wanted` that is none, and what is told of it.
+NOT_WANTED = (("taken 1\n", "no line `answer`"), ("answer sauce\n", "wanted:1: `answer` stands once"),
+              ("answer script\ndance 1\n", "wanted:2: `dance` is no condition"),
+              ("answer script\ntaken one\n", "wanted:2: `taken one` isn't whole"),
+              ("answer script\nreply yes 1\n", "wanted:2: `reply yes 1` isn't whole"))
 # An rt that builds a program, by the folder that it is called in, by copying.
 STUB_BUILD = """cat >/dev/null; mkdir -p out; cp '{}'/"${{PWD##*/}}"/out/"${{PWD##*/}}" out/\n"""
 
@@ -55,6 +65,7 @@ def packages_run_elsewhere(place: Place) -> None:
     answer = place.call("fractal", "watch", "least", stdin=image_of(place, "hello"))
     expect(answer.output.startswith(b'{"watch":1,') and answer.errors == "", "the second program's lines", answer)
     expect((place.clone / "fractal.html").is_file(), "the machine in a page")
+    place.call("fractal", "build").sentence("which FOLDER of sources is to be built?", "programs are there already")
     for word in ("prove", "package"):
         expect(place.call("fractal", word).status == 69, f"that {word} wants a clone")
 
@@ -186,14 +197,15 @@ def exercises_are_judged(place: Place) -> None:
         if path.name in ("image.bin", "listing"):
             path.unlink()
     place.is_clean()
-    for name in ("false_conflict", "order"):
+    for name in ("false_conflict", "order", "domains"):
         answer = place.call(exercise, name, str(folder / name))
         expect(answer.status == 1 and answer.output.startswith(b"wrong: "), f"a wrong answer to {name}", answer)
     place.call(exercise, "order", "").sentence("no such folder")
+    own_exercises(place, exercise)
     wrong_files(place, exercise)
     one_sentence_each([
         (place.call(exercise), ["an exercise and the FILE"]),
-        (place.call(exercise, "six", "x"), ["`six`", "journal, abort"]),
+        (place.call(exercise, "eight", "x"), ["`eight`", "journal, abort"]),
         (place.call(exercise, "journal", "nowhere"), ["nowhere", "no such file"]),
         (place.call(exercise, "order", "nowhere"), ["nowhere", "no such folder"]),
         (place.call(exercise, "journal", str(place.clone / "README.md")), ["README.md:3:", "no line of a journal"]),
@@ -209,13 +221,68 @@ def wrong_files(place: Place, exercise: str) -> None:
             ("journal", "1 0.0 1 0\n2 1.2 1 9\n", "line 2: the depth"),
             ("journal", "1 0.0 1 0\n2 1.2 2 9\n3 1.1 1 1\n4 0.1 1 2\n5 1.0 1 3\n6 0.2 1 4\n", "only 5 tasks"),
             ("abort", "commit\n", "no act takes"), ("abort", stepped, "hasn't come to its end"),
-            ("abort", "# no\n", "no act"),
+            ("abort", "# no\n", "no act"), ("why", "12 0.1 byte 0.0\n", "1 tasks are told, and more were"),
+            ("why", "11 0.1 byte 0.0\n", "line 1: act 11 doesn't take 0.1 back"),
+            ("why", "12 0.4 byte 0.0\n", "line 1: act 12 doesn't take 0.4 back"),
+            ("why", "12 0.1 line 0.0\n", "line 1: 0.1 was taken back, but `line` isn't why"),
+            ("why", "12 0.2 touched 0.0\n", "line 1: 0.2 was taken back for that reason, but by another task"),
+            ("why", "12 0.1 byte 0.0\n12 0.1 byte 0.0\n", "line 2: 0.1 stands twice"),
             ("abort", "dispatch 0\nabort 0\n", "no act takes"), ("stall", "commit\n", "answered `stall`"),
             ("stall", "dispatch 0\ndispatch 0\nstep 0 0\nstep 0 1\n", "hasn't come to its end")):
         (place.root / "answer").write_text(text)
         answer = place.call(exercise, name, "answer")
         told = answer.output.decode()
         expect(answer.status == 1 and told.startswith("wrong: ") and part in told, part, answer)
+
+
+def own_exercises(place: Place, exercise: str) -> None:
+    """Holds an exercise of one's own to be judged by its file `wanted`."""
+    folder, mine = place.clone / "examples" / "exercises", place.root / "mine"
+    shutil.copytree(folder / "abort", mine)
+    right = str(folder / "answers" / "abort")
+    place.call(exercise, str(mine), right).sentence("wanted: no such file")
+    for text, told in OWN:
+        (mine / "wanted").write_text(f"answer script  # mine\n{text}")
+        answer = place.call(exercise, str(mine), right)
+        expect(answer.output.decode().startswith(told) and answer.errors == "", told, answer)
+    for text, told in NOT_WANTED:
+        (mine / "wanted").write_text(text)
+        place.call(exercise, str(mine), right).sentence(told)
+    (mine / "wanted").write_text("answer journal\n")
+    shutil.copy(folder / "journal" / "image.bin", mine)
+    answer = place.call(exercise, str(mine), str(folder / "answers" / "journal"))
+    expect(answer.output.startswith(b"right: 5 tasks"), "a journal of one's own", answer)
+
+
+def releases_are_made_once(place: Place) -> None:
+    """a release has archive, page, what is new and a checksum of each, and a tag; it is made once, and whole or not"""
+    place.environment.update({f"GIT_COMMITTER_{name}": "a" for name in ("NAME", "EMAIL")})
+    place.call(".ci/release").sentence("fractal_sim isn't built", status=70)
+    build(place)
+    folder = place.root / "releases"
+    folder.mkdir()
+    answer = place.call(".ci/release", str(folder))
+    expect((answer.status, answer.errors) == (0, ""), "a release", answer)
+    made, = folder.iterdir()
+    version = Table().version
+    expect(made.name == f"fractal-{version}", "its name", made)
+    names = {path.name for path in made.iterdir()}
+    archive, = made.glob("*.tar.gz")
+    expect(names - {"fractal.mjs"} == {archive.name, "fractal.html", "CHANGES.md", "SHA256SUMS"}, "its files", names)
+    done = subprocess.run(["sha256sum", "-c", "SHA256SUMS"], cwd=made, capture_output=True)
+    expect(done.returncode == 0 and done.stdout.count(b": OK") == len(names) - 1, "the checksums", done)
+    new = (made / "CHANGES.md").read_text()
+    expect(new.startswith(f"## {version}, ") and new.count("\n## ") == 0, "the newest part alone", new[:200])
+    told = subprocess.run(["git", "-C", place.clone, "tag", "-l", "-n9", f"v{version}"], capture_output=True, text=True)
+    expect(archive.name in told.stdout, "a tag with the checksums", told)
+    place.call(".ci/release", str(folder)).sentence("is there already", status=69)
+    shutil.rmtree(made)
+    place.call(".ci/release", str(folder)).sentence(f"its tag v{version} is there", status=69)
+    one_sentence_each([(place.call(".ci/release", "--fast"), ["`--fast`"]),
+                       (place.call(".ci/release", "one", "two"), ["one FOLDER"])])
+    place.call(".ci/release", "nowhere").sentence("nowhere", "no such folder", status=69)
+    expect(not any(folder.iterdir()), "nothing half made", list(folder.iterdir()))
+    place.is_clean()
 
 
 def exercises_are_rebuilt(place: Place) -> None:
@@ -227,5 +294,5 @@ def exercises_are_rebuilt(place: Place) -> None:
 
 TRIES = (
     packages_run_elsewhere, packages_are_installed, packages_are_of_one_commit, shells_are_helped, exercises_are_judged,
-    exercises_are_rebuilt,
+    exercises_are_rebuilt, releases_are_made_once,
 )

@@ -2,6 +2,7 @@
 from __future__ import annotations
 
 import html.parser
+import itertools
 import json
 import os
 import pathlib
@@ -9,6 +10,8 @@ import shutil
 from collections.abc import Sequence
 from typing import Any, Callable, Optional, Union
 
+from yotarimu.images.listing import NO_LISTING, Listing
+from yotarimu.lines.orders import order_told, task_told
 from yotarimu.lines.reader import open_lines
 from yotarimu.lines.sentences import label_of
 from yotarimu.pictures.page import Totals
@@ -48,6 +51,15 @@ PRESS = """<script>
 document.body.dataset.seen = JSON.stringify(%s.map((key) => {
   document.body.dispatchEvent(new KeyboardEvent("keydown", {key, bubbles: true, cancelable: true}));
   return Number(document.body.dataset.at);
+}));
+</script></body>"""
+# Goes to each act, and notes of each two tasks which comes first, and of each one what it is.
+ORDERS = """<script>
+document.body.dataset.seen = JSON.stringify([...Array(course.length + 1).keys()].map((place) => {
+  go(place);
+  const orders = ordersNow(), tasks = orders.all();
+  return [...tasks.map((task) => orders.taskTold(task, labels)),
+    ...tasks.flatMap((one) => tasks.map((other) => orders.orderTold(one, other)))].sort();
 }));
 </script></body>"""
 KEYS = ("a", "c", "ArrowRight", "ArrowLeft", "c", "PageDown", "a", "PageUp", "End", "Home", "ArrowLeft", "x")
@@ -228,6 +240,34 @@ def runs_are_shown(place: Place) -> None:
         walk_page(place, show_lines(place, lines, "--from", str(ats[first])), lines, first)
 
 
+def page_tells_orders(place: Place) -> None:
+    """which of two tasks comes first, and why, is told as the tools tell it, also on a page that begins within a run"""
+    place.needs_second_program()
+    browser()
+    for name in ("schedules/domains_by_hand", "schedules/by_hand"):
+        folder = place.clone / "examples" / name
+        given = (folder / "image.bin").read_bytes() + (folder / "script").read_bytes()
+        lines = watched_lines(place, (folder / "words").read_text().split(), given, "lines")
+        wanted = orders_of(lines, NO_LISTING)
+        for first in (0, len(wanted) // 2):
+            seen = seen_on(place, show_lines(place, lines, "--from", str(first)), ORDERS)
+            expect(seen == wanted[first:], f"the same orders on {name} from act {first}")
+
+
+def orders_of(lines: str, listing: Listing) -> list[list[str]]:
+    """Behind the opening and behind each act of a text, what each task is and which of each two comes first."""
+    found: list[list[str]] = []
+    with open_lines(lines) as watched:
+        for told in watched:
+            if not told.is_act():
+                found.clear()
+            machine, tasks = watched.machine, list(watched.machine.all_tasks())
+            pairs = itertools.product(tasks, tasks)
+            found.append(sorted([*(task_told(task, listing) for task in tasks),
+                                 *(order_told(*pair, machine) for pair in pairs)]))
+    return found
+
+
 def children_spilled_before_the_page_count(place: Place) -> None:
     """a page that begins behind spilled children of a task that makes more names all of them as the reader does"""
     told = LinesText([0], [0], tiles=1, cores=1, task_queue=4)
@@ -304,5 +344,5 @@ def other_texts_are_refused(place: Place) -> None:
     place.is_clean()
 
 
-TRIES = (stored_lines_are_shown, runs_are_shown, children_spilled_before_the_page_count, long_runs_want_a_range,
-         other_texts_are_refused)
+TRIES = (stored_lines_are_shown, runs_are_shown, page_tells_orders, children_spilled_before_the_page_count,
+         long_runs_want_a_range, other_texts_are_refused)

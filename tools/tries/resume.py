@@ -77,7 +77,37 @@ def changed_pieces_are_told(place: Place) -> None:
     (folder / "0002.image").write_bytes(whole)
     last = max(folder.glob("*.report"))
     last.write_bytes(re.sub(rb"(?m)^1 0\.[0-9]+", b"1 0.99", last.read_bytes()))
-    place.call(*words).sentence("has the task 0.99")
+    place.call(*words).sentence("has the task 0.99", "0003.report and all files of greater numbers")
+
+
+def damaged_pieces_are_made_again(place: Place) -> None:
+    """whatever is damaged, the sentence names the files to delete, and the same words make the run whole again"""
+    place.needs_program()
+    image, folder = example(place, "pipeline"), place.root / "pieces"
+    words = ("fractal resume", image, folder, "--every", "3")
+    expect(place.call(*words).status == 0, "a joined report")
+    whole = {path.name: path.read_bytes() for path in folder.iterdir()}
+    for file, changed in (
+            ("0002.image", whole["0002.image"][:-12] + b"\1" + whole["0002.image"][-11:]),
+            ("0003.image", whole["0003.image"][:50]), ("0003.image", b""),
+            ("0002.report", whole["0002.report"][:20]), ("0002.report", b"\0" * 100), ("0001.report", b"fractal 1\n"),
+            ("0001.report", whole["0001.report"].replace(b"output 15", b"output 16")),
+            ("0002.report", whole["0002.report"].replace(b"2 ", b"2 9", 1)),
+            ("0003.report", whole["0003.report"].replace(b"3d", b"3e"))):
+        expect(changed != whole[file], "a change", file)
+        (folder / file).write_bytes(changed)
+        answer = place.call(*words)
+        answer.sentence("all files of greater numbers, and call it again: these pieces are made again.")
+        named = re.search(r"delete \S.*?([0-9]{4})\.report and", answer.errors)
+        expect(named, "a file that is to be deleted", answer)
+        number = int(named[1]) if named else 0
+        for path in folder.glob("[0-9]*.*"):
+            if int(path.stem) > number or path.name == f"{number:04}.report":
+                path.unlink()
+        answer = place.call(*words)
+        expect((answer.status, answer.errors) == (0, ""), f"a whole run once {file} is deleted", answer)
+        left = {path.name: path.read_bytes() for path in folder.iterdir()}
+        expect(left == whole, "the same files", sorted(left))
 
 
 def what_is_no_report_is_not_kept(place: Place) -> None:
@@ -133,5 +163,6 @@ def resume_refuses_bad_words(place: Place) -> None:
 
 TRIES = (
     pieces_join_to_one_run, uncut_runs_are_told, interrupted_pieces_go_on, changed_pieces_are_told,
-    what_is_no_report_is_not_kept, ended_calls_leave_no_program, resume_refuses_bad_words,
+    damaged_pieces_are_made_again, what_is_no_report_is_not_kept, ended_calls_leave_no_program,
+    resume_refuses_bad_words,
 )

@@ -16,7 +16,7 @@ from yotarimu.programs.table import Table
 
 from tries.launcher import image_of
 from tries.place import Answer, Place, expect, need_built, one_sentence_each
-from tries.words import change, number
+from tries.words import change, number, some_value
 
 USAGE = b'{"fault":"usage"}\n'
 # Words that are refused, and what standard error tells of each.
@@ -60,9 +60,33 @@ quit now
 SAID = ("1: dispatch 0\nTile 0 dispatches task 0.0 to its core 0", "4: dispatch 1", "5: step 1 0",
         "1 task is taken back. 0.0 after 5 instructions: it loaded 0 from first at task.s:",
         "and 0.1 stores there at task.s:",
-        "0.0  reader  timestamp 2  idle, taken back", "6: advance", "mine has 6 acts",
+        "0.0  reader  timestamp 2  depth 1, the ordered root domain  idle, taken back", "6: advance", "mine has 6 acts",
         "  5  advance         ok, 1 task taken back", ">  10000000           7  00000007  line 0  first", "undo [N]")
 REFUSED_LINES = ("`halt` is no act", "there is no tile 9", "mine: this is there already", "from 1 to 6", "`quit`")
+
+# What is typed of two exercises, and what is said of which task comes first: by hand, from docs/machine/MACHINE.md.
+ORDERS = {
+    "journal": (["order 0.0 0.1", "dispatch 0", *["step 0 0"] * 4, "order 0.0+2 0.1", "order 0.0 0.0+2",
+                 "order 0.0+2 0.0+1", "order 0.0+2", "order 0.0 0.0"],
+                ["0.1 comes after 0.0: in the ordered root domain, 0.0 has the timestamp 0 and 0.1 has the timestamp "
+                 "2.",
+                 "0.1 comes after 0.0+2: in the ordered root domain, 0.0, within whose domain 0.0+2 is, has the "
+                 "timestamp 0 and 0.1 has the timestamp 2.",
+                 "0.0+2 comes after 0.0: it is within the domain that 0.0 made, and all tasks there come right after "
+                 "0.0.",
+                 "0.0+1 comes after 0.0+2: in the ordered root domain, 0.0, within whose domain 0.0+2 is, has the "
+                 "timestamp 0 and 0.0+1 has the timestamp 1.",
+                 "0.0+2: `letter 84` with the timestamp 9, at depth 2 in the ordered subdomain of 0.0",
+                 "letter 84  timestamp 9  depth 2, the ordered subdomain of 0.0  idle",
+                 "These are the same task."]),
+    "order": (["order 0.1 0.0", "dispatch 1", "order 0.1 0.0", "dispatch 0", "order 0.1 0.0"],
+              ["0.1 comes after 0.0: in the unordered root domain, timestamps don't count, and neither is dispatched, "
+               "but 0.0 waits in tile 0 and 0.1 in tile 1.",
+               "0.0 comes after 0.1: in the unordered root domain, timestamps don't count, and 0.1 is dispatched and "
+               "0.0 isn't.",
+               "0.0 comes after 0.1: in the unordered root domain, timestamps don't count, and 0.1 was dispatched "
+               "before 0.0."]),
+}
 
 # What stands in a sentence when the script of a schedule is typed.
 SENTENCES = {
@@ -74,7 +98,7 @@ SENTENCES = {
     "kept_trap": ("cause 5: a load from outside text and data; it keeps its core.", "stale: 0.0 is trapped there.",
                   "empty: the least task isn't finished."),
     "commit_queue": ("1 task is taken back. 0.1 after", ": 0.0 ends, and the commit queue is full."),
-    "commit_wait": ("asks to end, and the reply is stall: the commit queue is full, and holds no later task.",),
+    "commit_wait": (" instruction, asks to end, and the reply is stall: the commit queue is full, and holds no later",),
     "stall": ("stall: the task queue for it is full", "firm: that one is the least task, which is never taken back.",
               "busy: each of its cores holds a task", "3 tasks are spilled to the block of tile 0: 2.2, 2.1, 2.0."),
     "four_cores": ("0.3 with nothing done: 0.0 needs room in a full task queue.",
@@ -136,11 +160,45 @@ def random_call(chance: random.Random, table: Table) -> list[str]:
     if course == "lockstep":
         words += [number(chance, 1, 1_000_000), number(chance, 0, 2 ** 32 - 1)]
         words += ["barren", number(chance, 1, 1_000_000)] if chance.random() < 0.3 else []
-    for option in chance.sample(list(table.options.values()), chance.choice((0, 0, 1, 2))):
-        words += [f"--{option.name}", number(chance, option.values[0], option.values[-1])]
+    for option in chance.sample(list(table.course_options.values()), chance.choice((0, 0, 1, 2))):
+        words += [f"--{option.name}", some_value(chance, option)]
     for _ in range(chance.choice((0, 0, 1, 2))):
         change(chance, words, table)
     return [word for word in words if word != "--help"]
+
+
+def options_of_watch_alone_may_be_words(place: Place) -> None:
+    """an option of `watch` alone, whose values are words, is told, judged, completed and handed on by all tools"""
+    launcher = place.clone / "fractal"
+    row = "course-option|taste|sweet,sour,salt|sour|how it tastes\n"
+    launcher.write_text(launcher.read_text().replace("seed|any|", f"{row}seed|any|"))
+    told = "--taste        how it tastes (sweet, sour, salt; sour unless given)"
+    expect(told in place.call("fractal help").output.decode(), "the option on the page")
+    expect(told in place.call("fractal help", "watch").output.decode(), "the option of watch")
+    expect(told not in place.call("fractal help", "run").output.decode(), "no such option of run")
+    place.stub(place.program, "printf 'fault usage\\n'; exit 1\n")
+    place.stub(place.second_program, 'echo "$@" >>"$(dirname "$0")/words"; echo \'{"fault":"usage"}\'; exit 1\n')
+    one_sentence_each([
+        (place.call("fractal", "run", "--taste", "salt"), ["`--taste` belongs to ./fractal watch, and not to `run`"]),
+        (place.call("fractal", "watch", "least", "--taste", "bitter"), ["`bitter`", "sweet, sour, salt"]),
+        (place.call("fractal", "watch", "least", "--taste=sweet,sour"), ["`sweet,sour`", "sweet, sour, salt"]),
+        (place.call("fractal", "watch", "least", "--taste", ""), ["sweet, sour, salt"]),
+        (place.call("fractal", "watch", "least", "--taste"), ["a value is missing", "sweet, sour, salt"]),
+        (place.call("fractal", "watch", "least", "--tastes", "salt"), ["--phase or --taste"]),
+        (place.call("fractal play", "x", "--taste", "salt"), ["`--taste` isn't known"]),
+    ])
+    image = str(place.clone / "examples" / "hello" / "image.bin")
+    one_sentence_each([
+        (place.call("fractal console", image, "--taste", "bitter"), ["--taste takes one of sweet, sour, salt"]),
+        (place.call("fractal study", image, "--taste", "salt,bitter"), ["--taste takes one of sweet", "`bitter`"])])
+    place.call("fractal console", image, "--taste", "salt")
+    place.call("fractal study", image, "--taste", "salt,sweet")
+    words = (place.second_program.parent / "words").read_text()
+    expect("steps --taste=salt\n" in words, "the option handed on by the console", words)
+    completed = place.call("fractal shell", "bash").output.decode()
+    expect("--taste) words='sweet sour salt' ;;" in completed, "the words as completions", completed)
+    for kind in ("zsh", "man"):
+        expect("sweet, sour, salt" in place.call("fractal shell", kind).output.decode(), f"the words for {kind}")
 
 
 def schedules_are_watched(place: Place) -> None:
@@ -185,6 +243,19 @@ def acts_are_typed(place: Place) -> None:
     place.is_clean()
 
 
+def orders_are_told(place: Place) -> None:
+    """the console says of two tasks which comes first and why, and of each its depth, its domain and who made it"""
+    place.needs_second_program()
+    for name, (typed, told) in ORDERS.items():
+        folder = str(place.clone / "examples" / "exercises" / name)
+        answer = place.call("fractal console", folder, stdin="\n".join(typed).encode())
+        missing = [sentence for sentence in told if sentence not in answer.output.decode()]
+        expect((answer.status, answer.errors, missing) == (0, "", []), f"the orders of {name}", missing or answer)
+    answer = place.call("fractal console", folder, stdin=b"order\norder 0.0 0.1 0.2\norder 0.0 5.5\n")
+    answer.tells("takes the labels of two tasks", "No uncommitted task is called `5.5` here.")
+    expect((answer.status, answer.errors.count("\n")) == (1, 3), "three refusals", answer)
+
+
 def schedules_are_typed(place: Place) -> None:
     """where the script of a schedule is typed, each act has a sentence, which says who was taken back and why"""
     place.needs_second_program()
@@ -203,8 +274,12 @@ def pages_are_opened(place: Place) -> None:
     place.needs_second_program()
     image = str(place.clone / "examples" / "hello" / "image.bin")
     answer = place.call("fractal console", image, stdin=b"run 2\nopen a.html\nopen nowhere/a.html\n")
+    expect("<title>hello/image.bin, act by act</title>" in (place.root / "a.html").read_text(), "the image's name")
     answer.tells("nowhere/a.html", "no such folder")
     expect(b"a.html#2\n" in answer.output and "<html" in (place.root / "a.html").read_text(), "a page", answer)
+    place.call("fractal console", image, stdin=b"run 2\nsave mine\nopen a.html\n")
+    name = f"{place.root.name}/mine"
+    expect(f"<title>{name}, act by act</title>" in (place.root / "a.html").read_text(), "the script's name")
     place.is_clean()
 
 
@@ -276,6 +351,7 @@ def consoles_are_interrupted(place: Place) -> None:
 
 
 TRIES = (
-    watch_words_are_told, watch_hands_on, random_watch_words_agree, schedules_are_watched, acts_are_typed,
+    watch_words_are_told, watch_hands_on, random_watch_words_agree, options_of_watch_alone_may_be_words,
+    schedules_are_watched, acts_are_typed, orders_are_told,
     schedules_are_typed, pages_are_opened, no_file_is_lost, console_refuses_bad_words, consoles_are_interrupted,
 )

@@ -18,6 +18,7 @@ from yotarimu.images.description import describe
 from yotarimu.images.image import DATA, image_bytes
 from yotarimu.images.listing import NO_LISTING, Listing, read_listing
 from yotarimu.images.source import assemble, source_at, sources_in
+from yotarimu.lines.orders import order_told, task_told
 from yotarimu.lines.reader import open_lines
 from yotarimu.lines.replay import Machine
 from yotarimu.lines.sentences import end_told, label_of, opening_told, sentence_of
@@ -34,9 +35,11 @@ from tries.place import Omission, Place, expect, need_built, one_sentence_each
 
 BROWSER_FOLDER = pathlib.Path(__file__).with_name("browser")
 # What the harnesses for Node are made of, in front of each.
-READER = ("texts.js", "machine.js", "lines.js", "images.js", "causes.js", "sentences.js")
-ASSEMBLER = ("host.js", "texts.js", "machine.js", "images.js", "assembler.js", "sections.js", "sources.js")
+READER = ("texts.js", "machine.js", "labels.js", "orders.js", "lines.js", "images.js", "causes.js", "sentences.js")
+ASSEMBLER = ("host.js", "texts.js", "machine.js", "labels.js", "images.js", "assembler.js", "sections.js", "sources.js")
 CASES = "40"
+# Behind each so many acts so many tasks are compared.
+BETWEEN, MOST_COMPARED = 5, 6
 # The section of a module that tells its memory, and so many pages of 64 KiB as are too few for a large run.
 MEMORY, LITTLE = 5, 160
 MOST_SECONDS = 600
@@ -191,25 +194,38 @@ def hold_told(harness: Harness, name: str, words: List[str]) -> None:
     text = subprocess.run([SECOND_PROGRAM, *words], input=given, stdout=subprocess.PIPE, check=False).stdout
     path = folder / "listing"
     listing = read_listing(path.read_text(), path) if path.exists() else NO_LISTING
-    told, end, machine = told_by_tools(text, listing)
-    seen = harness.ask(text=text.decode(), listing=path.read_text() if path.exists() else "")
+    told, end, orders, machine = told_by_tools(text, listing)
+    seen = harness.ask(text=text.decode(), listing=path.read_text() if path.exists() else "", between=BETWEEN,
+                       most=MOST_COMPARED)
     expect(seen["told"] == told and seen["end"] == end, f"the same sentences on {name}",
            next((pair for pair in itertools.zip_longest(told, seen["told"]) if pair[0] != pair[1]), None))
+    expect(seen["orders"] == orders, f"the same orders of tasks on {name}",
+           next((pair for pair in itertools.zip_longest(orders, seen["orders"]) if pair[0] != pair[1]), None))
     tasks = sorted([task.id, label_of(task), task.state, task.work, task.pc] for task in machine.tasks.values())
     state = [machine.queues, machine.cores, machine.finished, machine.commits, machine.events, tasks]
     names = ("queues", "cores", "finished", "commits", "events", "tasks")
     expect([seen["machine"][name] for name in names] == state, f"the same machine behind {name} {words}")
 
 
-def told_by_tools(text: bytes, listing: Listing) -> Tuple[List[str], str, Machine]:
-    """The sentences, the end and the machine that the tools make of lines."""
+def told_by_tools(text: bytes, listing: Listing) -> Tuple[List[str], str, List[str], Machine]:
+    """The sentences, the end, the orders of tasks and the machine that the tools make of lines."""
     with tempfile.NamedTemporaryFile() as lines:
         lines.write(text)
         lines.flush()
         with open_lines(lines.name) as watched:
-            told = [opening_told(watched.head)]
-            told += [sentence_of(it, watched.machine, listing) for it in watched if it.is_act()]
-        return told, end_told(watched.end or {}, listing), watched.machine
+            told, orders = [opening_told(watched.head)], []
+            for it in watched:
+                if it.is_act():
+                    told.append(sentence_of(it, watched.machine, listing))
+                    orders += orders_told(watched.machine, listing) if (len(told) - 1) % BETWEEN == 0 else []
+        return told, end_told(watched.end or {}, listing), orders, watched.machine
+
+
+def orders_told(machine: Machine, listing: Listing) -> List[str]:
+    """What the first tasks by their labels are, and which comes first of each two of them."""
+    tasks = sorted(machine.all_tasks(), key=label_of)[:MOST_COMPARED]
+    pairs = itertools.combinations(tasks, 2)
+    return [task_told(task, listing) for task in tasks] + [order_told(*pair, machine) for pair in pairs]
 
 
 # ---- the assembler and the disassembler

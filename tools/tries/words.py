@@ -9,7 +9,7 @@ import subprocess
 from collections.abc import Sequence
 
 from yotarimu.programs.examples import SCHEDULES
-from yotarimu.programs.table import Table
+from yotarimu.programs.table import Option, Table
 
 from tries.files import picture_in
 from tries.place import Answer, Place, expect, one_sentence_each
@@ -57,7 +57,11 @@ LINES: Refusals = (
 )
 # What a report's line is changed to, and why that is refused.
 ENTRIES: Refusals = (
-    (b"3 1.1 2 3", ("no run has this task there",)), (b"3 1.1 2 02", ("leading zero",)),
+    (b"3 1.1 2 3", (": its timestamp is 2: status",)), (b"3 1.1 4 2", (": its depth is 2: status",)),
+    (b"3 1.1 4 3", ("its depth is 2 and its timestamp is 2",)), (b"3 1.0 2 1", ("the task 1.0 took turn 2",)),
+    (b"3 1.2 2 2", ("there is no task 1.2: the task of turn 1 made 2 tasks",)),
+    (b"3 0.2 1 0", ("there is no task 0.2: the image has 2 tasks",)), (b"3 7.0 2 2", ("before turn 7 was taken",)),
+    (b"3 0.1 1 0", ("the task 1.1 comes before it", "a subdomain at depth 2")), (b"3 1.1 2 02", ("leading zero",)),
     (b"4 1.1 2 2", ("3 is wanted",)), (b"3 1-1 2 2", ("no name",)), (b"3 1.1 2 2 ", ("blank stands behind",)),
     (b"3 1.1 2 2\r", ("CRLF",)), (b"", ("is empty",)), (b"window 1", ("an entry", "or the output")),
     (b"3 1.1 17 2", ("1 to 16",)),
@@ -139,8 +143,7 @@ def random_call(chance: random.Random, table: Table) -> list[str]:
         kind = chance.choice(("walk", "nest"))
         words += [kind, number(chance, 0, 2 ** 32 - 1), number(chance, 1, {"walk": 100_000, "nest": 10_000}[kind])]
     for option in chance.sample(list(table.options.values()), chance.choice((0, 0, 1, 1, 2, 3, 10))):
-        some = option.values if len(option.values) < 20 else ()
-        value = number(chance, option.values[0], option.values[-1], some)
+        value = some_value(chance, option)
         pair = chance.choice(([f"--{option.name}", value], [f"--{option.name}={value}"]))
         place = 1 + chance.randrange(len(words)) if command == "load" and len(words) == 4 else len(words)
         words[place:place] = pair
@@ -149,6 +152,15 @@ def random_call(chance: random.Random, table: Table) -> list[str]:
     # What is the launcher's own isn't the program's.
     words = [word for word in words if word != "--help"]
     return words if words and words[0] not in table.own else ["run", *words[1:]]
+
+
+def some_value(chance: random.Random, option: Option) -> str:
+    """A value of an option, or what is nearly one."""
+    if option.has_words:
+        one, other = (str(chance.choice(option.values)) for _ in range(2))
+        return chance.choice((one, one, one, f"{one},{other}", one.upper(), one[:-1], f"{one} ", f"{one}{other}", "1"))
+    few = [int(value) for value in option.values] if len(option.values) < 20 else []
+    return number(chance, int(option.values[0]), int(option.values[-1]), few)
 
 
 def number(chance: random.Random, least: int, most: int, values: Sequence[int] = ()) -> str:
@@ -216,12 +228,42 @@ def refused_reports_are_told(place: Place) -> None:
     for changed, number, part in (
             (report[:20], 3, "is missing"), (b"", 1, "is missing"), (report + b"more", 15, "nothing may stand"),
             (report.replace(b"output -", b"output 0A"), 10, "lower case"), (b"fractal 2\n", 1, "`fractal 1` is wanted"),
-            (report.replace(b"output -", b"output 0a"), 10, "aren't the bytes"),
+            (report.replace(b"output -", b"output 0a"), 10, "the tasks before it emitted 0 bytes, and not 1"),
+            (report.replace(b"00000058", b"00000059"), 11, "the memory holds 00000058 there at the end"),
+            (report.replace(b"10000004", b"10000008"), 12, "the word 1 of the window, counted from 0, stands at 1"),
+            (report.replace(b"window 10000008 00000002\n", b""), 13, "3 words, and the one at 10000008 is missing"),
+            (report.replace(b"end", b"window 1000000c 00000002\nend"), 14, "has 3 words, so the end is wanted"),
             (report.replace(b"end normal", b"end trap 18 00010000 0.0"), 14, "1 to 17"),
-            (report.replace(b"end normal", b"end limit"), 14, "doesn't end so")):
+            (report.replace(b"end normal", b"end limit"), 14, "no task is left, so it is `end normal`")):
         (place.root / "both").write_bytes(image + changed)
         from_file(place, "check").sentence(f"line {number} of the report", part, status=8)
+    (place.root / "both").write_bytes(image + report)
+    from_file(place, "check --commits 3").sentence("line 5 of the report", "--commits allows 3 tasks", status=8)
+    from_file(place, "check --budget 5").sentence("line 2 of the report", "it traps, with cause 17", status=8)
     place.call("fractal", "check", stdin=image + report[:20]).sentence("the report is refused", "< FILE", status=8)
+
+
+def other_ends_are_told(place: Place) -> None:
+    """a report that ends otherwise than its run is refused with how that ends, by a trap or the tasks that are left"""
+    place.needs_program()
+    folder = place.clone / "examples" / "trap"
+    image, report = (folder / "image.bin").read_bytes(), (folder / "report").read_bytes()
+    end = b"end trap 10 00010024 0.1"
+    for other, part in (
+            (b"end trap 11 00010024 0.1", "the task traps with cause 10 at 00010024: a timestamp in the past"),
+            (b"end trap 10 00010020 0.1", "the task traps with cause 10 at 00010024"),
+            (b"end trap 10 00010024 0.0", "the task 0.0 took turn 1"), (b"end normal", "one task is left: 0.1"),
+            (b"end limit", "--commits allows 1,000,000 tasks, and 1 have come")):
+        (place.root / "both").write_bytes(image + report.replace(end, other))
+        from_file(place, "check").sentence("line 4 of the report", part, status=8)
+    for text, line, part in (
+            (report.replace(b"output", b"2 0.1 1 7\noutput"), 3, "it traps, with cause 10 at 00010024"),
+            (report.replace(b"output 67", b"output 68"), 3, "the byte 0, counted from 0, is 67, and not 68"),
+            (b"fractal 1\noutput -\nend trap 5 00010000 0.0\n", 3, "the task doesn't trap"),
+            (b"fractal 1\n1 0.1 1 7\n", 3, "is missing"),
+            (b"fractal 1\n1 0.1 1 7\noutput -\nend open\n", 2, "the task 0.0 comes before it: its timestamp is 4")):
+        (place.root / "both").write_bytes(image + text)
+        from_file(place, "check").sentence(f"line {line} of the report", part, status=8)
 
 
 def from_file(place: Place, words: str, start: str = "") -> Answer:
@@ -305,6 +347,6 @@ def play_refuses_bad_words(place: Place) -> None:
 
 TRIES = (
     refused_words_are_told, own_words_are_told, each_word_is_told, random_words_are_judged_alike,
-    refused_scripts_are_told, refused_reports_are_told, refusals_want_both, scripts_are_played_beside_their_lines,
-    play_refuses_bad_words,
+    refused_scripts_are_told, refused_reports_are_told, other_ends_are_told, refusals_want_both,
+    scripts_are_played_beside_their_lines, play_refuses_bad_words,
 )

@@ -27,6 +27,7 @@ from yotarimu.lines.fields import Line, Shapes
 from yotarimu.lines.reader import Reader
 from yotarimu.programs.calls import Calls
 from yotarimu.programs.program import PROGRAM, SECOND_PROGRAM, STATUSES, Answer
+from yotarimu.programs.table import Value
 from yotarimu.reports.report import Report
 from yotarimu.reports.report import read_report as read_report_text
 
@@ -63,18 +64,18 @@ def build(folder: FilePath, compiler: str = GCC) -> Image:
     return build_folder(pathlib.Path(folder), compiler)[0]
 
 
-def run(image: Image, **options: int) -> Report:
+def run(image: Image, **options: Value) -> Report:
     """The report of the image's run by the built program."""
     answer = ask(PROGRAM, ["run"], image, options)
     return read_report_text(answer.written.decode("ascii", "replace"), "run")
 
 
-def watch(image: Image, course: str = "least", **options: int) -> Lines:
+def watch(image: Image, course: str = "least", **options: Value) -> Lines:
     """What the built second program tells of a course: `least`, or `lockstep ROUNDS SEED`."""
     return Lines(ask(SECOND_PROGRAM, course.split(), image, options).written)
 
 
-def ask(program: pathlib.Path, words: Sequence[str], image: Image, options: Mapping[str, int]) -> Answer:
+def ask(program: pathlib.Path, words: Sequence[str], image: Image, options: Mapping[str, Value]) -> Answer:
     """What a program says to words on an image; refuses a status that tells no answer."""
     given = [f"--{name.replace('_', '-')}={value}" for name, value in options.items()]
     answer = Calls(program).call([*words, *given], image_bytes(image))

@@ -10,15 +10,17 @@
 #define TASK_H
 #include <stdint.h>
 
-/* An entry is three instructions: a call of the body, and call 0, which ends the task. */
-struct task_code { uint32_t word; };
-typedef const struct task_code task_entry[3];
+/* An entry is three instructions: a call of the body, and call 0, which ends the task. How many of its bytes are
+   declared tells how many parameters the task has; of one that is declared as a task_entry alone that isn't known. */
+struct task_code { uint8_t byte; };
+typedef const struct task_code task_entry[];
+#define TASK_BYTES(parameters) (8 + (parameters))
 
 #define TASK(name, ...)                                                                                               \
     TASK_ASSERT(TASK_COUNT(__VA_ARGS__) <= 4, "a task has three arguments and its timestamp, and no more");           \
     TASK_ASSERT(TASK_ARE_WORDS(__VA_ARGS__),                                                                          \
                 "a parameter of a task has 32 bits: it is a number or a pointer to data");                            \
-    extern task_entry name;                                                                                           \
+    extern const struct task_code name[TASK_BYTES(TASK_COUNT(__VA_ARGS__))];                                          \
     /* No byte comes of the lines that begin with .cfi: they say that nobody calls a task. */                         \
     __asm__(".cfi_sections .debug_frame\n.pushsection .text.task." #name ",\"ax\",@progbits\n.balign 4\n"             \
             ".globl " #name "\n.type " #name ",@function\n" #name ":\n.cfi_startproc\n.cfi_undefined ra\n"            \
@@ -28,7 +30,8 @@ typedef const struct task_code task_entry[3];
     static void name##_body(__VA_ARGS__)
 
 /* A child. What isn't given is 0: enqueue(visit, length, node, .hint = node) gives a timestamp, one argument and a
-   hint. A pointer to data is given as at(pointer). */
+   hint. Each is a number of 32 bits; a pointer to data is given as at(pointer). A task is given no more arguments than
+   it has parameters. */
 #define enqueue(entry, ...)       TASK_ENQUEUE(1, entry, __VA_ARGS__) /* to the own domain */
 #define enqueue_sub(entry, ...)   TASK_ENQUEUE(2, entry, __VA_ARGS__) /* to the subdomain */
 #define enqueue_super(entry, ...) TASK_ENQUEUE(3, entry, __VA_ARGS__) /* to the superdomain */
@@ -50,7 +53,10 @@ struct task_child { uint32_t ts, a, b, c, hint; };
    told by the part's first place. */
 #define spread(entry, ts, place, end)                                                                                 \
     ({                                                                                                                \
-        const uint32_t task_end_ = (end), task_is_parted_ = task_end_ - (place) > TASK_PARTS;                         \
+        TASK_REFUSE_CUTS                                                                                              \
+        const uint32_t task_end_ = (end);                                                                             \
+        TASK_END_REFUSING                                                                                             \
+        const uint32_t task_is_parted_ = task_end_ - (place) > TASK_PARTS;                                            \
         if (task_is_parted_) {                                                                                        \
             uint32_t task_part_ = TASK_PARTS;                                                                         \
             while ((task_end_ - (place) - 1) / TASK_PARTS >= task_part_)                                              \
@@ -110,8 +116,14 @@ enum domain_kind { UNORDERED, ORDERED };
 #define TASK_ENQUEUE(call, entry, ...)                                                                                \
     do {                                                                                                              \
         TASK_ASSERT(TASK_IS_ENTRY(entry), "only a task can be enqueued: TASK(name, ..) makes one");                   \
+        TASK_ASSERT(TASK_PLACED(__VA_ARGS__) <= 4, "a child has a timestamp and up to three arguments, and a hint is "\
+                                                   "given as .hint = h");                                             \
+        TASK_ASSERT(TASK_TAKES(entry, TASK_PLACED(__VA_ARGS__)), "the task `" #entry "` has fewer parameters than it "\
+                                                                 "is given arguments");                               \
         const struct task_code *task_entry_ = (entry);                                                                \
+        TASK_REFUSE_CUTS                                                                                              \
         struct task_child task_child_ = TASK_CHILD(__VA_ARGS__);                                                      \
+        TASK_END_REFUSING                                                                                             \
         register uint32_t task_call_ __asm__("a7") = call;                                                            \
         register const struct task_code *task_a0_ __asm__("a0") = task_entry_;                                        \
         register uint32_t task_a1_ __asm__("a1") = task_child_.ts, task_a2_ __asm__("a2") = task_child_.a;            \
@@ -132,10 +144,37 @@ enum domain_kind { UNORDERED, ORDERED };
 #define TASK_COUNT(...) TASK_NINTH(, ##__VA_ARGS__, 7, 6, 5, 4, 3, 2, 1, 0)
 #define TASK_NINTH(a, b, c, d, e, f, g, h, ninth, ...) ninth
 
+/* How many words a child is given by their places, its timestamp among them. One by a name begins with a dot. */
+#define TASK_PLACED(...)                                                                                              \
+    TASK_NINTH(, ##__VA_ARGS__, TASK_PLACED_MANY, TASK_PLACED_MANY, TASK_PLACED_5, TASK_PLACED_4, TASK_PLACED_3,      \
+               TASK_PLACED_2, TASK_PLACED_1, TASK_PLACED_0)(__VA_ARGS__)
+#define TASK_PLACED_0()              0
+#define TASK_PLACED_1(a)             (__builtin_strncmp(#a, ".", 1) != 0)
+#define TASK_PLACED_2(a, b)          (TASK_PLACED_1(a) + TASK_PLACED_1(b))
+#define TASK_PLACED_3(a, b, c)       (TASK_PLACED_2(a, b) + TASK_PLACED_1(c))
+#define TASK_PLACED_4(a, b, c, d)    (TASK_PLACED_3(a, b, c) + TASK_PLACED_1(d))
+#define TASK_PLACED_5(a, b, c, d, e) (TASK_PLACED_4(a, b, c, d) + TASK_PLACED_1(e))
+#define TASK_PLACED_MANY(...)        8
+
 #ifndef __cplusplus
 #define TASK_ASSERT          _Static_assert
 #define TASK_CHILD(...)      {__VA_ARGS__}
 #define TASK_IS_ENTRY(entry) _Generic((entry), const struct task_code *: 1, default: 0)
+
+/* Between these two a compiler refuses what would lose bits of a number on its way into 32. */
+#define TASK_REFUSE_CUTS                                                                                              \
+    _Pragma("GCC diagnostic push") _Pragma("GCC diagnostic error \"-Wconversion\"")                                   \
+    _Pragma("GCC diagnostic error \"-Wfloat-conversion\"") _Pragma("GCC diagnostic error \"-Woverflow\"")             \
+    _Pragma("GCC diagnostic ignored \"-Wsign-conversion\"")
+#define TASK_END_REFUSING _Pragma("GCC diagnostic pop")
+
+/* Whether a task has parameters enough for so many words, its timestamp among them. An array whose size isn't known is
+   compatible with one of each size. */
+#define TASK_HAS(entry, parameters)                                                                                   \
+    __builtin_types_compatible_p(__typeof__(entry), const struct task_code[TASK_BYTES(parameters)])
+#define TASK_TAKES(entry, given)                                                                                      \
+    (TASK_HAS(entry, 0) + TASK_HAS(entry, 1) + TASK_HAS(entry, 2) != 1 ||                                             \
+     (given) <= 1 + TASK_HAS(entry, 1) + 2 * TASK_HAS(entry, 2))
 
 /* A compiler takes a parameter of fewer bits as it comes, and splits a longer one over two arguments. */
 #define TASK_ARE_WORDS(...)                                                                                           \
@@ -158,6 +197,10 @@ enum domain_kind { UNORDERED, ORDERED };
 #define TASK_ASSERT          static_assert
 #define TASK_ARE_WORDS(...)  decltype(task_words_of((void (*)(__VA_ARGS__))nullptr))::are_words
 #define TASK_IS_ENTRY(entry) task_is_entry<decltype(&*(entry))>::value
+#define TASK_TAKES(entry, given) ((given) <= task_takes<decltype((entry))>::words)
+/* What would lose bits is refused below, by its type. */
+#define TASK_REFUSE_CUTS
+#define TASK_END_REFUSING
 
 template <typename T> struct task_is_word { static constexpr bool value = __is_enum(T) && sizeof(T) == 4; };
 template <typename T> struct task_is_word<T *> { static constexpr bool value = true; };
@@ -170,6 +213,12 @@ template <typename... T> task_all<task_is_word<T>::value...> task_words_of(void 
 
 template <typename T> struct task_is_entry { static constexpr bool value = false; };
 template <> struct task_is_entry<const task_code *> { static constexpr bool value = true; };
+
+/* How many words a task takes, its timestamp among them. */
+template <typename T> struct task_takes { static constexpr unsigned words = 4; };
+template <unsigned bytes> struct task_takes<const task_code (&)[bytes]> {
+    static constexpr unsigned words = bytes - TASK_BYTES(0) < 3 ? 1 + bytes - TASK_BYTES(0) : 4;
+};
 
 template <typename T> struct task_is_pointer { static constexpr bool value = false; };
 template <typename T> struct task_is_pointer<T *> { static constexpr bool value = true; };

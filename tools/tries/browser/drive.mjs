@@ -22,6 +22,55 @@ const SEEN = `({said: at("said").textContent, call: at("call").textContent, mess
   end: toldRun.end && toldRun.end.end, verdict: at("verdict").textContent, report: at("report-said").textContent,
   where: at("where").textContent, story: at("story").hidden ? "" : at("story-text").textContent})`;
 
+// Tasks of which each makes the next one, without an end; those of the second one execute much before, and those of the
+// third one run far ahead of a slow one, so that they have no names.
+const END = " li a7, 0\n ecall\n", NEXT = `again: la a0, again\n li a1, 1\n li a7, 1\n ecall\n${END}`;
+const SLOWLY = " li t0, 21000\n1: addi t0, t0, -1\n bnez t0, 1b\n";
+const ENDLESS = `# image: task again\n${NEXT}`;
+const LOOPING = ENDLESS.replace("again: ", `again:${SLOWLY}`);
+const AHEAD = `# image: root ordered\n# image: task slow\n# image: task again ts 1\nslow:${SLOWLY}${END}${NEXT}`;
+const opened = (source, options = {}, kind = "least") => `perform(() => openSources([{name: "long.s",
+  text: ${JSON.stringify(source)}}], {options: ${JSON.stringify(options)},
+  course: {kind: "${kind}", rounds: "9", seed: "1"}}))`;
+
+// While lines are read a timer of the page is to run at least once for so many acts, and once in so many milliseconds.
+// Slices of 8 milliseconds have some 800 acts on a machine that read 90 in a millisecond; a busy one has fewer in each.
+const MOST_ACTS_BETWEEN = 2500, MOST_STILL = 5000;
+const STOPPING = `
+  const beats = {count: 0, most: 0, last: 0};
+  function beginBeats() {
+    setInterval(() => {
+      const now = performance.now(), isReading = !machines.waiting.size && toldRun.course !== course;
+      if (isReading && beats.last)
+        Object.assign(beats, {count: beats.count + 1, most: Math.max(beats.most, now - beats.last)});
+      beats.last = now;
+    }, 5);
+  }
+  function beatsSoFar() { return beats; }
+  function kept() {
+    return JSON.stringify([subject.name, script.length, course.length, current, at("said").textContent,
+      toldRun.bytes.length, toldRun.end, toldRun.course === course, at("call").textContent]);
+  }
+  async function stopOnce(begin, condition) {
+    const before = kept();
+    let isOver = false, isStopped = false;
+    const done = begin().then(() => { isOver = true; });
+    while (!isOver && !isStopped) {
+      await new Promise((resolve) => setTimeout(resolve, 2));
+      isStopped = !at("stop").hidden && condition() && !isOver;
+    }
+    at("stop").click();
+    await done;
+    return {isStopped, isSame: kept() === before, message: at("message").textContent, kept: kept(), before};
+  }
+  0`;
+
+// At which acts a cell of the tiles has something that is wider than it is.
+const COVERING = `Array.from({length: course.length + 1}, (_, place) => place).filter((place) => {
+  go(place);
+  return [...at("tiles").querySelectorAll("td, th")].some((it) => it.scrollWidth > it.clientWidth + 1);
+})`;
+
 class Driver {
   static async at(hash, how, action) {
     const driver = Object.assign(new Driver(), {page: await Page.open(`${url}${hash}`, how)});
@@ -158,7 +207,7 @@ const TRIES = {
         expect(seen.verdict.startsWith(kind), kind, seen);
       };
       for (const [name, answer] of [["journal", read("journal")], ["false_conflict", read("false_conflict", "task.s")],
-        ["order", read("order", "task.s")]]) {
+        ["order", read("order", "task.s")], ["domains", read("domains", "task.s")], ["why", read("why")]]) {
         await begin(name);
         await judged("wrong");
         await driver.page.run(`at("answer").value = ${JSON.stringify(answer)}`);
@@ -234,8 +283,8 @@ const TRIES = {
           "document.activeElement.id || document.activeElement.dataset.act || document.activeElement.tagName"));
       }
       for (const wanted of
-             ["example", "course", "tile", "dispatch", "run-many", "undo", "typed", "first", "slider", "make-report",
-              "exercise", "source-text", "assemble"])
+             ["example", "course", "tile", "dispatch", "run-many", "undo", "typed", "first", "slider", "one-task",
+              "make-report", "exercise", "source-text", "assemble"])
         expect(names.includes(wanted), `${wanted} by Tab`, names);
       await driver.page.run("at('run-many').focus()");
       await driver.page.press("Enter");
@@ -249,12 +298,43 @@ const TRIES = {
     });
   },
 
-  async "a narrow page needs no scrolling sideways, and dark has its own colours"() {
+  async "two tasks are picked by clicks or by what they are called, and the page says which comes first, and why"() {
+    await Driver.at("#example=nested&acts=least&at=9", WIDE, async (driver) => {
+      const told = () => driver.page.run("[...at('pair-told').children].map((it) => it.textContent)");
+      for (const label of ["0.1", "1.1"])
+        await driver.page.run(`document.querySelector('#tiles [data-label="${label}"]').click()`);
+      const [one, other, order] = await told();
+      expect(
+        one === "0.1: `transfer 7` with the timestamp 0, at depth 1 in the unordered root domain" &&
+          other === "1.1: `credit 5` with the timestamp 2, at depth 2 in the ordered subdomain of 0.0",
+        "what both are", [one, other]);
+      expect(
+        order === "0.1 comes after 1.1: in the unordered root domain, timestamps don't count, and " +
+            "0.0, within whose domain 1.1 is, is dispatched and 0.1 isn't.",
+        "why", order);
+      expect(
+        (await driver.page.run("document.querySelector('#tiles [data-label=\"1.1\"]').textContent")).includes("@2 d2"),
+        "the depth on the task", await driver.see());
+      await driver.page.run("at('one-task').focus(); at('one-task').select()");
+      await driver.page.press("9");
+      expect((await told())[0] === "No uncommitted task is called 9 here.", "a sentence on another one", await told());
+    });
+  },
+
+  async "a narrow page needs no scrolling sideways, nothing covers anything, and dark has its own colours"() {
     await Driver.at("#example=schedules/conflict&acts=least&at=4", NARROW, async (driver) => {
-      const [width, shown] = await driver.page.run("[document.documentElement.scrollWidth, innerWidth]");
-      expect(width <= shown, "no wider than the screen", [width, shown]);
       await driver.shoot("narrow", true);
     });
+    for (const how of [NARROW, {width: 800, height: 1000}, WIDE]) {
+      await Driver.at("#example=hello", how, async (driver) => {
+        await driver.page.run(opened(AHEAD, {tiles: "16", cores: "4"}, "lockstep"));
+        const [width, shown] = await driver.page.run("[document.documentElement.scrollWidth, innerWidth]");
+        expect(width <= shown, "no wider than the screen", [width, shown]);
+        const wider = await driver.page.run(COVERING);
+        expect(!wider.length, "nothing beyond its cell", [how, wider]);
+        await driver.shoot(`16-tiles-${shown}`);
+      });
+    }
     await Driver.at("#example=schedules/conflict&acts=least&at=4", {dark: true}, async (driver) => {
       const paper = await driver.page.run("getComputedStyle(document.body).backgroundColor");
       expect(paper === "rgb(20, 24, 31)", "dark paper", paper);
@@ -275,35 +355,53 @@ const TRIES = {
     });
   },
 
-  async "a long run can be stopped, and the page stays alive meanwhile"() {
+  async "a long run can be stopped, in its call and while its lines are read, and the page stays alive meanwhile"() {
     await Driver.at("#example=hello", WIDE, async (driver) => {
-      const source = "# image: task again\nagain: la a0, again\n li a1, 0\n li a7, 1\n ecall\n li a7, 0\n ecall\n";
-      const begin = () => driver.page.run(
-        `void (window.opened = perform(() => openSources([{name: "long.s", text: ${JSON.stringify(source)}}])))`);
-      await begin();
-      await driver.page.run("new Promise((resolve) => setTimeout(resolve, 450))");
-      const ticks = await driver.page.run(`(async () => {
-        let count = 0;
-        const timer = setInterval(() => count++, 5);
-        await new Promise((resolve) => setTimeout(resolve, 300));
-        clearInterval(timer);
-        return count;
-      })()`);
-      expect(ticks > 20, "a page that is alive", ticks);
-      expect(!(await driver.page.run("at('stop').hidden")), "a button to stop", await driver.see());
-      await driver.click("#stop");
-      await driver.page.run("opened");
-      expect(
-        (await driver.see()).message.includes("stopped") && (await driver.see()).name === "hello",
-        "what was open before", await driver.see());
+      const stopped = async (sources, condition, what) => {
+        const seen = await driver.page.run(`stopOnce(() => ${opened(...sources)}, () => ${condition})`);
+        expect(seen.isStopped, `a stop ${what}`, seen);
+        expect(seen.message.includes("stopped") && seen.isSame, "what was open before", seen);
+      };
+      await driver.page.run(STOPPING);
+      await stopped([LOOPING, {quantum: "1024"}], "machines.waiting.size", "while the machine runs");
       await driver.click("[data-act=advance]");
       expect((await driver.see()).script >= 1, "a machine that is ready again", await driver.see());
-      await begin();
-      await driver.page.run("opened");
-      const seen = await driver.see();
+      await stopped([ENDLESS], "!machines.waiting.size && toldRun.course?.length > 1000", "while lines are read");
+      await driver.page.run(`${opened(ENDLESS)}, beginBeats(), chain`);
+      const seen = await driver.see(), beats = await driver.page.run("beatsSoFar()");
       expect(
         seen.acts > 100000 && seen.call.includes("isn't shown whole"), "the first acts of a run that is too long",
         seen);
+      expect(
+        beats.count * MOST_ACTS_BETWEEN > seen.acts && beats.most < MOST_STILL, "a page that is alive",
+        [beats, seen.acts]);
+    });
+  },
+
+  async "a stop while further acts are read leaves those that were there"() {
+    await Driver.at("#example=hello", WIDE, async (driver) => {
+      await driver.page.run(STOPPING);
+      await driver.page.run(`${opened(ENDLESS, {}, "steps")}`);
+      await driver.choose("count", 10000);
+      await driver.click("#run-many");
+      const seen = await driver.page.run(`stopOnce(() => addActs(Array(190000).fill("advance")),
+        () => course.length > 20000)`);
+      expect(seen.isStopped && seen.isSame && seen.message.includes("stopped"), "10,000 acts as they were", seen);
+      await driver.click("#run-many");
+      expect((await driver.see()).acts === 20000, "further acts", await driver.see());
+    });
+  },
+
+  async "of a long text the field shows a piece, and all of it is checked"() {
+    await Driver.at("#example=hello", WIDE, async (driver) => {
+      await driver.page.run(opened(ENDLESS, {commits: "9000"}));
+      await driver.click("#make-report");
+      const [shown, whole, note] = await driver.page.run(
+        "[at('report').value, textIn('report')].map((text) => text.split('\\n').length)"
+          + ".concat(at('report-note').textContent)");
+      expect(shown === 2001 && whole === 9004 && note.includes("first 2,000"), "the first lines", [shown, whole, note]);
+      await driver.click("#check-report");
+      expect((await driver.see()).report.includes("9,000 tasks"), "that all is checked", await driver.see());
     });
   },
 };

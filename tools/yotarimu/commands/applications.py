@@ -85,7 +85,7 @@ def run_one(words: list[str]) -> None:
     """Runs an application, with options of the program."""
     asked = read_words(words)
     case = one_case(asked, "run")
-    options, rest = program_options(asked.rest, Table())
+    options, rest = program_options(asked.rest, Table().options)
     need_no_more(dataclasses.replace(asked, rest=rest))
     calls = Calls(asked.program or PROGRAM)
     made, _ = made_elsewhere(case, asked.compilers[0])

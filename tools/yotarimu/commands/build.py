@@ -26,7 +26,7 @@ from __future__ import annotations
 import pathlib
 
 from yotarimu.common.outcome import Refusal
-from yotarimu.common.places import EXAMPLES_FOLDER
+from yotarimu.common.places import ARCHIVE, EXAMPLES_FOLDER
 from yotarimu.common.words import Words
 from yotarimu.images.compiler import CLANG, FAST, FOR_DEBUGGING, GCC
 from yotarimu.images.folder import build, image_folder
@@ -51,7 +51,8 @@ def main(words: list[str]) -> None:
         if word.startswith("-"):
             raise Refusal(f"`{word}` isn't known; ./fractal build --help tells the words.")
     if not names and "all" not in given.flags:
-        raise Refusal("it wants a FOLDER of sources, or --all; the programs are proved and built by ./fractal prove.")
+        programs = "both programs are there already" if ARCHIVE.is_file() else "./fractal prove builds the programs"
+        raise Refusal(f"which FOLDER of sources is to be built? --all is for all examples and schedules; {programs}.")
     if names and "all" in given.flags:
         raise Refusal("--all stands for all of the project's examples and schedules, so no FOLDER stands beside it.")
     level = FOR_DEBUGGING if "debug" in given.flags else FAST

@@ -9,6 +9,7 @@ of the input is an act of a script, in the words of docs/guest/FORMATS.md, or on
   undo [N]     takes the last N acts back; 1 unless given
   run N        does N acts `advance`, each the event for the least task, or fewer where the run ends
   show         shows the machine once more
+  order A B    says which of two tasks comes first, and why, by their labels
   script       lists the acts so far, with their replies
   save FILE    writes the acts so far as a script, to a file that isn't there yet
   save! FILE   the same, and replaces a file that is there
@@ -37,7 +38,7 @@ from yotarimu.programs.table import Table
 def main(words: list[str]) -> int:
     """Does what the words of the call ask for, and gives the status."""
     table = Table()
-    given = Words(NAME, ["script", *table.options]).read(words)
+    given = Words(NAME, ["script", *table.course_options]).read(words)
     options = options_of(given.values, table)
     word, = given.need("one IMAGE, or a folder that has an image.bin", 1)
     path = pathlib.Path(word)
@@ -49,7 +50,7 @@ def main(words: list[str]) -> int:
     schedule, script = Schedule(path, options, table), given.values["script"]
     acts = acts_in(read_lines(script), script, options, table) if script else []
     # What the words of the console are stands in the last part but one of the page.
-    console = Console(schedule, [act.text for act in acts], (__doc__ or "").strip().split("\n\n")[3])
+    console = Console(schedule, [act.text for act in acts], (__doc__ or "").strip().split("\n\n")[3], script)
     if schedule.remark:
         write([schedule.remark])
     write([*console.performance.text_lines(), ""])

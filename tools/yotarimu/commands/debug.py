@@ -20,6 +20,7 @@ from __future__ import annotations
 import contextlib
 import gc
 import pathlib
+import subprocess
 import tempfile
 from typing import Iterator, Optional, Sequence
 
@@ -35,7 +36,7 @@ from yotarimu.debugger.track import Track
 from yotarimu.images.image import Image, read_image
 from yotarimu.images.labels import listing_for
 from yotarimu.images.listing import Listing
-from yotarimu.programs.launcher import launch
+from yotarimu.programs.launcher import launch, pass_on, why_no_answer
 from yotarimu.reports.report import read_report
 
 NAME = "debug"
@@ -70,7 +71,10 @@ def track_of(image: Image, path: str, listing: Listing) -> Track:
 
 def track_of_run(image: Image, path: str, listing: Listing) -> Track:
     """The track of the image's run, brought on for the least task."""
-    status, lines, _ = launch(["watch", "least"], read_bytes(path))
+    status, lines, said = launch(["watch", "least"], read_bytes(path), subprocess.PIPE)
+    if not lines:
+        raise Refusal(why_no_answer(status, said))
+    pass_on(said)
     if status not in WHOLE:
         raise Refusal(f"{path}: the second program told no whole run, but ended with status {status}.")
     with tempfile.NamedTemporaryFile(prefix="lines-") as file:

@@ -1,14 +1,15 @@
 """Turns a report into text for people: tasks with labels, the output as text, the window in decimal, the end in words.
 
-usage: ./fractal explain IMAGE REPORT [SOURCE] [--picture | --json | --csv]
-       ./fractal explain IMAGE REPORT [SOURCE] --task NAME [--json] [--OPTION VALUE]... [--program FILE]
+usage: ./fractal explain IMAGE REPORT [SOURCE] [--picture | --json | --csv | --registers]
+       ./fractal explain IMAGE REPORT [SOURCE] --task NAME [--json | --registers] [--OPTION VALUE]... [--program FILE]
        ./fractal explain IMAGE LINES [SOURCE] [--json | --csv]
 
 REPORT may be - for standard input; it may be what `steps` wrote, replies and all. SOURCE is a listing of
 ./fractal build, a source, or the folder of the sources; where none is named the listing beside the image serves, if
 there is one. With --picture the tree of tasks is written as SVG. --json writes what it tells for other programs, and
 --csv the tasks alone. What the report doesn't tell is found by running its tasks again, with the registers of one that
-traps. A report of another image is refused; ./fractal check judges whether one is a run's.
+traps: those that aren't 0, or with --registers all. A report of another image is refused; ./fractal check judges
+whether one is a run's.
 
 With --task it tells of one task alone, which the report names so, what it asked for: loads and stores of the data,
 children, a subdomain, bytes, and its trap. The built program makes the run again by the OPTIONs, which are those of
@@ -25,7 +26,7 @@ import json
 import pathlib
 import re
 import sys
-from typing import NamedTuple, Optional
+from typing import NamedTuple, Optional, Union
 
 from yotarimu.common.files import read_bytes
 from yotarimu.common.outcome import Refusal
@@ -40,16 +41,18 @@ from yotarimu.lines import taken_tasks
 from yotarimu.pictures import tree
 from yotarimu.pictures.tree import nodes_of
 from yotarimu.programs.calls import Calls
-from yotarimu.programs.program import PROGRAM
+from yotarimu.programs.program import PROGRAM, why_not_started
 from yotarimu.programs.table import Table
 from yotarimu.programs.turns import WrittenRun, shown
 from yotarimu.reports import one_task, plain_data
 from yotarimu.reports.explanation import text_of
 from yotarimu.reports.meanings import told_without_report
 from yotarimu.reports.plain_data import other_run
+from yotarimu.reports.refusals import count_of
 from yotarimu.reports.report import NUMBER, Name, read_report
 
-FORMS = ("picture", "json", "csv")
+REGISTERS = "registers"
+FORMS = ("picture", "json", "csv", REGISTERS)
 # So lines of the second program begin.
 LINES = b"{"
 
@@ -64,10 +67,10 @@ class Request(NamedTuple):
 
 
 class TaskRequest(NamedTuple):
-    """A task's name, the options of its run, and the program that makes it again, if there is one."""
+    """A task's name, the options of its run, and the program that makes it again, or why there is none."""
     name: Name
     options: list[str]
-    calls: Optional[Calls]
+    calls: Union[Calls, str]
 
 
 def read_words(words: list[str]) -> Request:
@@ -76,7 +79,7 @@ def read_words(words: list[str]) -> Request:
     given = Words("explain", flags=FORMS).read_known(words)
     unknown = [word for word in given.others if word.startswith("--")]
     if unknown or len(given.flags) > 1 or not 2 <= len(given.others) <= 3:
-        raise Refusal("it wants IMAGE REPORT [SOURCE] and one of --picture, --json and --csv, or none; "
+        raise Refusal("it wants IMAGE REPORT [SOURCE] and one of --picture, --json, --csv and --registers, or none; "
                       "./fractal explain --help tells more.")
     image, report, *source = given.others
     form = next(iter(given.flags), None)
@@ -94,25 +97,33 @@ def take_task(words: list[str]) -> tuple[Optional[TaskRequest], list[str]]:
     if not found:
         raise Refusal(f"--task takes a name as reports have it, such as 2.0, and not `{text}`.")
     program, words = take_option(words, "--program")
-    options, words = program_options(words, Table())
+    options, words = program_options(words, Table().options)
     if any(option.startswith("--commits=") for option in options):
         raise Refusal("the report tells how many tasks committed, so --commits has no place here.")
-    path = PROGRAM if program is None else pathlib.Path(program)
-    calls = None if program is None and not path.is_file() else Calls(path)
-    return TaskRequest(Name(int(found[1]), int(found[2])), options, calls), words
+    return TaskRequest(Name(int(found[1]), int(found[2])), options, calls_of(program)), words
+
+
+def calls_of(program: Optional[str]) -> Union[Calls, str]:
+    """The calls of a program that is named, or of the one of this clone; or why that can't be called."""
+    if program is not None:
+        return Calls(pathlib.Path(program))
+    if not PROGRAM.is_file():
+        return "the program isn't built"
+    return Calls(PROGRAM) if why_not_started(PROGRAM) is None else "this system can't start the program"
 
 
 def explain_no_report(text: str, sentence: str, form: Optional[str]) -> None:
     """What the program said in a report's place."""
     if form in ("picture", "csv"):
         raise Refusal(f"`{text.strip()}` has no tasks. {sentence}")
-    print(json.dumps({"said": text.strip(), "meaning": sentence}, indent=2) if form else sentence)
+    print(json.dumps({"said": text.strip(), "meaning": sentence}, indent=2) if form == "json" else sentence)
 
 
 def explain_lines(image_path: str, image: Image, lines_path: str, source: Optional[str], form: Optional[str]) -> None:
     """Prints why the tasks of a run were taken back: as text, or in a form for other programs."""
-    if form == "picture":
-        raise Refusal("lines have no tree of tasks; the report of the run has.")
+    if form in ("picture", REGISTERS):
+        what = "tree of tasks" if form == "picture" else "registers of a trap"
+        raise Refusal(f"lines have no {what}; the report of the run has.")
     listing, remark = listing_for(image_path, image, source)
     run = taken_tasks.Run(lines_path, image, listing)
     if form == "json":
@@ -129,7 +140,7 @@ def explain_task(run: WrittenRun, name: Name, listing: Listing, remark: Optional
     if form == "json":
         print(json.dumps(one_task.plain_data_of(told, listing), indent=2))
     else:
-        print(*one_task.text_of(told, listing), *([f"\n{remark}"] if remark else []), sep="\n")
+        print(*one_task.text_of(told, listing, form == REGISTERS), *([f"\n{remark}"] if remark else []), sep="\n")
 
 
 def begins_as_lines(path: str) -> bool:
@@ -158,7 +169,8 @@ def main(words: list[str]) -> None:
     report = read_report(text, report_path, len(replies))
     listing, remark = listing_for(image_path, image, source)
     if task is not None:
-        explain_task(WrittenRun(data, image, text, report, task.calls, task.options), task.name, listing, remark, form)
+        run = WrittenRun(data, image, text, report, task.calls, task.options, count_of("budget", task.options))
+        explain_task(run, task.name, listing, remark, form)
         return
     machine = Machine(image)
     wrong_turn = machine.follow(shown(report.entries))
@@ -172,5 +184,6 @@ def main(words: list[str]) -> None:
     elif form == "csv":
         plain_data.write_tasks(report, machine, listing, sys.stdout)
     else:
-        print(*text_of(image_path, image, replies, report, machine, listing), sep="\n")
+        told = text_of(image_path, image, replies, report, machine, listing, form == REGISTERS)
+        print(*told, sep="\n")
         print(*(f"\n{sentence}" for sentence in remarks), sep="\n", end="\n" if remarks else "")

@@ -3,10 +3,11 @@
 usage: ./fractal large roads FOLDER [--size N] [--seed N]       shortest paths in a network of N crossings (10,000)
        ./fractal large circuit FOLDER [--size N] [--seed N]     a circuit that multiplies numbers of N bits (8)
 
-FOLDER, which must be empty or not be there, gets task.c with its data, image.bin and listing, and plain/plain.c, which
-the host's cc compiles. It tells how many tasks took their turns, in how many events, and that each word of the result
-is the same. --seed makes other data (1 unless told), --clang compiles the tasks by clang, and --program FILE names a
-built program in place of the one of this clone.
+FOLDER gets task.c with its data, image.bin and listing, and plain/plain.c, which the host's cc compiles. It is to be
+empty, or not there, or to have what the same words left there: so a call that was interrupted is made again. It tells
+how many tasks took their turns, in how many events, and that each word of the result is the same. --seed makes other
+data (1 unless told), --clang compiles the tasks by clang, and --program FILE names a built program in place of the one
+of this clone.
 """
 from __future__ import annotations
 

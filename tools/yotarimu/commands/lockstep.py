@@ -18,9 +18,10 @@ from __future__ import annotations
 
 from typing import Any
 
+from yotarimu.common.acts import ACTS
 from yotarimu.common.outcome import Refusal
 from yotarimu.common.words import Words, need_number
-from yotarimu.courses.schedules import MOST_CORES, MOST_TILES, NUMBERS, Act, lockstep, script_text
+from yotarimu.courses.schedules import MOST_CORES, MOST_TILES, Act, lockstep, script_text
 from yotarimu.lines.reader import open_lines
 
 MOST_ROUNDS = 1_000_000
@@ -40,7 +41,7 @@ def acts_of(path: str) -> list[Act]:
 def act_of(line: dict[str, Any]) -> Act:
     """The act that makes what a line tells."""
     word = line["do"]
-    return Act(word, *(line[name] for name in ("tile", "core")[:NUMBERS[word]]))
+    return Act(word, *(line[name] for name in ("tile", "core")[:ACTS[word].numbers]))
 
 
 def script_of(path: str) -> str:

@@ -6,7 +6,8 @@ usage: ./fractal resume IMAGE FOLDER --every N [--OPTION VALUE]... [--program FI
 FOLDER is all that it keeps: `0001.image` and `0001.report`, and so on, and at the end `report`, the run as one. Where
 it was interrupted, the same words go on with the piece that was under way. A run can't be cut where a task of a
 subdomain pends, or more tasks than an image has room for: then it is told, and cut at the next count of commits at
-which it can be. The joined report is checked, up to 1,000,000 commits; of a longer run each piece is. OPTION is one of
+which it can be. The joined report is checked, up to 1,000,000 commits; of a longer run each piece is. Where a piece
+isn't as it was made, it says which files to delete, so that the same words make them again. OPTION is one of
 the program but --commits, and --workers 0 alone, since a run with workers isn't made twice alike. --program names a
 built program in place of the one of this clone.
 """
@@ -15,8 +16,7 @@ from __future__ import annotations
 from yotarimu.common.files import read_bytes
 from yotarimu.common.outcome import Refusal
 from yotarimu.common.text import count_text
-from yotarimu.common.words import GivenWords, Words, need_number, number_in
-from yotarimu.courses.grid import MOST_VALUE
+from yotarimu.common.words import GivenWords, Words, need_number
 from yotarimu.images.image import read_image
 from yotarimu.programs import pieces
 from yotarimu.programs.calls import Calls, program_at
@@ -35,8 +35,7 @@ def options_of(given: GivenWords, table: Table) -> list[str]:
             raise Refusal("--every tells how many commits a piece has, so --commits has no place here.")
         if name == "workers" and value.strip("0"):
             raise Refusal("--workers takes 0 alone here: a run with workers isn't made twice alike.")
-        if number_in(value, 0, MOST_VALUE) not in option.values:
-            raise Refusal(f"--{name} takes {option.range_text()}, and not `{value}`.")
+        option.need(value)
         options.append(f"--{name}={value}")
     return options
 
@@ -57,8 +56,11 @@ def main(words: list[str]) -> int:
     calls = Calls(program_at(given.values["program"]))
     folder = pieces.Folder(pieces_path, image, [f"--every={every}", *options])
     resumption = Resumption(calls, options, every, folder)
-    resumption.run_all()
-    count, turns = resumption.join()
+    try:
+        resumption.run_all()
+        count, turns = resumption.join()
+    except pieces.DamagedPiece as damaged:
+        raise Refusal(f"{str(damaged).rstrip('.')}; {folder.remedy(damaged.number)}.") from None
     told = f"{count_text(turns, 'commit')} in {count_text(count, 'piece')}"
     print(f"{folder.name(pieces.REPORT)}: {told}; accepted by check.")
     return 0

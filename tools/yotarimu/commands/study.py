@@ -94,10 +94,10 @@ def columns_of(text: Optional[str]) -> list[str]:
 def study_of(words: Sequence[str], grid: Table) -> tuple[StudyRows, list[str], dict[str, Optional[str]]]:
     """The study that the words ask for, the options that vary, and the values of the other words."""
     seen, rest = take_options(words, OWN_OPTIONS)
-    texts, rest = take_options(rest, list(grid.options))
+    texts, rest = take_options(rest, list(grid.course_options))
     paths = need_paths(rest, "an IMAGE")
-    values = {name: values_of(grid.options[name], text) for name, text in texts.items() if text is not None}
-    cells = [(path, cell) for path in paths for cell in cells_of(grid, values, "choices")]
+    values = {name: values_of(grid.course_options[name], text) for name, text in texts.items() if text is not None}
+    cells = [(path, cell) for path in paths for cell in cells_of(grid.course_options, values, "choices")]
     if len(cells) > MOST_RUNS:
         raise Refusal(f"the grid has {len(cells):,} choices, and {MOST_RUNS:,} are the most.")
     choices = [Choice(number, *cell) for number, cell in enumerate(cells, 1)]
@@ -107,14 +107,14 @@ def study_of(words: Sequence[str], grid: Table) -> tuple[StudyRows, list[str], d
     calls = Calls(SECOND_PROGRAM if seen["program"] is None else pathlib.Path(seen["program"]))
     study = Study({path: read_bytes(path) for path in paths}, number_of(seen, "seed", 0, MOST_SEED, 0),
                   number_of(seen, "rounds", 1, MOST_ROUNDS, MOST_ROUNDS), columns_of(seen["columns"]), calls, shard)
-    return StudyRows(study, choices), [name for name in grid.options if len(values.get(name, [])) > 1], seen
+    return StudyRows(study, choices), [name for name in grid.course_options if len(values.get(name, [])) > 1], seen
 
 
 def play(words: Sequence[str]) -> int:
     """Plays the choices of a study, or the rest of them, and prints the table."""
     grid = Table()
     played, varying, seen = study_of(words, grid)
-    picture, path = picture_of(seen["plot"], seen["log"], COLUMNS, grid.options), seen["csv"]
+    picture, path = picture_of(seen["plot"], seen["log"], COLUMNS, grid.course_options), seen["csv"]
     need_outputs([path, picture.path if picture else None], list(played.study.images))
     jobs = number_of(seen, "jobs", 1, MOST_JOBS, 1)
     played.study.need_images()
@@ -122,11 +122,11 @@ def play(words: Sequence[str]) -> int:
         tell(played, varying, jobs)
     finally:
         if path is not None and played.rows:
-            write_whole({path: csv_of(played.cells(list(grid.options)))})
+            write_whole({path: csv_of(played.cells(list(grid.course_options)))})
             if len(played.rows) < len(played.choices):
                 say("study", f"{path} has {len(played.rows)} of {len(played.choices)} rows.")
     if picture is not None:
-        write_whole({picture.path: picture.draw(rows_in(played.cells(list(grid.options))), "this study")})
+        write_whole({picture.path: picture.draw(rows_in(played.cells(list(grid.course_options))), "this study")})
     if all(row.end.startswith("none") for row in played.rows.values()):
         say("study", "no run came to an end.")
         return 1
@@ -137,7 +137,7 @@ def join(words: Sequence[str]) -> int:
     """Joins what shards wrote."""
     seen, rest = take_options([word for word in words if word != "--join"], ("csv", "plot", "log"))
     paths = need_paths(rest, "a CSV")
-    picture = picture_of(seen["plot"], seen["log"], COLUMNS, Table().options)
+    picture = picture_of(seen["plot"], seen["log"], COLUMNS, Table().course_options)
     need_outputs([seen["csv"], picture.path if picture else None], paths)
     cells = join_shards(paths)
     files = {}

@@ -1,10 +1,12 @@
 """Tries what ./fractal, its tools and the scripts of bench/ promise, each in a fresh clone of what is committed.
 
-usage: ./fractal tries [WORD]...     the tries whose names hold one of the words; all where none is told
+usage: ./fractal tries [WORD]...          the tries whose names hold one of the words; all where none is told
+       ./fractal tries --list [WORD]...   their names, each with what it tries, and runs none
 
 A try fails loudly, and the status is then 1. This stands beside the gate: it takes some minutes, and wants the
-toolchain, git, the built programs, GNU binutils, gcc and clang for RISC-V, and Chromium. Where a program isn't built or
-there is no browser, the tries that want it are left out, and counted.
+toolchain, git, the built programs, GNU binutils, gcc and clang for RISC-V, qemu's user mode, and Chromium. Where one
+of these isn't there, the tries that want it are left out, and counted. RISCV_TESTS may name a folder of the public
+riscv-tests, whose tests of RV32I are then run as tasks.
 """
 from __future__ import annotations
 
@@ -13,15 +15,16 @@ import time
 from typing import Callable, Optional
 
 from yotarimu.common.outcome import Refusal
+from yotarimu.common.words import Words
 
 from tries import (
-    applications, build, c_tasks, causes, contents, debug, documents, explain, figures, gate, interrupts, launcher,
-    lockstep, packages, pages, resume, schedules, studies, sweep, watch, web, words)
+    applications, build, c_tasks, causes, contents, debug, documents, explain, figures, gate, instruction_set,
+    interrupts, launcher, lockstep, packages, pages, resume, schedules, studies, sweep, watch, web, words)
 from tries.place import Failure, Omission, Place
 
 Attempt = Callable[[Place], None]
-PARTS = (launcher, words, packages, build, c_tasks, contents, applications, explain, gate, sweep, resume, schedules,
-         lockstep, studies, watch, causes, debug, figures, pages, web, interrupts, documents)
+PARTS = (launcher, words, packages, build, c_tasks, instruction_set, contents, applications, explain, gate, sweep,
+         resume, schedules, lockstep, studies, watch, causes, debug, figures, pages, web, interrupts, documents)
 TRIES: list[Attempt] = [attempt for part in PARTS for attempt in part.TRIES]
 OK, FAILED, LEFT_OUT = "ok", "FAILED", "left"
 
@@ -40,11 +43,16 @@ def verdict_of(attempt: Attempt) -> tuple[str, Optional[str]]:
     return OK, None
 
 
-def main(told: list[str]) -> int:
+def main(words: list[str]) -> int:
     """Does what the words of the call ask for, and gives the status."""
+    given = Words("tries", flags=["list"]).read(words)
+    told = given.others
     chosen = [attempt for attempt in TRIES if not told or any(word in attempt.__name__ for word in told)]
     if not chosen:
-        raise Refusal("no try has such a name.")
+        raise Refusal("no try has such a name; ./fractal tries --list tells all.")
+    if "list" in given.flags:
+        print(*(f"{attempt.__name__}: {attempt.__doc__}" for attempt in chosen), sep="\n")
+        return 0
     counts: collections.Counter[str] = collections.Counter()
     for attempt in chosen:
         start = time.monotonic()

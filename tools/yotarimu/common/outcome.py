@@ -12,6 +12,8 @@ from typing import Callable, NoReturn, Optional, Union
 from yotarimu.common.text import without_controls
 
 REFUSED = 1
+# As a shell tells that a signal ended a command: here the one for a reader that went away.
+NO_READER = 128 + signal.SIGPIPE
 SIGNALS = (signal.SIGINT, signal.SIGTERM, signal.SIGHUP)
 # What is done with the words of a call; it may give back a status.
 Main = Callable[[list[str]], Optional[int]]
@@ -57,6 +59,9 @@ def answer(name: str, main: Main, words: list[str]) -> int:
         return status
     except Refusal as refused:
         say(name, refused)
+    except BrokenPipeError:
+        # Whoever reads has enough, as `head` has, so nothing is said.
+        return NO_READER
     except (OSError, MemoryError) as error:
         say(name, error_text(error))
     return REFUSED
@@ -103,8 +108,6 @@ def error_text(error: Union[OSError, MemoryError]) -> str:
     """An error of the system as a sentence."""
     if isinstance(error, MemoryError):
         return "out of memory."
-    if isinstance(error, BrokenPipeError):
-        return "nobody reads what it writes."
     place = f"{error.filename}: " if error.filename else ""
     return f"{place}{(error.strerror or str(error)).lower()}."
 

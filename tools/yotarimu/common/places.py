@@ -6,3 +6,5 @@ import pathlib
 HOME = pathlib.Path(__file__).resolve().parents[3]
 EXAMPLES_FOLDER = HOME / "examples"
 TOOLS_FOLDER = HOME / "tools"
+# An archive has this file, and a clone hasn't.
+ARCHIVE = HOME / "PACKAGE"

@@ -9,13 +9,16 @@ import tempfile
 from collections.abc import Iterable, Iterator, Sequence
 from typing import Callable, Optional
 
+from yotarimu.common.acts import ACTS, form_of
 from yotarimu.common.files import encode, need_outputs, need_writable, write_whole
 from yotarimu.common.outcome import Refusal, say, error_text
+from yotarimu.common.sentences import SENTENCES, fill
 from yotarimu.common.text import count_text
 from yotarimu.common.words import need_number
 from yotarimu.courses.growth import Performance, Schedule
-from yotarimu.courses.schedules import NUMBERS
 from yotarimu.images.listing import NO_LISTING
+from yotarimu.lines.orders import order_told, task_of_label, task_told
+from yotarimu.lines.replay import Machine, Task
 from yotarimu.pictures.page import page_of
 from yotarimu.reports.refusals import script_fault
 
@@ -25,20 +28,20 @@ PAGE_START = b"<!doctype html>"
 MOST_TYPED = 1_000
 # So many acts `advance` may be asked for at once.
 MOST_RUN = 10_000
-ACTS = {"dispatch": "T", "step": "T C", "take": "T C", "give": "T C", "abort": "T", "commit": "", "coalesce": "T",
-        "split": "T", "advance": ""}
 
 
 class Console:
     """What is typed, line by line."""
 
-    def __init__(self, schedule: Schedule, acts: Sequence[str], usage: str) -> None:
+    def __init__(self, schedule: Schedule, acts: Sequence[str], usage: str, script: Optional[str] = None) -> None:
         self.schedule, self.usage = schedule, usage
+        # What the acts are called: the script that they began with, or were written to.
+        self.name = name_of(schedule.path if script is None else pathlib.Path(script))
         self.is_saved, self.is_refused, self.is_left = True, False, False
         self.performance = schedule.play(acts)
         self.words: dict[str, Callable[[Sequence[str]], None]] = {
             "undo": self.undo, "run": self.run, "show": self.show, "script": self.script, "save": self.save,
-            "save!": self.save_over, "open": self.open, "help": self.help, "quit": self.quit}
+            "save!": self.save_over, "open": self.open, "order": self.order, "help": self.help, "quit": self.quit}
 
     @property
     def acts(self) -> list[str]:
@@ -66,7 +69,7 @@ class Console:
         if word in self.words:
             self.words[word](list(rest))
             return
-        if word not in NUMBERS:
+        if word not in ACTS:
             raise Refusal(f"`{word[:40]}` is no act and no word of the console; `help` tells them.")
         act = " ".join((word, *rest))
         fault = script_fault(act.encode("utf-8", "replace"), self.schedule.tiles, self.schedule.cores)
@@ -109,6 +112,15 @@ class Console:
         need_none("show", words)
         write([*self.schedule.play(self.acts).text_lines(), ""])
 
+    def order(self, words: Sequence[str]) -> None:
+        """Says which of two tasks comes first, and why; of one it says what it is."""
+        if not 1 <= len(words) <= 2:
+            raise Refusal("`order` takes the labels of two tasks, as in: order 0.1 0.0+2")
+        machine, listing = self.performance.machine, self.schedule.listing
+        tasks = [need_task(word, machine) for word in words]
+        write([*(task_told(task, listing) for task in tasks), *([order_told(tasks[0], tasks[1], machine)] if
+                                                                len(tasks) == 2 else []), ""])
+
     def script(self, words: Sequence[str]) -> None:
         """Tells all acts with their replies."""
         need_none("script", words)
@@ -130,7 +142,7 @@ class Console:
         """Writes the acts to a file, and tells how they are played."""
         need_outputs([path], [self.schedule.path])
         write_whole({path: "".join(f"{act}\n" for act in self.acts).encode()})
-        self.is_saved = True
+        self.is_saved, self.name = True, name_of(pathlib.Path(path))
         options = "".join(f" --{name} {value}" for name, value in self.schedule.options.items())
         write([f"{path} has {count_text(len(self.acts), 'act')}; this plays them:",
                f"./fractal play {shlex.quote(path)} --image {shlex.quote(str(self.schedule.path))}{options}"])
@@ -145,14 +157,14 @@ class Console:
             lines.write(self.performance.lines)
             lines.flush()
             listing = pathlib.Path(self.schedule.path).parent / "listing" if has_labels else None
-            page = encode(page_of(lines.name, listing))
+            page = encode(page_of(lines.name, listing, name=self.name))
         write_whole({path: page})
         write([f"The page is {path}; a browser shows this act at {path.resolve().as_uri()}#{len(self.acts)}"])
 
     def help(self, words: Sequence[str]) -> None:
         """Tells the acts, and the words of the console."""
         need_none("help", words)
-        acts = ", ".join(f"{word} {numbers}".strip() for word, numbers in ACTS.items())
+        acts = ", ".join(map(form_of, ACTS))
         write([f"Acts, with a tile T and a core C: {acts}.", "", self.usage])
 
     def quit(self, words: Sequence[str]) -> None:
@@ -187,6 +199,20 @@ def file_behind(word: str, words: Sequence[str]) -> str:
     if "\0" in words[0]:
         raise Refusal(f"`{word}`: no file has a byte 0 in its name.")
     return words[0]
+
+
+def name_of(path: pathlib.Path) -> str:
+    """What a script or an image is called: its name within its folder."""
+    whole = path.absolute()
+    return f"{whole.parent.name}/{whole.name}" if whole.parent.name else whole.name
+
+
+def need_task(label: str, machine: Machine) -> Task:
+    """The uncommitted task that is called so."""
+    task = task_of_label(label, machine)
+    if task is None:
+        raise Refusal(fill(SENTENCES["order"]["none"], task=f"`{label[:40]}`").removesuffix(".") + ".")
+    return task
 
 
 def need_none(word: str, words: Sequence[str]) -> None:

@@ -1,18 +1,19 @@
-"""Judges of answers to the five exercises of docs/guide/EXERCISES.md.
+"""Judges of answers to the exercises of docs/guide/EXERCISES.md.
 
 What they say stands in `exercises.json`, which the page with the machine inside reads too.
 """
 from __future__ import annotations
 
-import json
 import pathlib
 import re
-from typing import Any, Callable, NamedTuple
+from typing import Callable, NamedTuple
 
 from yotarimu.common.files import FilePath, read_bytes, read_written
 from yotarimu.common.outcome import Refusal
 from yotarimu.common.places import EXAMPLES_FOLDER
 from yotarimu.common.sentences import fill
+from yotarimu.courses.exercise_texts import MOST_SHOWN, TEXTS, hold
+from yotarimu.courses.reasons import judge_reasons
 from yotarimu.courses.schedules import Act, ActAnswer
 from yotarimu.courses.scripts import acts_in, ask, options_beside, play, read_lines
 from yotarimu.images.compiler import GCC
@@ -22,10 +23,8 @@ from yotarimu.programs.table import Table
 from yotarimu.reports.report import Report, read_report
 
 FOLDER = EXAMPLES_FOLDER / "exercises"
-SAID: dict[str, Any] = json.loads(pathlib.Path(__file__).with_suffix(".json").read_text(encoding="utf-8"))
-FIELDS = SAID["journal"]["fields"]
-WORD = SAID["order"]["word"].encode()
-MOST_SHOWN = 40
+FIELDS = TEXTS["journal"]["fields"]
+WORD = TEXTS["order"]["word"].encode()
 
 
 class PlayedAct(NamedTuple):
@@ -33,16 +32,6 @@ class PlayedAct(NamedTuple):
     line: int
     act: Act
     said: ActAnswer
-
-
-class WrongAnswer(Exception):
-    """The answer isn't right; the text says why."""
-
-
-def hold(is_so: object, template: str, **values: object) -> None:
-    """Holds an answer to what it has to be; raises WrongAnswer, with a text that is filled in."""
-    if not is_so:
-        raise WrongAnswer(fill(template, **values))
 
 
 def run_of(image: FilePath) -> Report:
@@ -54,14 +43,19 @@ def run_of(image: FilePath) -> Report:
 
 
 def judge_journal(path: str) -> str:
+    """Judges the journal of the first exercise."""
+    return judge_entries(path, FOLDER / "journal" / "image.bin")
+
+
+def judge_entries(path: str, image: FilePath) -> str:
     """Judges the journal of an image, as it was worked out by hand."""
-    said = SAID["journal"]
+    said = TEXTS["journal"]
     lines = [line.partition("#")[0].split() for line in read_written(path).split("\n")]
     given = [(number, fields) for number, fields in enumerate(lines, 1) if fields]
     for number, fields in given:
         if len(fields) != len(FIELDS):
             raise Refusal(f"{path}:{number}: {fill(said['misshapen'], text=' '.join(fields)[:MOST_SHOWN])}.")
-    report = run_of(FOLDER / "journal" / "image.bin")
+    report = run_of(image)
     for (number, fields), entry in zip(given, report.entries):
         wanted = (entry.turn, entry.name, entry.depth, entry.timestamp)
         wrong = [name for name, field, right in zip(FIELDS, fields, wanted) if field != str(right)]
@@ -79,14 +73,14 @@ def played_of(name: str, path: str) -> tuple[list[PlayedAct], str]:
     folder, table = FOLDER / name, Table()
     options = options_beside(folder, table)
     acts = acts_in(read_lines(path), path, options, table)
-    hold(acts, SAID["script"]["none"])
+    hold(acts, TEXTS["script"]["none"])
     _, _, played = play(folder / "image.bin", acts, options, str(path))
     return [PlayedAct(number, act, said) for (number, _), (act, said) in zip(acts, played.pairs())], played.report.end
 
 
 def judge_abort(path: str) -> str:
     """Judges a script that is to take a task back by a conflict."""
-    (played, end), said = played_of("abort", path), SAID["abort"]
+    (played, end), said = played_of("abort", path), TEXTS["abort"]
     back = [it for it in played if it.said.taken_back]
     hold(back, said["none"])
     found = next((it for it in back if it.act.word in ("step", "give", "advance")), back[0])
@@ -97,7 +91,7 @@ def judge_abort(path: str) -> str:
 
 def judge_stall(path: str) -> str:
     """Judges a script that is to fill a queue."""
-    (played, end), said = played_of("stall", path), SAID["stall"]
+    (played, end), said = played_of("stall", path), TEXTS["stall"]
     found = next((number for number, _, it in played if it.reply == "stall"), None)
     hold(found, said["none"])
     hold(end == "normal", said["left"], line=found)
@@ -120,7 +114,7 @@ def build_image(folder: str) -> tuple[pathlib.Path, Image]:
 def judge_false_conflict(folder: str) -> str:
     """Judges a program that is to do the same with fewer conflicts."""
     path, _ = build_image(folder)
-    table, own, said = Table(), FOLDER / "false_conflict", SAID["false_conflict"]
+    table, own, said = Table(), FOLDER / "false_conflict", TEXTS["false_conflict"]
     options = options_beside(own, table)
     acts = acts_in(read_lines(own / "script"), own / "script", options, table)
     before = play(own / "image.bin", acts, options, str(own))[2].report
@@ -134,7 +128,7 @@ def judge_false_conflict(folder: str) -> str:
 
 def judge_order(folder: str) -> str:
     """Judges tasks that are to emit a word whichever way they run."""
-    (path, image), said = build_image(folder), SAID["order"]
+    (path, image), said = build_image(folder), TEXTS["order"]
     own = read_image(read_bytes(FOLDER / "order" / "image.bin"), "order")
     hold(image.text == own.text, said["text"])
     letters = [sorted(task.arguments for task in it.tasks) for it in (image, own)]
@@ -147,6 +141,33 @@ def judge_order(folder: str) -> str:
     return fill(said["right"], output=WORD.decode())
 
 
+# ---- 6, a source whose tasks are put into domains
+
+
+def judge_domains(folder: str) -> str:
+    """Judges a source that is to keep the tasks of each order together, by a subdomain."""
+    (path, image), said = build_image(folder), TEXTS["domains"]
+    own_path = FOLDER / "domains" / "image.bin"
+    own = read_image(read_bytes(own_path), own_path)
+    begins = [(it.is_ordered, [(task.timestamp, task.arguments) for task in it.tasks]) for it in (image, own)]
+    hold(begins[0] == begins[1], said["initial"])
+    report, before = run_of(path), run_of(own_path)
+    hold(report.end == "normal", said["end"], end=report.end)
+    hold(report.output.decode("ascii", "replace") == said["word"], said["other"],
+         output=re.sub("[^A-Z]", "?", report.output.decode("ascii", "replace")), word=said["word"])
+    times = [sorted(entry.timestamp for entry in it.entries) for it in (report, before)]
+    hold(times[0] == times[1], said["times"])
+    flat = next((entry for entry in report.entries if entry.depth == 1 and not str(entry.name).startswith("0.")), None)
+    if flat is not None:
+        hold(False, said["flat"], name=flat.name)
+    return fill(said["right"], word=said["word"])
+
+
+def judge_why(path: str) -> str:
+    """Judges the reasons of the last exercise."""
+    return judge_reasons(path, FOLDER / "why")
+
+
 JUDGES: dict[str, Callable[[str], str]] = {
     "journal": judge_journal, "abort": judge_abort, "stall": judge_stall, "false_conflict": judge_false_conflict,
-    "order": judge_order}
+    "order": judge_order, "domains": judge_domains, "why": judge_why}

@@ -11,19 +11,20 @@ from yotarimu.common.files import encode
 from yotarimu.common.outcome import Refusal
 from yotarimu.common.words import number_in, take_option
 from yotarimu.pictures import plot
-from yotarimu.programs.table import Option, Table
+from yotarimu.programs.table import MOST_VALUE, Option, Value
 
 MOST_RUNS = 100_000
-MOST_VALUE = 2 ** 32 - 1
 LEAST_PLOTTED, MOST_PLOTTED = 1e-9, 1e15
 # What rows have beside options that tells them apart.
 INPUTS = ("input", "image")
 Run = TypeVar("Run")
 
 
-def values_of(option: Option, text: str) -> list[int]:
-    """The values of a list such as `1,5..9,10..100..10`, each once."""
-    values = [value for piece in text.split(",") for value in values_in(option, piece)]
+def values_of(option: Option, text: str) -> list[Value]:
+    """The values of a list such as `1,5..9,10..100..10`, or of a list of words, each once."""
+    pieces = text.split(",")
+    values: list[Value] = [*pieces] if option.has_words else [
+        value for piece in pieces for value in values_in(option, piece)]
     wrong = next((value for value in values if value not in option.values), None)
     if wrong is not None or not values:
         raise Refusal(f"--{option.name} takes {option.range_text()}, and not `{text if wrong is None else wrong}`.")
@@ -45,10 +46,10 @@ def values_in(option: Option, piece: str) -> Sequence[int]:
     return values
 
 
-def program_options(words: Sequence[str], grid: Table) -> tuple[list[str], list[str]]:
+def program_options(words: Sequence[str], known: Mapping[str, Option]) -> tuple[list[str], list[str]]:
     """The program's options among words, each with one value, and the other words."""
     options, rest = [], list(words)
-    for name, option in grid.options.items():
+    for name, option in known.items():
         text, rest = take_option(rest, f"--{name}")
         values = [] if text is None else values_of(option, text)
         if len(values) > 1:
@@ -57,13 +58,14 @@ def program_options(words: Sequence[str], grid: Table) -> tuple[list[str], list[
     return options, rest
 
 
-def cells_of(table: Table, values: Mapping[str, Sequence[int]], what: str = "runs") -> list[dict[str, int]]:
+def cells_of(options: Mapping[str, Option], values: Mapping[str, Sequence[Value]],
+             what: str = "runs") -> list[dict[str, Value]]:
     """The cells of the grid: each choice of one value an option, where an option without values has its default."""
     count = math.prod(map(len, values.values()))
     if count > MOST_RUNS:
         raise Refusal(f"the grid has {count:,} {what}, and {MOST_RUNS:,} are the most.")
-    lists = [values.get(name, [option.default]) for name, option in table.options.items()]
-    return [dict(zip(table.options, choice)) for choice in itertools.product(*lists)]
+    lists = [values.get(name, [option.default]) for name, option in options.items()]
+    return [dict(zip(options, choice)) for choice in itertools.product(*lists)]
 
 
 @dataclasses.dataclass(frozen=True)

@@ -17,8 +17,8 @@ from yotarimu.lines.display import Display
 from yotarimu.lines.reader import Reader
 from yotarimu.lines.replay import Machine, ToldLine
 from yotarimu.lines.sentences import end_told, name_told, opening_told, sentence_of
-from yotarimu.programs.launcher import launch
-from yotarimu.programs.table import Table
+from yotarimu.programs.launcher import launch, why_no_answer
+from yotarimu.programs.table import Table, size_of
 
 # The statuses of a script that was played.
 PLAYED = (0, 3, 4)
@@ -34,7 +34,7 @@ class Schedule:
         self.data = read_bytes(path)
         self.image = read_image(self.data, path)
         self.listing, self.remark = listing_for(path, self.image, None)
-        self.tiles, self.cores = (options.get(name, table.options[name].default) for name in ("tiles", "cores"))
+        self.tiles, self.cores = (size_of(name, options, table) for name in ("tiles", "cores"))
 
     def lines_of(self, acts: Sequence[str]) -> bytes:
         """What the second program tells of these acts."""
@@ -42,7 +42,7 @@ class Schedule:
         script = "".join(f"{act}\n" for act in acts).encode()
         status, written, said = launch(words, self.data + script, subprocess.PIPE)
         if status not in PLAYED:
-            raise Refusal(why_not_played(status, written, (said or b"").decode("utf-8", "replace")))
+            raise Refusal(why_not_played(status, written, said or b""))
         return written
 
     def play(self, acts: Sequence[str], first: Optional[int] = None) -> Performance:
@@ -95,10 +95,7 @@ class Performance:
         return Display(self.machine, self.last, self.entries, self.output, self.schedule.listing).lines()
 
 
-def why_not_played(status: int, written: bytes, said: str) -> str:
+def why_not_played(status: int, written: bytes, said: bytes) -> str:
     """Why the launcher or the program played nothing."""
-    for line in reversed(said.strip().split("\n")):
-        if line.strip():
-            return line.strip().removeprefix("fractal: ")
     fault = written.decode("utf-8", "replace").strip()
-    return fault or f"the second program ended with status {status}: {Table().statuses.get(status, 'an unknown one')}."
+    return why_no_answer(status, said) if said.strip() or not fault else fault

@@ -8,17 +8,12 @@ import re
 from collections.abc import Iterable, Iterator, Sequence
 from typing import Optional
 
+from yotarimu.common.acts import ACTS, DONE, REFUSALS
 from yotarimu.common.files import FilePath
 from yotarimu.common.outcome import Refusal
 from yotarimu.reports.report import Entry, Report, read_report
 
 MOST_TILES, MOST_CORES = 16, 4
-# How many numbers come after each act's word: a tile, and a core of it.
-NUMBERS = {"dispatch": 1, "step": 2, "take": 2, "give": 2, "abort": 1, "commit": 0, "coalesce": 1, "split": 1,
-           "advance": 0}
-# What an act is answered where it was done, and where it wasn't.
-DONE = ("ok", "moved", "committed")
-REFUSALS = ("empty", "busy", "stall", "stale", "firm", "ended")
 NUMBER = "(0|[1-9][0-9]?)"
 
 
@@ -73,7 +68,7 @@ def read_script(text: str, name: FilePath) -> list[Act]:
 def read_act(line: str, place: str) -> Act:
     """The act of a line of a script; refuses other lines."""
     word, *numbers = line.split(" ")
-    if word not in NUMBERS or len(numbers) != NUMBERS[word] or not all(re.fullmatch(NUMBER, it) for it in numbers):
+    if word not in ACTS or len(numbers) != ACTS[word].numbers or not all(re.fullmatch(NUMBER, it) for it in numbers):
         raise Refusal(f"{place}: `{line[:40]}` is no line of a script; docs/guest/FORMATS.md tells which are.")
     tile, core = ([int(it) for it in numbers] + [None, None])[:2]
     if (tile or 0) >= MOST_TILES or (core or 0) >= MOST_CORES:

@@ -2,22 +2,22 @@
 from __future__ import annotations
 
 import pathlib
+import subprocess
 from collections.abc import Iterator, Mapping, Sequence
 from typing import NamedTuple, Optional
 
 from yotarimu.common.files import FilePath, read_bytes, read_text
 from yotarimu.common.outcome import Refusal
-from yotarimu.common.words import Words, number_in
+from yotarimu.common.words import Words
 from yotarimu.courses.schedules import PlayedScript, ActAnswer, read_played, read_script
-from yotarimu.programs.launcher import launch
-from yotarimu.programs.table import Table
+from yotarimu.programs.launcher import launch, pass_on, why_no_answer
+from yotarimu.programs.table import Table, Value, size_of
 from yotarimu.reports.refusals import script_fault, quote
 
-MOST_VALUE = 2 ** 32 - 1
 # The width up to which a reply stands right behind its line.
 WIDEST = 72
 # The program's options by their names, without the dashes.
-Options = dict[str, int]
+Options = dict[str, Value]
 
 
 class NumberedAct(NamedTuple):
@@ -36,18 +36,16 @@ class Outcome(NamedTuple):
 def options_of(values: Mapping[str, Optional[str]], table: Table) -> Options:
     """The program's options of which values are given, each one that it may have."""
     options: Options = {}
-    for name, option in table.options.items():
-        text = values[name]
+    for name, option in table.course_options.items():
+        text = values.get(name)
         if text is not None:
-            number = number_in(text, 0, MOST_VALUE)
-            if number is None or number not in option.values:
-                raise Refusal(f"--{name} takes {option.range_text()}, and not `{text}`.")
-            options[name] = number
+            options[name] = option.need(text)
     return options
 
 
 def options_beside(place: pathlib.Path, table: Table) -> Options:
-    """The options that the file `words` of a folder has, if there is one; it may begin with a command."""
+    """The options that the file `words` of a folder has, if there is one, all of the first program; it may begin with a
+    command."""
     file = place / "words"
     words = read_text(file).split() if file.is_file() else []
     given = Words("", table.options).read_known([word for word in words if word not in table.commands])
@@ -72,7 +70,7 @@ def read_lines(path: FilePath) -> list[bytes]:
 
 def acts_in(lines: Sequence[bytes], name: FilePath, options: Options, table: Table) -> list[NumberedAct]:
     """The acts of a script's lines, each with its number; a refusal where a line is neither an act nor empty."""
-    tiles, cores = (options.get(option, table.options[option].default) for option in ("tiles", "cores"))
+    tiles, cores = (size_of(name, options, table) for name in ("tiles", "cores"))
     acts = []
     for number, line in enumerate(lines, 1):
         text = b" ".join(line.partition(b"#")[0].split())
@@ -95,10 +93,13 @@ def play(image: FilePath, acts: Sequence[NumberedAct], options: Options, name: s
 def ask(words: Sequence[str], image: FilePath, behind: bytes = b"") -> tuple[int, str]:
     """The status of a call on an image and what comes behind it, and what the program wrote; a refusal in place of a
     fault."""
-    status, written, _ = launch(words, read_bytes(image) + behind)
+    status, written, said = launch(words, read_bytes(image) + behind, subprocess.PIPE)
     text = written.decode("utf-8", "replace")
-    if text.startswith("fault") or not text:
-        raise Refusal(f"{image}: the program refused it: {text.strip() or f'status {status}'}.")
+    if text.startswith("fault"):
+        raise Refusal(f"{image}: the program refused it: {text.strip()}.")
+    if not text:
+        raise Refusal(why_no_answer(status, said))
+    pass_on(said)
     return status, text
 
 

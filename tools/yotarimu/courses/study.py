@@ -18,6 +18,7 @@ from yotarimu.figures.columns import COLUMNS, END, Row, heads
 from yotarimu.figures.run import Figures, figures_of
 from yotarimu.lines.reader import Reader
 from yotarimu.programs.calls import Calls
+from yotarimu.programs.table import Value
 
 # The statuses of a run that was told to its end.
 TOLD = (0, 3, 4)
@@ -30,7 +31,7 @@ class Choice:
     """An image with a value for each option, and its number among all choices, from 1."""
     number: int
     image: str
-    options: Mapping[str, int]
+    options: Mapping[str, Value]
 
 
 @dataclasses.dataclass
@@ -160,7 +161,12 @@ def tell(played: StudyRows, varying: Sequence[str], jobs: int) -> None:
     for choice, row in played.play(jobs):
         shown = [choice.image] if names else []
         cells = row.cells(study.columns, played.first(choice.image), False)
-        print(row_of([*shown, *(f"{choice.options[name]:,}" for name in varying), *map(str, cells)]), flush=True)
+        print(row_of([*shown, *(value_text(choice.options[name]) for name in varying), *map(str, cells)]), flush=True)
+
+
+def value_text(value: Value) -> str:
+    """A value of an option as people read it."""
+    return value if isinstance(value, str) else f"{value:,}"
 
 
 def csv_of(cells: Sequence[Sequence[str]]) -> bytes:

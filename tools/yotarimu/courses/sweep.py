@@ -18,14 +18,14 @@ from yotarimu.common.progress import show_progress
 from yotarimu.courses.grid import Shard, cells_of
 from yotarimu.programs.calls import Calls
 from yotarimu.programs.program import PROGRAM
-from yotarimu.programs.table import Table
+from yotarimu.programs.table import Table, Value
 
 # The end of a report: the output, the words of the window, and the last line.
 REPORT = re.compile(rb"\noutput (-|(?:[0-9a-f]{2})+)\n((?:window [0-9a-f]{8} [0-9a-f]{8}\n)*)end [^\n]+\n\Z")
 
 
 # The options of a run by name, and what it came to, by column.
-Cell = dict[str, int]
+Cell = dict[str, Value]
 Result = dict[str, object]
 
 
@@ -95,7 +95,7 @@ class Request:
     jobs: int = 1
     shard: Shard = Shard()
     wants_check: bool = False
-    values: dict[str, Sequence[int]] = dataclasses.field(default_factory=dict)
+    values: dict[str, Sequence[Value]] = dataclasses.field(default_factory=dict)
 
 
 def header(table: Table) -> list[str]:
@@ -105,7 +105,7 @@ def header(table: Table) -> list[str]:
 
 def sweep_rows(request: Request, table: Table) -> Iterator[list[object]]:
     """The rows of the runs that are asked for, each as it comes, in the order of the grid."""
-    cells = cells_of(table, request.values)
+    cells = cells_of(table.options, request.values)
     command = ["load", *request.load] if request.load else ["run"]
     data = read_bytes(request.image) if request.image is not None else b""
     is_apart = request.csv is not None or not sys.stdout.isatty()

@@ -41,10 +41,12 @@ class Attempt:
         """How many instructions are executed so far, or at its end."""
         return self.counts[-1] if self.counts else 0
 
-    def note(self, stretch: int, length: int) -> None:
-        """It goes on by a stretch of so many instructions."""
-        self.counts.append(self.executed_count + length)
+    def note(self, stretch: int, length: int) -> int:
+        """It goes on by a stretch of so many instructions; how many were executed before."""
+        executed = self.executed_count
+        self.counts.append(executed + length)
         self.stretches.append(stretch)
+        return executed
 
     def is_there(self, position: Position) -> bool:
         """Whether the attempt has begun at a position, and isn't gone yet."""

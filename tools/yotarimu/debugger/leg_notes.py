@@ -88,7 +88,8 @@ class LegNotes:
     def leg(self, told: ToldLine, task: Task, line: Line) -> None:
         """Notes a leg, what its event takes back, and then the access or the call at its end."""
         attempt, first, number = self.running[task], len(self.memory.stores), len(self.stretches)
-        length, pcs = line["leg"] + (line["asks"] not in NOT_EXECUTED), frozenset(self.cores[task].passed)
+        asks, passed = line["asks"], frozenset(self.cores[task].passed)
+        length = line["leg"] + (asks not in NOT_EXECUTED)
         self.need_room(length)
         if told.taken:
             self.take_back(told, Position(number, length - 1), Position(number, length))
@@ -96,14 +97,13 @@ class LegNotes:
             self.access(attempt, told.access)
         elif told.arrived is not None:
             self.made[told.arrived] = Origin(attempt, Position(number, line["leg"]), line["pc"])
-        elif line["asks"] == "trap":
+        elif asks == "trap":
             attempt.trap = line["cause"], line["pc"]
             self.trapped[Position(number, length)] = attempt
-        self.starts.append(attempt.executed_count)
-        attempt.note(number, length)
+        self.starts.append(attempt.note(number, length))
         self.owners.append(attempt)
         self.events.append(line["n"])
-        self.stretches.append(Stretch(length, self.known.setdefault(pcs, pcs), first, len(self.memory.stores)))
+        self.stretches.append(Stretch(length, self.known.setdefault(passed, passed), first, len(self.memory.stores)))
 
     def access(self, attempt: Attempt, access: Access) -> None:
         """Notes an access: a store changes memory, and of a load the value that it found is kept."""

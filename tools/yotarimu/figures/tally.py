@@ -5,8 +5,9 @@ import collections
 from collections.abc import Iterator, Mapping
 from typing import Callable, Optional
 
+from yotarimu.common.acts import ACTS, DONE, REFUSALS
 from yotarimu.common.tables import plain_ratio, ratio, table
-from yotarimu.courses.schedules import DONE, NUMBERS, REFUSALS, PlayedScript, is_commit
+from yotarimu.courses.schedules import PlayedScript, is_commit
 
 # The curve of commits has so many points at most.
 MOST_POINTS = 60
@@ -50,11 +51,11 @@ class Tally:
 
     def stalls(self) -> dict[str, int]:
         """How many acts of each word stalled, of those that did."""
-        return {word: self.count(word, "stall") for word in NUMBERS if self.count(word, "stall")}
+        return {word: self.count(word, "stall") for word in ACTS if self.count(word, "stall")}
 
     def words(self) -> list[str]:
         """The acts that stand in the script, in the order in which documents list them."""
-        return [word for word in NUMBERS if word in self.replies]
+        return [word for word in ACTS if word in self.replies]
 
     def answers(self) -> list[str]:
         """The answers that were given."""
@@ -100,7 +101,7 @@ PLAIN: tuple[tuple[str, Callable[[Tally], object]], ...] = (
 def plain_rows(tallies: Mapping[str, Tally]) -> Iterator[list[object]]:
     """The tallies of a dictionary by name as rows of CSV, a row each, under their head; with how often each act had
     each answer, and how many tasks each took back."""
-    pairs = [(word, reply) for word in NUMBERS for reply in DONE + REFUSALS
+    pairs = [(word, reply) for word in ACTS for reply in DONE + REFUSALS
              if any(it.count(word, reply) for it in tallies.values())]
     words = list(dict.fromkeys(word for word, _ in pairs))
     yield ["output", *(name for name, _ in PLAIN), *(f"{word} {reply}" for word, reply in pairs),

@@ -5,6 +5,7 @@ import pathlib
 import re
 import shutil
 import subprocess
+from collections.abc import Collection
 from typing import Optional
 
 from yotarimu.common.outcome import Refusal
@@ -37,6 +38,10 @@ OWN_OPTIONS = {GCC: ("-mstrict-align", "-ftrack-macro-expansion=0"),
                CLANG: ("--target=riscv32", "-Wno-unknown-warning-option", "-Wno-c2x-extensions")}
 # A loop that copies stays a loop, since memcpy would call itself.
 AS_WRITTEN = {GCC: ("-fno-builtin", "-fno-tree-loop-distribute-patterns"), CLANG: ("-fno-builtin",)}
+# What is refused where a number would lose bits as an argument of a child.
+CUT = r"conversion from .* change|implicit conversion (loses|turns)"
+# A name that is used before a source tells what it is.
+UNDECLARED = r"undeclared identifier '\w+'|'\w+' (undeclared|was not declared)"
 # What a complaint usually comes from.
 ADVICE = (
     (r"makes integer from pointer|incompatible pointer to integer", "a pointer is given as at(pointer)"),
@@ -44,7 +49,8 @@ ADVICE = (
     (r"no such file.*|'std\w+\.h' file not found", "there is no C library"),
     (r"return type defaults|type specifier missing", "TASK needs the line #include \"task.h\""),
     (r"called object .* is not a function", "a task is enqueued"),
-    (r"task_child_of|task_piece|excess elements", "a child has a timestamp, three arguments and a hint"),
+    (r"task_code\[\d+\]|redefinition of '\w+_body'", "one TASK defines a task"),
+    (r"task_child_of|task_piece", "a child has a timestamp, three arguments and a hint"),
 )
 
 
@@ -88,12 +94,13 @@ def arithmetic() -> list[str]:
     return [str(path)] if "rv32i" in path.parts and path.is_file() else []
 
 
-def complaints(said: str) -> Optional[str]:
-    """What a compiler complains of, a sentence for each line of a source; None where it complains otherwise."""
+def complaints(said: str, tasks: Collection[str] = ()) -> Optional[str]:
+    """What a compiler complains of, a sentence for each line of a source; None where it complains otherwise. Of names
+    that are tasks it is told how a source says that they are."""
     sentences: dict[str, str] = {}
     for found in re.finditer(r"(?m)^(.+?:\d+):\d+: (fatal error|error|warning): (.*)$", said):
         place = found[1] if not found[1].startswith(HEADER) else used_at(said, found) or found[1]
-        sentences.setdefault(place, complaint(found[3], found[2]))
+        sentences.setdefault(place, complaint(found[3], found[2], tasks))
     if not sentences:
         return None
     return "\n".join(f"{place}: {sentence}" for place, sentence in sentences.items())
@@ -107,13 +114,17 @@ def used_at(said: str, found: re.Match[str]) -> Optional[str]:
     return places[0] if places else None
 
 
-def complaint(text: str, kind: str) -> str:
+def complaint(text: str, kind: str, tasks: Collection[str]) -> str:
     """What a compiler says, as a sentence with what usually helps."""
-    text = re.sub(r" \[-W[^]]*\]$", "", text)
-    if found := re.match(r"static(?:_assert| assertion) failed[^\"]*\"(.*)\"|static assertion failed: (.*)", text):
+    text = re.sub(r" \[-W[^]]*\]$| \(first use in this function\)$", "", text)
+    if found := re.match(r"static(?:_assert| assertion) failed.*\"(.*)\"|static assertion failed: (.*)", text):
         return f"{found[1] or found[2]}."
+    if kind == "error" and re.search(CUT, text):
+        return f"a child is given numbers of 32 bits ({text})."
     advice = next((sentence for pattern, sentence in ADVICE if re.search(pattern, text, re.IGNORECASE)), None)
-    return text + (f" ({advice})" if advice else " (a warning)" if kind == "warning" else "") + "."
+    if (found := re.search(UNDECLARED, text)) and (name := found[0].split("'")[1]) in tasks:
+        advice = f"`extern task_entry {name};` above this line tells of a task that is defined below or elsewhere"
+    return text.rstrip("?") + (f" ({advice})" if advice else " (a warning)" if kind == "warning" else "") + "."
 
 
 def where_from(name: str) -> str:

@@ -102,7 +102,9 @@ def window_of(line: Line, assembled: Assembly, size: int) -> tuple[int, int]:
     # Compilers tell a label's size, and sources in assembly may.
     count = -(-label.size // 4) if told is None else told
     if told is None and not 0 < count <= WINDOW_WORDS:
-        line.refuse_form(f"`{label.name}` has {label.size:,} bytes, so a number of words is wanted:")
+        why = f"`{label.name}` has {label.size:,} bytes, and a window up to {WINDOW_WORDS:,} words" if label.size else (
+            f"the source doesn't tell how large `{label.name}` is")
+        line.refuse_form(f"{why}, so a number of words is wanted:")
     if offset + 4 * count > size:
         line.refuse(f"the window ends after the data, which has {size} bytes")
     return offset, count

@@ -13,6 +13,7 @@ from yotarimu.images.image_line import Line, label_of
 from yotarimu.images.source import PLACES, Assembly
 
 WORD = 0xFFFFFFFF
+INSTRUCTION_BYTES = 4
 
 
 def initial_task(line: Line, assembled: Assembly) -> InitialTask:
@@ -70,6 +71,9 @@ def entry_of(line: Line, assembled: Assembly, name: str) -> Label:
     entry = label_of(line, assembled, name, (".text",), "text")
     if is_plain_function(assembled, entry):
         line.refuse(f"`{entry.name}` is a function and no task; TASK({entry.name}, ..) makes one")
+    if entry.address % INSTRUCTION_BYTES:
+        line.refuse(f"the label `{entry.name}` stands at {entry.address:08x}, and a task begins at a multiple of 4: "
+                    "`.balign 4` above it helps")
     return entry
 
 

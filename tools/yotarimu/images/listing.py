@@ -85,7 +85,8 @@ def listing_text(sources: Sequence[Source], assembled: Assembly, image: Image) -
     lines = [f"What stands where in image.bin, made of {names}: address, word, instruction, source line.", ""]
     code = {at: word for at, word in listing.words.items() if at < TEXT + assembled.code_size}
     for address, word in code.items():
-        lines += label_lines(assembled, address)
+        for place in range(address, address + 4):
+            lines += label_lines(assembled, place)
         lines.append(instruction_line(listing, address, word))
     fixed = image.text[len(code) * 4:]
     lines += data_lines(assembled, TEXT + len(code) * 4, fixed, "constants, in the text")
@@ -149,8 +150,8 @@ def read_listing(text: str, name: FilePath) -> Listing:
     for line in text.splitlines():
         if label := re.fullmatch(r"([0-9a-f]{8}) <(.+)>:", line):
             listing.labels.setdefault(int(label[1], 16), label[2])
-        elif found := re.match(r"([0-9a-f]{8})  ([0-9a-f]{8})  (.*)", line):
-            read_instruction(listing, int(found[1], 16), int(found[2], 16), found[3])
+        elif found := re.match(r"([0-9a-f]{8})  ([0-9a-f]{8})(?:  (.*)|$)", line):
+            read_instruction(listing, int(found[1], 16), int(found[2], 16), found[3] or "")
     if not listing.words:
         raise Refusal(f"{name}: this is no listing that ./fractal build wrote.")
     return listing

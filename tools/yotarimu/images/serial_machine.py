@@ -8,8 +8,9 @@ from __future__ import annotations
 import dataclasses
 import functools
 import heapq
-from collections.abc import Iterable, Sequence
-from typing import Optional, Union
+import operator
+from collections.abc import Callable, Iterable, Sequence
+from typing import NamedTuple, Optional, Union
 
 from yotarimu.images.image import DATA, STACK, TEXT, Image
 from yotarimu.reports.report import Entry, Name, Trap
@@ -30,11 +31,12 @@ BAD_CALL, EARLY, NO_SUBDOMAIN, SECOND_SUBDOMAIN, NO_SUPERDOMAIN, TOO_DEEP, CHILD
 
 
 class TaskTrap(Exception):
-    """A task traps: its cause, and the address of the load or store that does."""
+    """A task traps: its cause, the address of the load or store that does, and for a timestamp in the past the least
+    that might have been given."""
 
-    def __init__(self, cause: int, address: Optional[int] = None) -> None:
+    def __init__(self, cause: int, address: Optional[int] = None, least: Optional[int] = None) -> None:
         super().__init__(cause)
-        self.cause, self.address = cause, address
+        self.cause, self.address, self.least = cause, address, least
 
 
 @dataclasses.dataclass
@@ -70,8 +72,8 @@ class Machine:
     # How many turns were taken.
     turns = 0
 
-    def __init__(self, image: Image) -> None:
-        self.image = image
+    def __init__(self, image: Image, budget: int = MOST_BUDGET) -> None:
+        self.image, self.budget = image, budget
         self.memory = bytearray(image.initial) + bytes(image.size - len(image.initial))
         self.steps = 0
         self.tasks: dict[Name, Task] = {}
@@ -84,9 +86,9 @@ class Machine:
             self.add(Name(0, index), initial.entry, initial.timestamp, initial.arguments, root)
 
     @classmethod
-    def after(cls, turns: int, saved: Image, names: Sequence[Name]) -> Machine:
+    def after(cls, turns: int, saved: Image, names: Sequence[Name], budget: int = MOST_BUDGET) -> Machine:
         """The machine after so many turns, by the image that was saved there, whose tasks have these names."""
-        machine = cls(saved)
+        machine = cls(saved, budget)
         machine.turns = turns
         for task, name in zip(machine.tasks.values(), names):
             task.name = name
@@ -166,7 +168,7 @@ class Run:
 
     def go(self) -> None:
         """Executes the task up to its end; raises TaskTrap where it traps."""
-        machine, last = self.machine, self.machine.steps + MOST_BUDGET
+        machine, last = self.machine, self.machine.steps + self.machine.budget
         while not self.is_over:
             if machine.steps == last:
                 raise TaskTrap(BUDGET)
@@ -177,37 +179,8 @@ class Run:
             machine.steps += 1
 
     def step(self, word: int) -> None:
-        """Executes one instruction, a word of the text; raises TaskTrap where it traps."""
-        opcode, target, first, second, kind, immediate, is_other = decode(word)
-        registers, result, following = self.registers, None, self.pc + 4
-        one = registers[first]
-        if opcode == IMMEDIATE:
-            result = compute(kind, one, immediate & MASK, is_other and kind == 5)
-        elif opcode == REGISTER:
-            result = compute(kind, one, registers[second], is_other)
-        elif opcode == BRANCH:
-            following = self.pc + immediate if is_met(kind, one, registers[second]) else following
-        elif opcode == LOAD:
-            result = self.load(kind, one + immediate & MASK)
-        elif opcode == STORE:
-            self.store(1 << (kind & 3), one + immediate & MASK, registers[second])
-        elif opcode == LUI:
-            result = immediate
-        elif opcode == AUIPC:
-            result = self.pc + immediate
-        elif opcode == JAL:
-            result, following = following, self.pc + immediate
-        elif opcode == JALR:
-            result, following = following, one + immediate & ~1
-        elif word == ECALL:
-            self.call()
-        elif opcode != FENCE:
-            raise TaskTrap(BREAK if word == EBREAK else ILLEGAL)
-        if following % 4:
-            raise TaskTrap(TARGET)
-        if result is not None and target:
-            registers[target] = result & MASK
-        self.pc = following & MASK
+        """Executes one instruction, a word of the text; raises TaskTrap where it traps, and changes nothing then."""
+        operation_of(word)(self)
 
     def load(self, kind: int, address: int) -> int:
         """The value of a load of a kind (its funct3) at an address; raises TaskTrap where it traps."""
@@ -274,7 +247,7 @@ class Run:
         # A subdomain's timestamps start afresh.
         least = {1: self.task.timestamp, 2: 0, 3: own.floor}[number]
         if domain.is_ordered and timestamp < least:
-            raise TaskTrap(EARLY)
+            raise TaskTrap(EARLY, least=least)
         if self.children == self.limits.children:
             raise TaskTrap(CHILD)
         self.machine.add(Name(self.turn, self.children), entry, timestamp, arguments, domain)
@@ -287,13 +260,22 @@ def signed_number(value: int, bits: int) -> int:
     return value - (1 << bits) if value >> bits - 1 else value
 
 
-# An image has no more words.
-@functools.lru_cache(maxsize=65_536)
-def decode(word: int) -> tuple[int, int, int, int, int, int, bool]:
+class Instruction(NamedTuple):
     """The fields of an instruction: opcode, rd, rs1, rs2, funct3, the immediate of its format, and bit 30."""
+    opcode: int
+    target: int
+    first: int
+    second: int
+    kind: int
+    immediate: int
+    is_other: bool
+
+
+def decode(word: int) -> Instruction:
+    """The fields of a word, whether or not it is an instruction."""
     opcode = word & 0x7F
-    return (opcode, word >> 7 & 31, word >> 15 & 31, word >> 20 & 31, word >> 12 & 7, immediate_of(opcode, word),
-            bool(word >> 30 & 1))
+    return Instruction(opcode, word >> 7 & 31, word >> 15 & 31, word >> 20 & 31, word >> 12 & 7,
+                       immediate_of(opcode, word), bool(word >> 30 & 1))
 
 
 def immediate_of(opcode: int, word: int) -> int:
@@ -307,29 +289,176 @@ def immediate_of(opcode: int, word: int) -> int:
     return word & 0xFFFFF000 if opcode in (LUI, AUIPC) else signed_number(word >> 20, 12)
 
 
-def compute(kind: int, one: int, two: int, is_other: bool) -> int:
-    """The result of a register instruction, or of one with an immediate; `is_other` tells SUB and SRA."""
-    if kind == 0:
-        return one - two if is_other else one + two
-    if kind == 1:
-        return one << (two & 31)
-    if kind == 2:
-        return signed_number(one, 32) < signed_number(two, 32)
-    if kind == 3:
-        return one < two
-    if kind == 4:
-        return one ^ two
-    if kind == 5:
-        return (signed_number(one, 32) if is_other else one) >> (two & 31)
-    return one | two if kind == 6 else one & two
+# What an instruction does to the task that runs: registers, pc, and what its load, store or call does.
+Operation = Callable[[Run], None]
 
 
-def is_met(kind: int, one: int, two: int) -> bool:
+# An image has no more words.
+@functools.lru_cache(maxsize=65_536)
+def operation_of(word: int) -> Operation:
+    """What an instruction does. Where it traps it has changed nothing."""
+    if word in ALONE:
+        return ALONE[word]
+    instruction = decode(word)
+    return OPERATIONS[instruction.opcode](instruction) if instruction.opcode in OPERATIONS else illegal
+
+
+def is_straight(word: int) -> bool:
+    """Whether an instruction changes a register at most, and the next one comes then."""
+    return word & 0x7F in STRAIGHT
+
+
+def nothing(run: Run) -> None:
+    """Does what a fence does, or an instruction whose result no register takes."""
+    run.pc += 4
+
+
+def illegal(_run: Run) -> None:
+    """Traps, as a word does that is no instruction."""
+    raise TaskTrap(ILLEGAL)
+
+
+def stop(_run: Run) -> None:
+    """Traps, as EBREAK does."""
+    raise TaskTrap(BREAK)
+
+
+def call(run: Run) -> None:
+    """Makes the call that the registers tell."""
+    run.call()
+    run.pc += 4
+
+
+def with_immediate(instruction: Instruction) -> Operation:
+    """What an instruction does that computes with an immediate."""
+    _, target, first, _, kind, immediate, is_other = instruction
+    compute, value = arithmetic(kind, is_other and kind == 5), immediate & MASK
+
+    def add(run: Run) -> None:
+        run.registers[target] = run.registers[first] + value & MASK
+        run.pc += 4
+
+    def other(run: Run) -> None:
+        run.registers[target] = compute(run.registers[first], value) & MASK
+        run.pc += 4
+
+    return nothing if target == 0 else other if kind else add
+
+
+def with_register(instruction: Instruction) -> Operation:
+    """What one does that computes with two registers."""
+    _, target, first, second, kind, _, is_other = instruction
+    compute = arithmetic(kind, is_other)
+
+    def result(run: Run) -> None:
+        registers = run.registers
+        registers[target] = compute(registers[first], registers[second]) & MASK
+        run.pc += 4
+
+    return result if target else nothing
+
+
+def branch(instruction: Instruction) -> Operation:
+    """What a branch does."""
+    _, _, first, second, kind, offset, _ = instruction
+    is_met = comparison(kind)
+
+    def go(run: Run) -> None:
+        registers = run.registers
+        if not is_met(registers[first], registers[second]):
+            run.pc += 4
+        elif offset % 4:
+            raise TaskTrap(TARGET)
+        else:
+            run.pc = run.pc + offset & MASK
+
+    return go
+
+
+def load(instruction: Instruction) -> Operation:
+    """What a load does."""
+    _, target, first, _, kind, offset, _ = instruction
+
+    def result(run: Run) -> None:
+        found = run.load(kind, run.registers[first] + offset & MASK)
+        if target:
+            run.registers[target] = found & MASK
+        run.pc += 4
+
+    return result
+
+
+def store(instruction: Instruction) -> Operation:
+    """What a store does."""
+    _, _, first, second, kind, offset, _ = instruction
+    width = 1 << (kind & 3)
+
+    def go(run: Run) -> None:
+        registers = run.registers
+        run.store(width, registers[first] + offset & MASK, registers[second])
+        run.pc += 4
+
+    return go
+
+
+def upper(instruction: Instruction) -> Operation:
+    """What LUI does, and AUIPC, which adds the address of the instruction."""
+    target, value, is_relative = instruction.target, instruction.immediate, instruction.opcode == AUIPC
+
+    def result(run: Run) -> None:
+        run.registers[target] = (run.pc if is_relative else 0) + value & MASK
+        run.pc += 4
+
+    return result if target else nothing
+
+
+def jump(instruction: Instruction) -> Operation:
+    """What JAL does, and JALR, which goes by a register in place of the address of the instruction."""
+    opcode, target, first, _, _, offset, _ = instruction
+    is_far = opcode == JALR
+
+    def go(run: Run) -> None:
+        following = run.registers[first] + offset & ~1 if is_far else run.pc + offset
+        if following % 4:
+            raise TaskTrap(TARGET)
+        if target:
+            run.registers[target] = run.pc + 4
+        run.pc = following & MASK
+
+    return go
+
+
+STRAIGHT = (FENCE, IMMEDIATE, AUIPC, REGISTER, LUI)
+ALONE: dict[int, Operation] = {ECALL: call, EBREAK: stop}
+OPERATIONS: dict[int, Callable[[Instruction], Operation]] = {
+    LOAD: load, FENCE: lambda _: nothing, IMMEDIATE: with_immediate, AUIPC: upper, STORE: store,
+    REGISTER: with_register, LUI: upper, BRANCH: branch, JALR: jump, JAL: jump}
+
+
+def arithmetic(kind: int, is_other: bool) -> Callable[[int, int], int]:
+    """What a register instruction computes, or one with an immediate, up to the bits of a register; `is_other` tells
+    SUB and SRA."""
+    return OTHERS[kind] if is_other and kind in OTHERS else ARITHMETIC[kind]
+
+
+def comparison(kind: int) -> Callable[[int, int], bool]:
     """Whether a branch is taken."""
-    if kind & 4:
-        is_less = one < two if kind & 2 else signed_number(one, 32) < signed_number(two, 32)
-        return is_less != bool(kind & 1)
-    return (one == two) != bool(kind & 1)
+    return COMPARISONS[kind if kind & 4 else kind & 1]
+
+
+def is_less(one: int, two: int) -> bool:
+    """Whether a register's number is less than another one, both with their signs."""
+    return signed_number(one, 32) < signed_number(two, 32)
+
+
+ARITHMETIC: tuple[Callable[[int, int], int], ...] = (
+    operator.add, lambda one, two: one << (two & 31), is_less, operator.lt, operator.xor,
+    lambda one, two: one >> (two & 31), operator.or_, operator.and_)
+OTHERS: dict[int, Callable[[int, int], int]] = {
+    0: operator.sub, 5: lambda one, two: signed_number(one, 32) >> (two & 31)}
+COMPARISONS: dict[int, Callable[[int, int], bool]] = {
+    0: operator.eq, 1: operator.ne, 4: is_less, 5: lambda one, two: not is_less(one, two), 6: operator.lt,
+    7: operator.ge}
 
 
 def branch_offset(word: int) -> int:

@@ -16,7 +16,7 @@ from typing import NoReturn, Optional
 
 from yotarimu.common.files import read_bytes, read_written
 from yotarimu.common.outcome import Refusal, note
-from yotarimu.images import compiler, elf
+from yotarimu.images import compiler, elf, names
 from yotarimu.images.elf import Label
 from yotarimu.images.image import DATA, DATA_BYTES, TEXT, TEXT_WORDS
 
@@ -177,24 +177,24 @@ def tool_prefix() -> str:
                   f"{', '.join(PREFIXES)} are wanted (Debian's package binutils-riscv64-linux-gnu has them).")
 
 
-def run_tool(words: Sequence[str], folder: str, names: Sequence[Source]) -> str:
+def run_tool(words: Sequence[str], folder: str, sources: Sequence[Source]) -> str:
     """Runs a tool; what it complains of is told with the sources' paths for the objects' names."""
     done = subprocess.run(words, cwd=folder, capture_output=True, text=True, errors="replace", stdin=subprocess.DEVNULL,
                           env={**os.environ, "LC_ALL": "C"}, preexec_fn=bound_files)
     said = re.sub(r".*: Assembler messages:\n", "", done.stderr.replace(f"{words[0]}: ", "")).strip()
     said = said.replace(f"{compiler.LIBRARY}/", "")
-    for place, source in enumerate(names):
+    for place, source in enumerate(sources):
         said = said.replace(str(source.path.absolute()), str(source.path))
         said = re.sub(rf"\b{place}\.o\b", lambda _: str(source.path), said)
     if done.returncode == -signal.SIGXFSZ or "File too large" in said:
-        refuse_size(names)
+        refuse_size(sources)
+    complaints = compiler.complaints(said, names.enqueued_names(sources))
     if done.returncode == 0:
         if said:
-            note(compiler.complaints(said) or said)
+            note(complaints or said)
         return done.stdout
-    if missing := dict.fromkeys(re.findall(r"(?m)^(?:.*: )?(\S.*?:\d+): undefined reference to [`']([^']+)'", said)):
-        said = "\n".join(f"{place}: `{name}` is defined nowhere{compiler.where_from(name)}." for place, name in missing)
-    raise Refusal(compiler.complaints(said) or said or f"{words[0]} ended with status {done.returncode}.")
+    raise Refusal(complaints or names.sentences(said, pathlib.Path(folder), sources) or said
+                  or f"{words[0]} ended with status {done.returncode}.")
 
 
 def bound_files() -> None:

@@ -8,6 +8,7 @@ from yotarimu.common.text import count_text, printable
 from yotarimu.images.image import DATA
 from yotarimu.images.listing import Listing
 from yotarimu.lines.fields import Line
+from yotarimu.lines.orders import domain_told
 from yotarimu.lines.replay import TRAPPED, Machine, Task, ToldLine
 from yotarimu.lines.sentences import label_of, list_text
 
@@ -49,7 +50,8 @@ class Display:
         finished = [self.machine.tasks[number] for number in self.machine.finished[tile]]
         labels = behind(label_of(task) for task in finished)
         yield title_line("commit queue", f"{len(finished)} of {head['commit_queue']}{labels}")
-        yield title_line("block", f"{count_text(len(block), 'task')}{behind(label_of(task) for task in block)}")
+        yield title_line("block", count_text(len(block), "task"))
+        yield from self.task_lines(block)
 
     def task_lines(self, queue: Sequence[Task]) -> Iterator[str]:
         """The first tasks of a queue as rows, and how many more there are."""
@@ -61,11 +63,12 @@ class Display:
             yield f"      and {len(queue) - MOST_TASKS:,} more"
 
     def task_row(self, task: Task) -> tuple[str, ...]:
-        """A task's mark, label, label in the text with arguments, timestamp and state."""
+        """A task's mark, label, label in the text with arguments, timestamp, depth, domain and state."""
         mark = ">" if self.told and task in (self.told.task, self.told.arrived) else " "
         back = ", taken back" if id(task) in self.back else ""
         words = self.listing.task_words(task.entry, task.arguments)
-        return mark, label_of(task), words, f"timestamp {task.timestamp}", f"{task.state}{back}"
+        domain = f"depth {task.depth}, {domain_told(task, task.depth - 1)}"
+        return mark, label_of(task), words, f"timestamp {task.timestamp}", domain, f"{task.state}{back}"
 
     def core_told(self, tile: int, core: int) -> str:
         """What a core holds: a task with its work, or nothing."""

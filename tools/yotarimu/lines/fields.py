@@ -6,19 +6,14 @@ they are. Such skeletons are remembered, and a line with one that is known isn't
 from __future__ import annotations
 
 import json
-import re
 from typing import Any, Callable, Optional
 
-WORDS = ("dispatch", "step", "take", "give", "abort", "commit", "coalesce", "split", "advance")
-# Those that are events; the others are told under their own word where no event was handed in.
-EVENTS = ("dispatch", "step", "abort", "commit", "coalesce", "split")
+from yotarimu.common.acts import ACTS, ENDED
+
+# Acts that are events; the others are told under their own word where no event was handed in.
+EVENTS = tuple(word for word, kind in ACTS.items() if kind.is_event)
 # The replies that an act may have; each may also come after the run's end.
-REPLIES = {
-    "dispatch": ("ok", "empty", "busy"), "step": ("ok", "stale"), "take": ("ok", "stale"), "give": ("stale",),
-    "abort": ("ok", "empty", "firm"), "commit": ("ok", "empty"), "coalesce": ("ok", "empty"),
-    "split": ("ok", "empty", "stall"), "advance": (),
-}
-ENDED = "ended"
+REPLIES = {word: kind.told for word, kind in ACTS.items()}
 # A step may stall where its task asks for these.
 STALLING = ("enqueue", "end")
 KINDS = ("ordered", "unordered")
@@ -28,7 +23,9 @@ ENDS = ("normal", "limit", "open", "trap")
 SETTINGS = ("tiles", "cores", "task_queue", "commit_queue", "line", "quantum", "commits", "budget", "phase")
 # No number of the second program has more digits: a skeleton with a longer one is never known.
 MOST_DIGITS = 20
-DIGITS = re.compile(f"[0-9]{{1,{MOST_DIGITS}}}")
+TOO_LONG = b"0" * (MOST_DIGITS + 1)
+# Makes each digit 0.
+ZEROS = bytes(ord("0") if chr(byte).isdigit() else byte for byte in range(128)) + bytes(range(128, 256))
 MOST_SKELETONS = 4_096
 MOST_SHOWN = 40
 DECODER = json.JSONDecoder()
@@ -218,7 +215,7 @@ class Shapes:
     __slots__ = ("known",)
 
     def __init__(self) -> None:
-        self.known: set[str] = set()
+        self.known: set[bytes] = set()
 
     def line_of(self, text: str) -> Line:
         """The fields of a line, without its newline; Wrong where it is none."""
@@ -228,14 +225,23 @@ class Shapes:
             raise WrongLine(f"`{value_text(text)}` is no JSON") from None
         except RecursionError:
             raise WrongLine("it is nested too deep") from None
-        skeleton = DIGITS.sub("0", text)
+        skeleton = skeleton_of(text)
         if skeleton not in self.known or end != len(text):
             need_shape(text, decoded)
             # The digits of bytes in hexadecimal are no numbers.
-            if len(self.known) < MOST_SKELETONS and "output" not in decoded:
+            if len(self.known) < MOST_SKELETONS and "output" not in decoded and TOO_LONG not in skeleton:
                 self.known.add(skeleton)
         line: Line = decoded
         return line
+
+
+def skeleton_of(text: str) -> bytes:
+    """A line with one or more digits 0 in place of each number; of one that is too long all of them are kept."""
+    zeros = text.encode(errors="replace").translate(ZEROS)
+    if TOO_LONG in zeros:
+        return zeros
+    # This makes one digit of up to ten, which most numbers have; that of a longer one is another skeleton.
+    return zeros.replace(b"0000", b"0").replace(b"00", b"0").replace(b"00", b"0")
 
 
 def need_shape(text: str, line: object) -> None:

@@ -5,11 +5,12 @@ leg that a line tells has to be the one that this core runs; then what it asked 
 """
 from __future__ import annotations
 
-from typing import TYPE_CHECKING, Any
+from typing import TYPE_CHECKING, Any, NamedTuple, Optional
 
 from yotarimu.images import serial_machine
 from yotarimu.images.image import DATA, STACK, Image
-from yotarimu.images.serial_machine import Run, TaskTrap, signed_number
+from yotarimu.images.serial_machine import (
+    Operation, Run, TaskTrap, is_straight, operation_of, signed_number)
 from yotarimu.lines.fields import WrongLine
 from yotarimu.lines.times import Domain
 from yotarimu.reports.report import Name
@@ -19,16 +20,14 @@ if TYPE_CHECKING:
 
 CHILDREN = {1: "same", 2: "sub", 3: "super"}
 FETCH, BUDGET = 1, 17
+# A block has so many straight instructions at most, so that blocks of a long text stay short.
+MOST_STRAIGHT = 64
 # The fields of a line that tell a leg, in their order.
 FIELDS = ("leg", "pc", "asks", "addr", "bytes", "value", "to", "entry", "ts", "args", "hint", "byte", "cause")
 
 
 class Stops(Exception):
-    """A leg stops before an instruction that others can see: what the line has to say of it."""
-
-    def __init__(self, **fields: Any) -> None:
-        super().__init__(fields)
-        self.fields = fields
+    """A leg stops before an instruction that others can see. It has the fields by which the line tells that."""
 
 
 class Nothing(bytearray):
@@ -43,7 +42,7 @@ class Scratch(serial_machine.Machine):
 
     def __init__(self, image: Image) -> None:
         super().__init__(image)
-        self.output = Nothing()
+        self.output, self.blocks = Nothing(), Blocks(image)
 
     def add(self, *_child: Any) -> None:
         """The lines have the child."""
@@ -55,6 +54,41 @@ def around(domain: Domain) -> serial_machine.Domain:
     return serial_machine.Domain(len(domain.kinds), domain.kinds[-1], outer, domain.maker[-1][0] if domain.maker else 0)
 
 
+class Block(NamedTuple):
+    """Instructions one after another: those that change a register at most, the addresses behind each of them, and the
+    one that comes then."""
+    straight: tuple[Operation, ...]
+    passed: tuple[int, ...]
+    last: Operation
+
+
+class Blocks(dict[int, Block]):
+    """The blocks of a text, by the addresses at which legs came into them."""
+
+    def __init__(self, image: Image) -> None:
+        super().__init__()
+        self.image = image
+
+    def __missing__(self, pc: int) -> Block:
+        straight: list[Operation] = []
+        end = pc
+        while (word := self.word(end)) is not None and is_straight(word) and len(straight) < MOST_STRAIGHT:
+            straight.append(operation_of(word))
+            end += 4
+        last = no_instruction if word is None else operation_of(word)
+        found = self[pc] = Block(tuple(straight), tuple(range(pc + 4, end + 4, 4)), last)
+        return found
+
+    def word(self, pc: int) -> Optional[int]:
+        """The word of the text at an address; None where no instruction is fetched from it."""
+        return None if pc & 3 else self.image.word(pc)
+
+
+def no_instruction(_run: Run) -> None:
+    """Traps, as a task does that goes where the text has no word."""
+    raise TaskTrap(FETCH)
+
+
 class Core(Run):
     """The core of a dispatched task. An access to data or a call stops it, unless it is granted."""
 
@@ -62,26 +96,30 @@ class Core(Run):
         start = serial_machine.Task(Name(0, 0), task.entry, task.timestamp, tuple(task.arguments), around(task.domain))
         super().__init__(scratch, start)
         self.used, self.is_granted, self.found = 0, False, 0
+        self.blocks = scratch.blocks
         # Where the last leg came by.
         self.passed: set[int] = set()
 
     def leg(self, quantum: int, budget: int) -> dict[str, Any]:
         """Runs a leg, and gives the fields of the line that tell it."""
-        count, passed = 0, {self.pc}
+        count, passed, blocks = 0, {self.pc}, self.blocks
         asked: dict[str, Any] = {"asks": "go"}
-        word_at, step, left = self.machine.image.word, self.step, budget - self.used
+        most = min(quantum, budget - self.used)
         try:
-            while count < quantum:
-                if count == left:
-                    raise TaskTrap(BUDGET)
-                word = word_at(self.pc)
-                if word is None or self.pc & 3:
-                    raise TaskTrap(FETCH)
-                step(word)
-                passed.add(self.pc)
-                count += 1
+            while count < most:
+                block, left = blocks[self.pc], most - count
+                for operation in block.straight[:left]:
+                    operation(self)
+                passed.update(block.passed[:left])
+                count += min(len(block.straight), left)
+                if count < most:
+                    block.last(self)
+                    passed.add(self.pc)
+                    count += 1
+            if most < quantum:
+                raise TaskTrap(BUDGET)
         except Stops as stops:
-            asked = stops.fields
+            asked = stops.args[0]
         except TaskTrap as trapped:
             asked = {"asks": "trap", "cause": trapped.cause}
         self.used, self.passed = self.used + count, passed
@@ -89,28 +127,28 @@ class Core(Run):
 
     def grant(self, found: int) -> None:
         """Executes the instruction at which the core stopped; a load finds this number."""
-        word = self.machine.image.word(self.pc)
-        assert word is not None, "the leg that stopped there found it"
         self.is_granted, self.found = True, found
-        self.step(word)
+        self.blocks[self.pc].last(self)
         self.is_granted = False
         self.used += 1
 
     def load(self, kind: int, address: int) -> int:
         """Loads of data stop the leg, unless what they find is granted; those of text and stack are plain."""
-        value: int = super().load(kind, address)
-        if not DATA <= address < STACK:
-            return value
         width = 1 << (kind & 3)
-        if not self.is_granted:
-            raise Stops(asks="load", addr=address, bytes=width)
-        return self.found if kind & 4 else signed_number(self.found, 8 * width)
+        if self.is_granted:
+            return self.found if kind & 4 else signed_number(self.found, 8 * width)
+        value = super().load(kind, address)
+        if DATA <= address < STACK:
+            raise Stops({"asks": "load", "addr": address, "bytes": width})
+        return value
 
     def store(self, width: int, address: int, value: int) -> None:
         """Stores to data stop the leg, unless they are granted; those to the stack are plain."""
+        if self.is_granted:
+            return
         super().store(width, address, value)
-        if DATA <= address < STACK and not self.is_granted:
-            raise Stops(asks="store", addr=address, bytes=width, value=value)
+        if DATA <= address < STACK:
+            raise Stops({"asks": "store", "addr": address, "bytes": width, "value": value})
 
     def call(self) -> None:
         """Calls stop the leg, unless they are granted."""
@@ -118,7 +156,7 @@ class Core(Run):
         super().call()
         if not self.is_granted:
             self.inner, self.children, self.emitted, self.is_over = before
-            raise Stops(**self.request())
+            raise Stops(self.request())
 
     def request(self) -> dict[str, Any]:
         """What a call asks for that doesn't trap."""
@@ -177,10 +215,10 @@ class Legs:
         is_taken = line["reply"] == "ok"
         before = None if is_taken else (core.pc, list(core.registers), bytes(core.stack), core.used)
         wanted = core.leg(self.head["quantum"], self.head["budget"])
-        told = {name: line[name] for name in FIELDS if name in line}
-        if told != wanted:
-            name = next(it for it in FIELDS if told.get(it) != wanted.get(it))
-            raise WrongLine(f"`{name}` is {told.get(name, 'missing')}, and by the image's text it is "
+        # What is asked for says which fields a line has, so it has no others where it has these.
+        if not wanted.items() <= line.items():
+            name = next(it for it in FIELDS if line.get(it) != wanted.get(it))
+            raise WrongLine(f"`{name}` is {line.get(name, 'missing')}, and by the image's text it is "
                             f"{wanted.get(name, 'missing')}")
         if before is not None:
             core.pc, core.registers, core.stack[:], core.used = before

@@ -48,15 +48,31 @@ class Access(NamedTuple):
     step: int
 
 
+class Maker:
+    """Of a domain: the task that made it, and in place of that its name once it has committed."""
+
+    __slots__ = ("task", "name")
+
+    def __init__(self, task: Task) -> None:
+        self.task: Optional[Task] = task
+        self.name: Optional[Pair] = None
+
+    def commit(self) -> None:
+        """Keeps the name alone of a task that committed."""
+        if self.task is not None:
+            self.name, self.task = self.task.name, None
+
+
 class Task:
     """An uncommitted task. `name` is a pair, or None as long as its creator may be taken back; `creator` is the task
     that made it as long as that is uncommitted. `number` is its dispatch number, and `dispatch` its place among all
     dispatches so far, which no renumbering changes. `work` counts instructions since its dispatch, and `steps` steps;
-    `made_at` and `made_step` are how many of these its creator had made with the call."""
+    `made_at` and `made_step` are how many of these its creator had made with the call. `makers` made the domains that
+    it is in, the root domain aside, and `maker` stands for itself in its subdomain."""
 
     __slots__ = ("id", "tile", "core", "state", "creator", "index", "name", "entry", "timestamp", "arguments",
                  "hint", "domain", "made_at", "made_step", "number", "dispatch", "work", "steps", "pc", "accesses",
-                 "children", "subdomain", "emitted")
+                 "children", "subdomain", "emitted", "makers", "maker")
 
     def __init__(self, line: Line, creator: Optional[Task], index: int, domain: Domain) -> None:
         self.id: Optional[int] = line.get("new")
@@ -67,6 +83,7 @@ class Task:
         self.timestamp: int = line["ts"]
         self.arguments: list[int] = line["args"]
         self.hint: int = line["hint"]
+        self.makers: tuple[Maker, ...] = () if creator is None else creator.makers_of_child(line["to"])
         self.made_at, self.made_step = (0, 0) if creator is None else (creator.work, creator.steps)
         self.wait()
 
@@ -89,6 +106,12 @@ class Task:
             return self.domain.inner(self.time(), self.subdomain == ORDERED)
         return self.domain.outer() if to == "super" else self.domain
 
+    def makers_of_child(self, to: str) -> tuple[Maker, ...]:
+        """Who made the domains of such a child."""
+        if to == "sub" and self.maker is not None:
+            return (*self.makers, self.maker)
+        return self.makers[:-1] if to == "super" else self.makers
+
     def wait(self) -> None:
         """It is idle, with nothing done."""
         self.state, self.pc, self.dispatch = IDLE, self.entry, UNDISPATCHED
@@ -98,6 +121,7 @@ class Task:
         self.accesses: list[Access] = []
         self.children: list[Task] = []
         self.subdomain: Optional[str] = None
+        self.maker: Optional[Maker] = None
         self.emitted: list[int] = []
 
     def told_name(self) -> str:
@@ -210,6 +234,11 @@ class Machine:
             raise WrongLine(f"no task has the id {number}")
         return task
 
+    def need_place(self, line: Line) -> None:
+        """Refuses a tile or a core that isn't there."""
+        self.need_tile(line)
+        need_below(line.get("core", 0), self.head["cores"], "a core")
+
     def need_tile(self, line: Line) -> int:
         """The tile that a line tells; refuses one that the machine hasn't."""
         tile: int = line["tile"]
@@ -247,28 +276,26 @@ class Machine:
     def act(self, told: ToldLine, line: Line) -> None:
         """Follows an act: what it tells is held against the machine, and is made."""
         self.count_act(line)
-        told.is_made = line["reply"] == "ok" and line["do"] in EVENTS
-        if line["n"] != self.events + told.is_made:
-            raise WrongLine(f"it tells {line['n']} events, and {self.events + told.is_made} were made")
-        if "tile" in line:
-            self.need_tile(line)
-        if "core" in line:
-            need_below(line["core"], self.head["cores"], "a core")
+        word, reply = line["do"], line["reply"]
+        told.is_made = is_made = reply == "ok" and word in EVENTS
+        if line["n"] != self.events + is_made:
+            raise WrongLine(f"it tells {line['n']} events, and {self.events + is_made} were made")
         if "task" in line:
             told.task = self.task_at(line["task"])
-        if line["do"] == "take" and line["reply"] == "ok" and self.cores[line["tile"]][line["core"]] is None:
+        if line.get("tile", 0) >= self.head["tiles"] or line.get("core", 0) >= self.head["cores"]:
+            self.need_place(line)
+        if word == "take" and reply == "ok" and self.cores[line["tile"]][line["core"]] is None:
             raise WrongLine(f"core {line['core']} of tile {line['tile']} holds no task")
         if "leg" in line:
             if told.task is None:
                 raise WrongLine("no task is told that takes this leg")
             self.need_leg(told.task, line)
-        reasons = REFUSALS.get(line["do"], {})
-        if line["reply"] in reasons and not reasons[line["reply"]](self, line["tile"]):
-            raise WrongLine(f"the tile has no reason to answer `{line['reply']}`")
-        if told.is_made:
+        if is_made:
             self.events += 1
             self.force(told, line)
-            MADE[line["do"]](self, told, line)
+            MADE[word](self, told, line)
+        elif word in REFUSALS and reply in REFUSALS[word] and not REFUSALS[word][reply](self, line["tile"]):
+            raise WrongLine(f"the tile has no reason to answer `{reply}`")
         if self.rounds is not None:
             self.rounds.note_commits(self.commits)
 
@@ -420,7 +447,7 @@ class Machine:
         """Follows the making of a subdomain, of which a task has one at most."""
         if task.subdomain is not None:
             raise WrongLine(f"task {task.id} has a subdomain already")
-        task.subdomain = line["asks"]
+        task.subdomain, task.maker = line["asks"], Maker(task)
 
     def emit(self, _told: ToldLine, task: Task, line: Line) -> None:
         """Follows the emission of a byte."""
@@ -466,6 +493,8 @@ class Machine:
         self.leave(task, COMMITTED)
         self.numbers.path = task.time()
         self.commits += 1
+        if task.maker is not None:
+            task.maker.commit()
         for child in task.children:
             child.name, child.creator = (self.commits, child.index), None
 

@@ -139,13 +139,13 @@ VALUES: dict[str, Naming] = {
 # ---- a leg, and what the task asks for at its end
 
 
-def leg_told(told: ToldLine) -> str:
-    """Who made a leg, and how many plain instructions it has."""
+def leg_told(told: ToldLine, text: str = "plain") -> str:
+    """Who made a leg, and how many plain instructions it has. One that stalled executes none of them."""
     line, texts = told.line, SENTENCES["leg"]
     who = fill(texts["who"], **{**line, "task": label_of(its(told.task))})
     if not line["leg"]:
         return who
-    return fill(texts["plain"], who=who, instructions=count_text(line["leg"], "plain instruction"))
+    return fill(texts[text], who=who, instructions=count_text(line["leg"], "plain instruction"))
 
 
 def request_told(told: ToldLine, machine: Machine, listing: Listing, limits: Optional[Limits]) -> str:
@@ -250,7 +250,7 @@ def wish_told(told: ToldLine) -> str:
     line = told.line
     asks = line.get("asks")
     if asks in ("enqueue", "end"):
-        return fill(WISHES[asks], leg=leg_told(told), domain=DOMAINS.get(line.get("to")))
+        return fill(WISHES[asks], leg=leg_told(told, "stalled"), domain=DOMAINS.get(line.get("to")))
     if line["do"] == "step" and told.task is not None:
         return fill(WISHES["leg"], **{**line, "task": label_of(told.task)})
     return fill(WISHES[line["do"]], **line)

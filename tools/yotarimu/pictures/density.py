@@ -7,7 +7,8 @@ from collections.abc import Iterable, Iterator
 from typing import Callable
 from xml.sax.saxutils import escape
 
-from yotarimu.courses.schedules import DONE, Act, PlayedScript, ActAnswer, acts_a_round, is_commit
+from yotarimu.common.acts import DONE
+from yotarimu.courses.schedules import Act, PlayedScript, ActAnswer, acts_a_round, is_commit
 
 MOST_COLUMNS = 120
 MARGIN, TOP, FOOT, COLUMN, LANE, COMMIT_LANE, GAP = 96, 40, 78, 9, 34, 60, 6

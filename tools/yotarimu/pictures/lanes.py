@@ -6,8 +6,9 @@ from collections.abc import Iterator, Sequence
 from typing import Optional
 from xml.sax.saxutils import escape
 
+from yotarimu.common.acts import ACTS, DONE
 from yotarimu.common.text import count_text
-from yotarimu.courses.schedules import DONE, NUMBERS, Act, PlayedScript, ActAnswer
+from yotarimu.courses.schedules import Act, PlayedScript, ActAnswer
 from yotarimu.pictures import density
 from yotarimu.reports.report import Entry
 
@@ -180,7 +181,7 @@ def footer(played: PlayedScript, style: Style) -> Iterator[str]:
              ("step", paint_of("none", TAKEN_COLOUR), "tasks are taken back")]
     if not style.has_words:
         used = {act.word for act in played.acts}
-        kinds += [(word, blue, word) for word in NUMBERS if word in used and word != "commit"]
+        kinds += [(word, blue, word) for word in ACTS if word in used and word != "commit"]
     x = 18
     for word, paint, meaning in kinds:
         yield shape(word, paint, x, 36, 6)

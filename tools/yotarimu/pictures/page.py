@@ -20,6 +20,7 @@ from yotarimu.lines.fields import Line
 from yotarimu.lines.reader import open_lines
 from yotarimu.lines.replay import Access, Machine, Task, ToldLine
 from yotarimu.lines.sentences import end_told, name_told, opening_told, sentence_of
+from yotarimu.lines.times import UNDISPATCHED
 from yotarimu.web.bundle import recorded_page, within
 
 MOST_ACTS = 50_000
@@ -99,11 +100,15 @@ def opening_of(machine: Machine, passed: Totals) -> dict[str, object]:
     """The machine as the page takes it."""
     tasks = list(machine.tasks.values())
     stores = ((task.id, [store_of(access) for access in task.accesses if access.is_store]) for task in tasks)
+    domains = (pair for task in machine.all_tasks() for pair in zip(task.domain.maker, task.makers))
+    makers = {dispatch: maker.name for (_, dispatch), maker in domains if maker.name is not None}
     return {"at": machine.acts, "events": machine.events, "commits": machine.commits, "useful": passed.useful,
-            "wasted": passed.wasted, "emitted": passed.emitted, "journal": list(passed.entries),
-            "tasks": [task_of(task) for task in tasks], "queues": machine.queues, "cores": machine.cores,
-            "finished": machine.finished, "blocks": [list(map(task_of, block.values())) for block in machine.blocks],
-            "memory": words_of(machine), "stores": [pair for pair in stores if pair[1]]}
+            "dispatches": machine.dispatches, "wasted": passed.wasted, "emitted": passed.emitted,
+            "journal": list(passed.entries), "tasks": [task_of(task) for task in tasks],
+            "queues": machine.queues, "cores": machine.cores, "finished": machine.finished,
+            "blocks": [list(map(task_of, block.values())) for block in machine.blocks],
+            "memory": words_of(machine), "stores": [pair for pair in stores if pair[1]],
+            "makers": [[dispatch, name_told(name)] for dispatch, name in makers.items()]}
 
 
 def task_of(task: Task) -> dict[str, object]:
@@ -111,8 +116,9 @@ def task_of(task: Task) -> dict[str, object]:
     creator = task.creator.id if task.name is None and task.creator else None
     return {"id": task.id, "tile": task.tile, "state": task.state, "core": task.core, "name": task.name,
             "creator": creator, "index": task.index, "ts": task.timestamp,
-            "entry": task.entry, "pc": task.pc, "number": task.number, "work": task.work,
-            "made": len(task.children),
+            "args": task.arguments, "entry": task.entry, "pc": task.pc, "number": task.number, "work": task.work,
+            "made": len(task.children), "dispatched": None if task.dispatch == UNDISPATCHED else task.dispatch,
+            "subdomain": task.subdomain, "domain": {"maker": task.domain.maker, "kinds": task.domain.kinds},
             "children": [child.id for child in task.children if child.creator is task and child.id is not None]}
 
 
@@ -154,8 +160,9 @@ def row_address(line: str) -> Optional[int]:
 
 
 def page_of(path: FilePath, listing_path: Optional[FilePath], first: int = 0, last: float = float("inf"),
-            is_cut_allowed: bool = False) -> str:
-    """The page of a text's acts: those behind the act `first`, up to the act `last`."""
+            is_cut_allowed: bool = False, name: Optional[str] = None) -> str:
+    """The page of a text's acts: those behind the act `first`, up to the act `last`. It is called by a name, or by that
+    of the text."""
     with open_lines(path, is_cut_allowed) as watched:
         listing, rows = read_rows(listing_path, watched.head)
         excerpt = Excerpt(path, watched.head, first, last)
@@ -163,7 +170,7 @@ def page_of(path: FilePath, listing_path: Optional[FilePath], first: int = 0, la
             excerpt.follow(told, watched.machine, listing)
         excerpt.close(watched.machine, watched.end, listing)
     head = json.dumps(watched.head, separators=(",", ":"))
-    title = "A run, act by act" if str(path) == "-" else f"{pathlib.Path(path).name}, act by act"
+    title = f"{name or ('A run' if str(path) == '-' else pathlib.Path(path).name)}, act by act"
     return recorded_page(in_page(title), {
         "lines": f"[{','.join([head, *excerpt.lines])}]", "opening": excerpt.opening or "",
         "sentences": within(excerpt.sentences), "listing": within(rows)})

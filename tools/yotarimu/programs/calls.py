@@ -10,7 +10,7 @@ from collections.abc import Iterator, Sequence
 from typing import IO, Callable, Optional, TypeVar, Union
 
 from yotarimu.common.outcome import Refusal
-from yotarimu.programs.program import PROGRAM, Answer
+from yotarimu.programs.program import PROGRAM, Answer, why_not_started
 
 # What a shell tells of a program that it can't start.
 NOT_STARTED = 126
@@ -23,6 +23,9 @@ def need_program(program: pathlib.Path) -> pathlib.Path:
     """The absolute path of a built program; a refusal where there is none."""
     if not program.is_file():
         raise Refusal(f"{program}: the program isn't built; ./fractal prove builds it.")
+    why = why_not_started(program)
+    if why is not None:
+        raise Refusal(why)
     return program.absolute()
 
 

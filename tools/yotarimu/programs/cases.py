@@ -19,12 +19,14 @@ from yotarimu.common.outcome import Refusal, is_at_terminal, say
 from yotarimu.common.places import EXAMPLES_FOLDER
 from yotarimu.programs.answers import Case
 from yotarimu.programs.examples import SCHEDULES, words_of
-from yotarimu.programs.launcher import end_all, launch
+from yotarimu.programs.launcher import end_all, launch, why_no_answer
 from yotarimu.programs.program import PROGRAM, STATUSES, end_of
 from yotarimu.reports.report import read_report
 
 # The statuses that are the program's own answers, and not the launcher's.
 ANSWERS = range(64)
+# Those of the launcher, where the program isn't there or can't be started.
+NO_ANSWERS = (69, 70)
 CRATE = PROGRAM.parent.parent
 # The last lines that are told of what rt said.
 MOST_LINES = 20
@@ -64,6 +66,8 @@ def play_built(cases: Sequence[Case]) -> Iterator[tuple[Case, Optional[str]]]:
 
     def play(case: Case) -> Optional[str]:
         status, text, errors = launch(case.words, case.given, subprocess.PIPE)
+        if status in NO_ANSWERS:
+            raise Refusal(why_no_answer(status, errors))
         with lock:
             if errors is not None and errors not in already_told and status not in (8, 9, 1):
                 already_told.add(errors)

@@ -6,7 +6,7 @@ import pathlib
 import shutil
 import subprocess
 import tempfile
-from collections.abc import Sequence
+from collections.abc import Mapping, Sequence
 from typing import Callable
 
 from yotarimu.common.files import write_whole
@@ -50,14 +50,22 @@ def need_tools(compiler: str) -> None:
 
 
 def write_sources(name: str, kind: Kind, folder: pathlib.Path, size: int, seed: int) -> None:
-    """Writes the sources of a large program to a folder; refuses one that isn't empty."""
-    if folder.exists() and (not folder.is_dir() or any(folder.iterdir())):
-        raise Refusal(f"{folder}: it is there and not empty.")
-    (folder / "plain").mkdir(parents=True, exist_ok=True)
+    """Writes the sources to a folder that is empty, or has what the same words left there before."""
     sources = EXAMPLES_FOLDER / "c" / "large"
-    write_whole({folder / kind.data: kind.made(size, seed).encode(),
-                 folder / "task.c": (sources / f"{name}.c").read_bytes(),
-                 folder / "plain" / "plain.c": (sources / f"{name}_plain.c").read_bytes()})
+    files = {folder / kind.data: kind.made(size, seed).encode(),
+             folder / "task.c": (sources / f"{name}.c").read_bytes(),
+             folder / "plain" / "plain.c": (sources / f"{name}_plain.c").read_bytes()}
+    if folder.exists() and not (folder.is_dir() and all(is_own(path, folder, files) for path in folder.rglob("*"))):
+        raise Refusal(f"{folder}: it is there and not empty, and holds other than the same words left there.")
+    (folder / "plain").mkdir(parents=True, exist_ok=True)
+    write_whole(files)
+
+
+def is_own(path: pathlib.Path, folder: pathlib.Path, files: Mapping[pathlib.Path, bytes]) -> bool:
+    """Whether what stands in a folder of sources is what would be written there, or is made of that."""
+    if path in files:
+        return path.is_file() and path.read_bytes() == files[path]
+    return path in (folder / "plain", folder / "image.bin", folder / "listing")
 
 
 def plain_words(folder: pathlib.Path) -> list[int]:

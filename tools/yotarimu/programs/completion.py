@@ -1,6 +1,8 @@
 """The launcher's completion for a shell and its manual page, made of its table."""
 from __future__ import annotations
 
+from collections.abc import Mapping
+
 from yotarimu.programs.table import Option, Table
 
 # A range of so many values is completed by each, a larger one by its ends and what stands unless given.
@@ -27,7 +29,7 @@ _{name}() {{
                         [ "$command $COMP_CWORD" != 'load 2' ] || words='{kinds}'
                         ;;
                     watch)
-                        words='{options}'
+                        words='{course_options}'
                         [ "$COMP_CWORD" -ne 2 ] || words='{leading}'
                         [ "$COMP_CWORD ${{COMP_WORDS[2]}}" != '4 views' ] || words='{courses}'
                         ;;
@@ -63,7 +65,7 @@ case $command in
         ;;
     watch)
         _arguments -S '1:course:({leading})' '*:further:' \\
-{options}
+{course_options}
         ;;
     help) _describe -t commands command words_of_{name} ;;
     *) _files ;;
@@ -80,9 +82,10 @@ def values_of(option: Option) -> str:
 
 def bash(table: Table) -> str:
     """The completion for bash."""
-    values = "\n".join(f"            --{name}) words='{values_of(it)}' ;;" for name, it in table.options.items())
+    values = "\n".join(f"            --{name}) words='{values_of(it)}' ;;" for name, it in table.course_options.items())
     return BASH.format(name=NAME, first=" ".join([*table.commands, *table.own]), values=values,
-                       options=" ".join(f"--{name}" for name in table.options), kinds=" ".join(table.kinds),
+                       options=words_of(table.options), course_options=words_of(table.course_options),
+                       kinds=" ".join(table.kinds),
                        commands="|".join(table.commands),
                        leading=leading_words(table), courses=" ".join(table.course_rows))
 
@@ -91,10 +94,18 @@ def zsh(table: Table) -> str:
     """The completion for zsh."""
     purposes = {**{name: row[2] for name, row in table.command_rows.items()}, **table.own}
     described = "\n".join(f"    {zsh_text(f'{name}:{purpose}')}" for name, purpose in purposes.items())
-    options = " \\\n".join(f"            {zsh_text(option_text(option))}" for option in table.options.values())
+    options, course_options = (
+        " \\\n".join(f"            {zsh_text(option_text(option))}" for option in some.values())
+        for some in (table.options, table.course_options))
     kinds = "'1:kind:({})' '2:seed:' '3:size:'".format(" ".join(table.kinds))
     return ZSH.format(name=NAME, described=described, commands="|".join(table.commands), options=options, further=kinds,
+                      course_options=course_options,
                       leading=leading_words(table))
+
+
+def words_of(options: Mapping[str, Option]) -> str:
+    """Options as they are typed."""
+    return " ".join(f"--{name}" for name in options)
 
 
 def leading_words(table: Table) -> str:
@@ -128,8 +139,10 @@ def man(table: Table) -> str:
         lines += entry(f"{name} {table.own_words[name]}".strip(), purpose)
     lines += [".SH OPTIONS", "Each stands at most once, as", f"{DASHES}\\fIOPTION VALUE\\fR",
               "or", f"{DASHES}\\fIOPTION\\fR=\\fIVALUE\\fR."]
-    for option in table.options.values():
-        lines += entry(f"--{option.name}", f"{option.purpose} ({option.range_text()}; {option.default} unless given)")
+    for option in table.course_options.values():
+        place = "" if option.name in table.options else "behind watch alone: "
+        lines += entry(f"--{option.name}",
+                       f"{place}{option.purpose} ({option.range_text()}; {option.default} unless given)")
     lines.append(".SH GENERATED IMAGES")
     for name, (sizes, purpose) in table.kinds.items():
         lines += entry(name, f"{purpose}; SIZE is {sizes[0]} to {sizes[-1]}")

@@ -3,11 +3,13 @@ from __future__ import annotations
 
 import signal
 import subprocess
+import sys
 import threading
 from collections.abc import Sequence
 from typing import NamedTuple, Optional
 
 from yotarimu.programs.program import LAUNCHER
+from yotarimu.programs.table import Table
 
 # What was started and hasn't ended, and whether all of it is to end.
 RUNNING: set[subprocess.Popen[bytes]] = set()
@@ -41,6 +43,20 @@ def launch(words: Sequence[str], data: bytes, errors: Optional[int] = None) -> L
         with LOCK:
             RUNNING.discard(process)
     return LauncherAnswer(process.returncode, written, said)
+
+
+def why_no_answer(status: int, errors: Optional[bytes]) -> str:
+    """Why nothing was written: the last sentence of the launcher, which knows whether the program can be started."""
+    lines = [line.strip() for line in (errors or b"").decode("utf-8", "replace").splitlines() if line.strip()]
+    said = lines[-1].removeprefix("fractal: ") if lines else ""
+    return said or f"the program ended with status {status}: {Table().statuses.get(status, 'an unknown one')}."
+
+
+def pass_on(errors: Optional[bytes]) -> None:
+    """Hands on what the launcher said beside an answer, such as that the program is older than its sources."""
+    if errors and sys.stderr is not None:
+        sys.stderr.buffer.write(errors)
+        sys.stderr.flush()
 
 
 def end(process: subprocess.Popen[bytes]) -> None:

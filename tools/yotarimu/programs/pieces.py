@@ -24,6 +24,14 @@ MOST_TASKS = 65_536
 IMAGE, REPORT, WORDS = "image", "report", "words"
 
 
+class DamagedPiece(Refusal):
+    """A piece isn't as it was made. It and those after it can be made again, once they are deleted."""
+
+    def __init__(self, number: int, why: str) -> None:
+        super().__init__(why)
+        self.number = number
+
+
 @dataclasses.dataclass
 class Piece:
     """A piece that was run: its number, its image, its report as written and as read, and whether it is the last."""
@@ -63,8 +71,27 @@ class Folder:
         write_whole(missing)
 
     def image(self, number: int) -> bytes:
-        """The image that a piece starts from."""
-        return read_bytes(self.name(IMAGE, number))
+        """The image of a piece; one that is damaged is made again with the piece before."""
+        data = read_bytes(self.name(IMAGE, number))
+        if number > 1:
+            try:
+                read_image(data, self.name(IMAGE, number))
+            except Refusal as refused:
+                raise DamagedPiece(number - 1, str(refused)) from None
+        return data
+
+    def report(self, number: int) -> Report:
+        """The report of a piece that was run."""
+        name = self.name(REPORT, number)
+        try:
+            return read_report(read_bytes(name).decode("utf-8", "replace"), name)
+        except Refusal as refused:
+            raise DamagedPiece(number, str(refused)) from None
+
+    def remedy(self, number: int) -> str:
+        """What to do about a damaged piece."""
+        return (f"delete {self.name(REPORT, number)} and all files of greater numbers, and call it again: these pieces "
+                "are made again")
 
     def has_run(self, number: int) -> bool:
         """Whether the piece was run: its report is there, and the next image where the run goes on."""
@@ -85,17 +112,16 @@ class Folder:
         while self.has_run(number):
             written = read_bytes(self.name(REPORT, number))
             is_last = not self.name(IMAGE, number + 1).exists()
-            report = read_report(written.decode("utf-8", "replace"), self.name(REPORT, number))
-            yield Piece(number, self.image(number), written, report, is_last)
+            yield Piece(number, self.image(number), written, self.report(number), is_last)
             number += 1
 
 
-def replay(image: bytes, report: Report, name: FilePath) -> Machine:
-    """The machine after the turns of a report."""
-    machine = Machine(read_image(image, name))
-    lost = machine.follow(report.entries)
-    if lost:
-        raise Refusal(f"{name}: its tasks can't be run again: {lost}.")
+def replay(piece: Piece, name: FilePath) -> Machine:
+    """The machine after the turns of a piece."""
+    machine = Machine(read_image(piece.image, name))
+    wrong_turn = machine.follow(piece.report.entries)
+    if wrong_turn:
+        raise DamagedPiece(piece.number, f"{name}: its tasks can't be run again: {wrong_turn}.")
     return machine
 
 
@@ -105,16 +131,19 @@ def pending_of(machine: Machine) -> list[Task]:
     return sorted(tasks, key=lambda task: (task.name.creator, task.name.index))
 
 
-def names_in(machine: Machine, following: bytes, name: FilePath) -> list[Name]:
-    """The names of the tasks that pend, which are those of the saved image in its order; else a refusal."""
+def names_in(machine: Machine, following: bytes, number: int, name: FilePath) -> list[Name]:
+    """The names of the tasks that pend after the piece of a number, which are those of the saved image in its order;
+    else a refusal."""
     saved, pending = read_image(following, name), pending_of(machine)
     if len(saved.tasks) != len(pending):
-        raise Refusal(f"{name}: it has {len(saved.tasks):,} tasks, and {len(pending):,} pend after the piece before.")
+        raise DamagedPiece(number, f"{name}: it has {len(saved.tasks):,} tasks, and {len(pending):,} pend after the "
+                                   "piece before.")
     for place, (task, other) in enumerate(zip(saved.tasks, pending)):
         if (task.entry, task.timestamp, task.arguments) != (other.entry, other.timestamp, other.arguments):
-            raise Refusal(f"{name}: its task {place} isn't {other.name}, which pends after the piece before.")
+            raise DamagedPiece(number, f"{name}: its task {place} isn't {other.name}, which pends after the piece "
+                                       "before.")
     if saved.initial != bytes(machine.memory):
-        raise Refusal(f"{name}: its data aren't the memory that the piece before left.")
+        raise DamagedPiece(number, f"{name}: its data aren't the memory that the piece before left.")
     return [task.name for task in pending]
 
 
@@ -140,33 +169,35 @@ def join(pieces: Sequence[Piece]) -> bytes:
     for piece in pieces:
         report = piece.report
         for entry in report.entries:
-            name = name_in_whole(entry.name, names, turns)
+            name = name_in_whole(entry.name, names, turns, piece.number)
             lines.append(f"{turns + entry.turn} {name} {entry.depth} {entry.timestamp}")
         output.append(report.output)
         if piece.is_last:
             lines.append(f"output {b''.join(output).hex() or '-'}")
             lines += [f"window {address:08x} {word:08x}" for address, word in report.window]
-            lines.append(end_line(report, names, turns))
+            lines.append(end_line(report, names, turns, piece.number))
         else:
-            names = [name_in_whole(name, names, turns) for name in piece.pending]
+            names = [name_in_whole(name, names, turns, piece.number) for name in piece.pending]
             turns += len(report.entries)
     return "\n".join(lines).encode() + b"\n"
 
 
-def name_in_whole(name: Name, names: Optional[Sequence[Name]], turns: int) -> Name:
-    """A task's name in the joined run: the first image's own stay, those of a saved image are the pending ones."""
+def name_in_whole(name: Name, names: Optional[Sequence[Name]], turns: int, number: int) -> Name:
+    """A task's name in the joined run, for the piece of a number: the first image's own stay, those of a saved image
+    are the pending ones."""
     if name.creator:
         return Name(turns + name.creator, name.index)
     if names is None:
         return name
     if name.index >= len(names):
-        raise Refusal(f"after turn {turns} a piece has the task {name}, and its image has {len(names):,} tasks.")
+        raise DamagedPiece(number, f"after turn {turns} a piece has the task {name}, and its image has {len(names):,} "
+                                   "tasks.")
     return names[name.index]
 
 
-def end_line(report: Report, names: Optional[Sequence[Name]], turns: int) -> str:
+def end_line(report: Report, names: Optional[Sequence[Name]], turns: int, number: int) -> str:
     """The last line of the whole report; a trap's task has the name that it has in the whole run."""
     if report.trap is None:
         return f"end {report.end}"
     trap = report.trap
-    return f"end trap {trap.cause} {trap.pc:08x} {name_in_whole(trap.name, names, turns)}"
+    return f"end trap {trap.cause} {trap.pc:08x} {name_in_whole(trap.name, names, turns, number)}"

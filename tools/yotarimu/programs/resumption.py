@@ -5,14 +5,14 @@ import sys
 from collections.abc import Sequence
 from typing import Optional
 
-from yotarimu.common.files import read_bytes, write_whole
+from yotarimu.common.files import write_whole
 from yotarimu.common.outcome import Refusal, is_at_terminal, say
 from yotarimu.common.text import count_text
 from yotarimu.images.image import read_image
 from yotarimu.programs import pieces
 from yotarimu.programs.calls import Calls
 from yotarimu.programs.program import STATUSES, Answer, end_of
-from yotarimu.reports.report import Report, read_report
+from yotarimu.reports.report import read_report
 
 NAME = "resume"
 
@@ -33,7 +33,7 @@ class Resumption:
         while not self.is_over(number):
             if not self.folder.has_run(number):
                 self.run_piece(number, turns)
-            turns += len(self.report(number).entries)
+            turns += len(self.folder.report(number).entries)
             show_progress(f"{count_text(turns, 'commit')} in {count_text(number, 'piece')}")
             number += 1
         show_progress("")
@@ -41,11 +41,6 @@ class Resumption:
     def is_over(self, number: int) -> bool:
         """Whether the run ended before a piece."""
         return number > 1 and self.folder.has_run(number - 1) and not self.folder.name(pieces.IMAGE, number).exists()
-
-    def report(self, number: int) -> Report:
-        """The report of a piece."""
-        name = self.folder.name(pieces.REPORT, number)
-        return read_report(read_bytes(name).decode("utf-8", "replace"), name)
 
     def run_piece(self, number: int, turns: int) -> None:
         """Runs a piece, and keeps it with the image that goes on."""
@@ -104,26 +99,33 @@ class Resumption:
         read, names = list(self.folder.pieces()), self.folder.name
         for piece in read:
             if not piece.is_last:
-                machine = pieces.replay(piece.image, piece.report, names(pieces.IMAGE, piece.number))
+                machine = pieces.replay(piece, names(pieces.IMAGE, piece.number))
                 following = self.folder.image(piece.number + 1)
-                piece.pending = pieces.names_in(machine, following, names(pieces.IMAGE, piece.number + 1))
+                piece.pending = pieces.names_in(machine, following, piece.number, names(pieces.IMAGE, piece.number + 1))
         report = pieces.join(read)
         turns = sum(len(piece.report.entries) for piece in read)
-        if turns <= pieces.MOST_COMMITS:
-            self.check(read[0].image, report, turns, "the joined report")
-        else:
-            for piece in read:
-                self.check(piece.image, piece.written, len(piece.report.entries), f"piece {piece.number}")
+        fault = self.fault_of(read[0].image, report, turns) if turns <= pieces.MOST_COMMITS else None
+        if fault is not None or turns > pieces.MOST_COMMITS:
+            self.check_each(read)
+        if fault is not None:
+            raise Refusal(f"the joined report was refused: {fault}.")
         write_whole({names(pieces.REPORT): report})
         return len(read), turns
 
-    def check(self, image: bytes, report: bytes, turns: int, what: str) -> None:
-        """Has the program check a report; refuses one that it refuses."""
+    def check_each(self, read: Sequence[pieces.Piece]) -> None:
+        """Has the report of each piece checked, and refuses the first that is none of a run."""
+        for piece in read:
+            fault = self.fault_of(piece.image, piece.written, len(piece.report.entries))
+            if fault is not None:
+                name = self.folder.name(pieces.REPORT, piece.number)
+                raise pieces.DamagedPiece(piece.number, f"{name}: this was refused: {fault}.")
+
+    def fault_of(self, image: bytes, report: bytes, turns: int) -> Optional[str]:
+        """What `check` says against a report of so many turns; None where it accepts it."""
         # At the limit of a piece no further task may commit.
         commits = turns if end_of(report) == "limit" else pieces.MOST_COMMITS
         status, told = self.call("check", image + report, max(commits, 1))
-        if status != 0:
-            raise Refusal(f"{what} was refused: {told.decode('ascii', 'replace').strip()}.")
+        return told.decode("ascii", "replace").strip() if status != 0 else None
 
 
 def show_progress(text: str) -> None:

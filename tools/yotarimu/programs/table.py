@@ -3,20 +3,43 @@ from __future__ import annotations
 
 import dataclasses
 import subprocess
-from collections.abc import Sequence
+from collections.abc import Mapping, Sequence
+from typing import Optional, Union
 
 from yotarimu.common.outcome import Refusal
+from yotarimu.common.words import number_in
 from yotarimu.programs.program import LAUNCHER
+
+MOST_VALUE = 2 ** 32 - 1
+# What an option may be: a number, or one of some words.
+Value = Union[int, str]
 
 
 @dataclasses.dataclass
 class Option:
-    """An option: its name without the dashes, the values that it may have, the one that it has unless given, and what
-    it bounds."""
+    """An option: its name without the dashes, the values that it may have, numbers or words, the one that it has unless
+    given, and what it bounds."""
     name: str
-    values: Sequence[int]
-    default: int
+    values: Sequence[Value]
+    default: Value
     purpose: str
+
+    @property
+    def has_words(self) -> bool:
+        """Whether its values are words."""
+        return isinstance(self.default, str)
+
+    def value_in(self, text: str) -> Optional[Value]:
+        """The value that a text is; None where the option can't have it."""
+        value = text if self.has_words else number_in(text, 0, MOST_VALUE)
+        return value if value in self.values else None
+
+    def need(self, text: str) -> Value:
+        """The value that a text is; else a refusal that tells which there are."""
+        value = self.value_in(text)
+        if value is None:
+            raise Refusal(f"--{self.name} takes {self.range_text()}, and not `{text}`.")
+        return value
 
     def range_text(self) -> str:
         """The values that the option may have, in words."""
@@ -27,13 +50,15 @@ class Option:
 
 class Table:
     """What the launcher's table tells: the program's commands, options and statuses, the kinds of generated images, the
-    second program's courses and the numbers among its words, the launcher's own words and those of the tools, and which
-    of all words belong together."""
+    second program's courses with all their options and the numbers among their words, the launcher's own words and
+    those of the tools, and which of all words belong together."""
 
     def __init__(self) -> None:
         self.commands: dict[str, str] = {}
         self.command_rows: dict[str, list[str]] = {}
         self.options: dict[str, Option] = {}
+        # Those of both programs, and behind them those of the second program alone.
+        self.course_options: dict[str, Option] = {}
         self.statuses: dict[int, str] = {}
         self.kinds: dict[str, tuple[Sequence[int], str]] = {}
         self.own: dict[str, str] = {}
@@ -47,8 +72,10 @@ class Table:
             kind, name, *rest = line.split("|")
             if kind == "command":
                 self.commands[name], self.command_rows[name] = rest[0], rest
-            elif kind == "option":
-                self.options[name] = Option(name, values_in(rest[0]), int(rest[1]), rest[2])
+            elif kind in ("option", "course-option"):
+                self.course_options[name] = option = option_in(name, *rest)
+                if kind == "option":
+                    self.options[name] = option
             elif kind == "course":
                 self.course_rows[name] = rest
             elif kind == "number":
@@ -74,6 +101,18 @@ def table_lines() -> list[str]:
     except subprocess.CalledProcessError as error:
         raise Refusal(f"{LAUNCHER} tells no table: it ended with status {error.returncode}.") from None
     return done.stdout.splitlines()
+
+
+def option_in(name: str, values: str, default: str, purpose: str) -> Option:
+    """An option, from its row."""
+    if default.isdigit():
+        return Option(name, values_in(values), int(default), purpose)
+    return Option(name, tuple(values.split(",")), default, purpose)
+
+
+def size_of(name: str, options: Mapping[str, Value], table: Table) -> int:
+    """The number that an option has among those given, or unless given."""
+    return int(options.get(name, table.options[name].default))
 
 
 def values_in(text: str) -> Sequence[int]:

@@ -17,7 +17,7 @@ from yotarimu.images.serial_machine import Machine
 from yotarimu.programs.calls import Calls
 from yotarimu.programs.program import STATUSES
 from yotarimu.reports.one_task import AskingRun, OneTask, way_text
-from yotarimu.reports.report import Entry, Name, Report, read_report
+from yotarimu.reports.report import Entry, Name, Report, Trap, read_report
 
 # After so many turns a terminal is told how far it is.
 TURNS_TOLD = 10_000
@@ -39,13 +39,15 @@ class Pending(NamedTuple):
 @dataclasses.dataclass(frozen=True)
 class WrittenRun:
     """An image as bytes and as read, and a report of a run of it as text and as read. The program's calls and options
-    are those by which the run is made again; without a program all turns are run again."""
+    are those by which the run is made again; where it is told why there is no program, all turns are run again. The
+    options have the budget too."""
     data: bytes
     image: Image
     text: str
     report: Report
-    calls: Optional[Calls]
+    calls: Union[Calls, str]
     options: Sequence[str]
+    budget: int
 
     def turn_of(self, name: Name) -> int:
         """The turn of a task; that of one which traps is the turn behind the last."""
@@ -66,8 +68,16 @@ class WrittenRun:
                           "./fractal check says more.")
         run = AskingRun(machine, task)
         run.go_to_end()
+        self.need_end(run)
         turns = {entry.name: entry.turn for entry in report.entries if entry.name.creator == turn}
         return OneTask(run, len(report.entries), turns, way_text(start, turn, why))
+
+    def need_end(self, run: AskingRun) -> None:
+        """Refuses a run of a task that ends otherwise than the report tells."""
+        found = None if run.trap is None else Trap(run.trap.cause, run.pc, run.task.name)
+        if found != (self.report.trap if run.turn > len(self.report.entries) else None):
+            raise Refusal(f"with these options the task {run.task.name} doesn't end as the report tells; "
+                          "./fractal check says more.")
 
     def before(self, turn: int) -> Reached:
         """The machine before a turn."""
@@ -78,15 +88,15 @@ class WrittenRun:
                 why = machine
             elif machine.follow(entries[start:turn - 1]) is None:
                 return Reached(machine, start, "")
-        machine = Machine(self.image)
+        machine = Machine(self.image, self.budget)
         if wrong := machine.follow(shown(entries[:turn - 1])):
             raise Refusal(f"this is no report of a run of the image: {wrong}.")
         return Reached(machine, 0, why)
 
     def saved_machine(self, turns: int) -> Union[Machine, str]:
         """The machine after so many turns, by the image that the program saves there; or why that can't be had."""
-        if self.calls is None:
-            return "the program isn't built"
+        if isinstance(self.calls, str):
+            return self.calls
         if self.whole is None:
             return "with these options the program doesn't make this run again"
         status, written = self.calls.call(["save", *self.options, f"--commits={turns}"], self.data)
@@ -96,13 +106,13 @@ class WrittenRun:
         names = names_in(saved, pending_in(self.whole, turns, saved))
         if names is None:
             return "no report tells which of the saved tasks it is"
-        return Machine.after(turns, saved, names)
+        return Machine.after(turns, saved, names, self.budget)
 
     @functools.cached_property
     def whole(self) -> Optional[Report]:
         """The report of the whole run, of which this one may have the beginning alone; None where the program makes
         another run."""
-        assert self.calls is not None
+        assert isinstance(self.calls, Calls)
         _, written = self.calls.call(["run", *self.options], self.data)
         text = written.decode("ascii", "replace")
         if text == self.text:

@@ -8,13 +8,14 @@ from yotarimu.common.text import printable
 from yotarimu.courses.schedules import ActAnswer
 from yotarimu.images.image import DATA, STACK, TEXT, Image, Limits
 from yotarimu.images.listing import Listing
-from yotarimu.images.serial_machine import REGISTERS, Machine, Run, TaskTrap
+from yotarimu.images.serial_machine import CALL, FETCH, REGISTERS, TIMESTAMP, Machine, Run, TaskTrap
 from yotarimu.reports.meanings import ENDS, REPLIES, cause_told, tasks_told
 from yotarimu.reports.report import Report, Trap
 
 # How far below the stack an address is told as one.
 BELOW_STACK = 65_536
 REGISTERS_IN_LINE = 5
+ALL_IN_LINE = 4
 # Replies to more acts than that are counted.
 MOST_REPLIES = 200
 
@@ -91,8 +92,8 @@ def window_lines(window: Sequence[tuple[int, int]], listing: Listing) -> list[st
     return [*lines, ""]
 
 
-def end_lines(report: Report, machine: Machine, listing: Listing) -> list[str]:
-    """How the run ended; of a trap where, why, and what is usually wrong."""
+def end_lines(report: Report, machine: Machine, listing: Listing, wants_all: bool) -> list[str]:
+    """How the run ended; of a trap with its registers, all or those that aren't 0."""
     if not report.trap:
         return [ENDS[report.end]]
     trap = report.trap
@@ -102,7 +103,8 @@ def end_lines(report: Report, machine: Machine, listing: Listing) -> list[str]:
         words = listing.task_words(task.entry, task.arguments)
         known = f" ({words}; timestamp {task.timestamp}, depth {task.domain.depth})"
     return [f"The run ended in a trap of the task {trap.name}{known}.",
-            *trap_lines(trap.cause, trap.pc, machine.image.limits, listing), *state_lines(machine, listing, trap)]
+            *trap_lines(trap.cause, trap.pc, machine.image.limits, listing),
+            *state_lines(machine, listing, trap, wants_all)]
 
 
 def trap_lines(cause: int, pc: int, limits: Limits, listing: Listing) -> list[str]:
@@ -113,22 +115,54 @@ def trap_lines(cause: int, pc: int, limits: Limits, listing: Listing) -> list[st
             f"  at {pc:08x}, {listing.label(pc) or 'without a label'}" + (f", {place}" if place else "")]
 
 
-def state_lines(machine: Machine, listing: Listing, trap: Trap) -> list[str]:
-    """The address and the registers of the trap, where running the task again comes to it."""
+def state_lines(machine: Machine, listing: Listing, trap: Trap, wants_all: bool) -> list[str]:
+    """What led to the trap, and the registers, where running the task again comes to it."""
     found = machine.run_at_trap(trap)
-    return register_lines(*found, listing) if found else []
+    return run_lines(*found, listing, wants_all) if found else []
 
 
-def register_lines(run: Run, trapped: TaskTrap, listing: Listing) -> list[str]:
-    """The address and the registers of a run at its trap."""
-    lines = []
+def run_lines(run: Run, trapped: TaskTrap, listing: Listing, wants_all: bool) -> list[str]:
+    """What led a run to its trap, and the registers, all or those that aren't 0."""
+    return [*reason_lines(run, trapped, listing),
+            *(all_registers(run.registers) if wants_all else registers_used(run.registers))]
+
+
+def reason_lines(run: Run, trapped: TaskTrap, listing: Listing) -> list[str]:
+    """The address of a load or store, the timestamp that was in the past, or that the task began at no instruction."""
     if trapped.address is not None:
-        lines.append(f"  address {address_text(listing, run.machine.image, trapped.address)}")
-    registers = [f"{name} {value:08x}" for name, value in zip(REGISTERS, run.registers) if value]
-    for first in range(0, len(registers), REGISTERS_IN_LINE):
-        title = "" if first else "registers"
-        lines.append(f"  {title:<9} {'  '.join(registers[first:first + REGISTERS_IN_LINE])}")
-    return [*lines, f"  {'':<9} all others are 0"]
+        return [f"  address {address_text(listing, run.machine.image, trapped.address)}"]
+    if trapped.least is not None:
+        whose = "the task's own" if run.registers[CALL] == 1 else "the floor: that of the task that made the subdomain"
+        return [f"  timestamp {run.registers[TIMESTAMP]} was asked for, and {trapped.least} is the least, {whose}"]
+    if begins_at_trap(run, trapped):
+        why = "no multiple of 4" if run.pc % 4 else "outside of the text"
+        return [f"  the task begins there: {'the image' if run.task.name.creator == 0 else 'its creator'} gave it this "
+                f"entry address, which is {why}"]
+    return []
+
+
+def begins_at_trap(run: Run, trapped: TaskTrap) -> bool:
+    """Whether a task traps before its first instruction, since there is none at its entry address."""
+    return trapped.cause == FETCH and run.pc == run.task.entry
+
+
+def registers_used(values: Sequence[int]) -> list[str]:
+    """The registers that aren't 0."""
+    used = [f"{name} {value:08x}" for name, value in zip(REGISTERS, values) if value]
+    rest = f"{'' if used else 'registers':<9} all {'others ' if used else ''}are 0; --registers tells each"
+    return [*in_lines(used, REGISTERS_IN_LINE), f"  {rest}"]
+
+
+def all_registers(values: Sequence[int]) -> list[str]:
+    """All registers, by their numbers and by the names that compilers give them."""
+    return in_lines([f"{f'x{number}':<3} {name:<4} {value:08x}"
+                     for number, (name, value) in enumerate(zip(REGISTERS, values))], ALL_IN_LINE)
+
+
+def in_lines(registers: Sequence[str], count: int) -> list[str]:
+    """Lines of so many registers each, of which the first has a title."""
+    return [f"  {'' if first else 'registers':<9} {'  '.join(registers[first:first + count])}"
+            for first in range(0, len(registers), count)]
 
 
 def address_text(listing: Listing, image: Image, address: int) -> str:
@@ -149,8 +183,8 @@ def address_text(listing: Listing, image: Image, address: int) -> str:
 
 
 def text_of(image_path: FilePath, image: Image, replies: Sequence[ActAnswer], report: Report, machine: Machine,
-            listing: Listing) -> list[str]:
-    """All that is told, for people."""
+            listing: Listing, wants_all: bool = False) -> list[str]:
+    """All that is told, for people; of a trap all registers, where that is wanted."""
     return [image_line(image_path, image), f"{tasks_told(len(report.entries))}.", "", *reply_lines(replies),
             *tree_lines(report, machine, listing), "", *output_lines(report.output), "",
-            *window_lines(report.window, listing), *end_lines(report, machine, listing)]
+            *window_lines(report.window, listing), *end_lines(report, machine, listing, wants_all)]

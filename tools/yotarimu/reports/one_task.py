@@ -9,7 +9,7 @@ from yotarimu.common.text import count_text
 from yotarimu.images.image import DATA, STACK
 from yotarimu.images.listing import Listing
 from yotarimu.images.serial_machine import CALL, ENTRY, FIRST_ARGUMENT, Machine, Run, Task, TaskTrap
-from yotarimu.reports.explanation import register_lines, trap_lines
+from yotarimu.reports.explanation import run_lines, trap_lines
 from yotarimu.reports.plain_data import state_data, trap_data
 from yotarimu.reports.report import Name
 
@@ -108,8 +108,8 @@ def way_text(start: int, turn: int, why: str) -> str:
     return f"All turns before it, {again:,}, were run again here{f', since {why}' if why else ''}."
 
 
-def text_of(told: OneTask, listing: Listing) -> list[str]:
-    """All that is told, for people."""
+def text_of(told: OneTask, listing: Listing, wants_all: bool = False) -> list[str]:
+    """All that is told, for people; of a trap all registers, where that is wanted."""
     run, asked = told.run, told.run.asked
     lines = [*head_lines(told, listing), "", *(asked_line(it, told, listing) for it in asked[:MOST_ASKED])]
     if len(asked) > MOST_ASKED:
@@ -118,7 +118,7 @@ def text_of(told: OneTask, listing: Listing) -> list[str]:
         lines.append("")
     if run.trap is not None:
         lines += ["It traps.", *trap_lines(run.trap.cause, run.pc, run.limits, listing),
-                  *register_lines(run, run.trap, listing), ""]
+                  *run_lines(run, run.trap, listing, wants_all), ""]
     return [*lines, told.way]
 
 

@@ -12,6 +12,7 @@ from yotarimu.courses.schedules import ActAnswer
 from yotarimu.images.image import DATA, Limits
 from yotarimu.images.listing import Listing
 from yotarimu.images.serial_machine import REGISTERS, Machine, Run, TaskTrap
+from yotarimu.reports.explanation import begins_at_trap
 from yotarimu.reports.meanings import cause_told
 from yotarimu.reports.report import Entry, Report
 
@@ -101,8 +102,9 @@ def trap_data(cause: int, pc: int, limits: Limits, listing: Listing) -> dict[str
 
 
 def state_data(run: Run, trapped: TaskTrap) -> dict[str, object]:
-    """The address and the registers of a run at its trap."""
-    return {"address": trapped.address, "registers": dict(zip(REGISTERS, run.registers))}
+    """What led a run to its trap, and the registers."""
+    return {"address": trapped.address, "registers": dict(zip(REGISTERS, run.registers)),
+            "least_timestamp": trapped.least, "begins_at_pc": begins_at_trap(run, trapped)}
 
 
 def write_tasks(report: Report, machine: Machine, listing: Listing, file: TextIO) -> None:

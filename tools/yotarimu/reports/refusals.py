@@ -6,11 +6,14 @@ import struct
 from collections.abc import Iterable, Sequence
 from typing import Optional
 
+from yotarimu.common.acts import ACTS
 from yotarimu.common.outcome import Refusal
 from yotarimu.common.text import printable
 from yotarimu.common.words import need_number, take_option
-from yotarimu.courses.schedules import NUMBERS
-from yotarimu.programs.table import Table
+from yotarimu.images.image import read_image
+from yotarimu.programs.table import Table, size_of
+from yotarimu.reports.disagreements import disagreement
+from yotarimu.reports.report import read_front
 
 # Where the image's header tells how many words of text, bytes of data and initial tasks come behind it.
 HEADER_BYTES, COUNTS, TASK_BYTES = 32, struct.Struct("<8xIIIIII"), 20
@@ -105,9 +108,9 @@ def script_fault(line: bytes, tiles: int, cores: int) -> Optional[str]:
     if fault := layout_fault(line):
         return fault
     word, *numbers = line.decode("ascii").split(" ")
-    if word not in NUMBERS:
-        return f"`{word[:MOST_SHOWN]}` is no act, which is {list_text(NUMBERS)}"
-    places = ("tile", "core")[:NUMBERS[word]]
+    if word not in ACTS:
+        return f"`{word[:MOST_SHOWN]}` is no act, which is {list_text(ACTS)}"
+    places = ("tile", "core")[:ACTS[word].numbers]
     if len(numbers) != len(places):
         wanted = " and ".join(f"a {place}" for place in places) or "nothing"
         return f"behind `{word}` comes {wanted}, and not {word_count(len(numbers))}"
@@ -215,6 +218,8 @@ def why(told: str, words: Sequence[str], data: bytes) -> str:
     line, what = line_of(text, number), "report" if found[1] == "journal" else "script"
     if found[1] == "journal":
         fault: Optional[str] = report_fault(text, number)
+        if fault in OTHER_RUNS.values():
+            fault = run_fault(data, text, number, words) or fault
     elif line is None:
         fault = "the script has no such line"
     else:
@@ -223,8 +228,16 @@ def why(told: str, words: Sequence[str], data: bytes) -> str:
     return f"{place}: {fault or 'docs/guest/FORMATS.md has the grammar'}"
 
 
+def run_fault(data: bytes, text: bytes, number: int, words: Sequence[str]) -> Optional[str]:
+    """The one thing that speaks against a line of a report, though the grammar allows it; None where running the tasks
+    again doesn't tell it."""
+    image, told = read_image(data, "the input"), text.decode("ascii", "replace")
+    return disagreement(image, read_front(told, number - 1), read_front(told, number), count_of("commits", words),
+                        count_of("budget", words))
+
+
 def count_of(name: str, words: Sequence[str]) -> int:
-    """How many tiles or cores the words ask for."""
-    option = Table().options[name]
+    """The number that an option has in the words, or else unless given."""
+    table = Table()
     value, _ = take_option(words, f"--{name}")
-    return option.default if value is None else need_number(f"--{name}", value, option.values[0], option.values[-1])
+    return size_of(name, {} if value is None else {name: table.options[name].need(value)}, table)

@@ -72,24 +72,62 @@ class Lines:
         raise Refusal(f"{self.name}:{self.taken + 1}: this is no report: {why}.")
 
 
+ENTRY = rf"{NUMBER} {NUMBER}\.{NUMBER} {DEPTH} {NUMBER}"
+OUTPUT = "output (-|(?:[0-9a-f]{2})+)"
+WORD = "window ([0-9a-f]{8}) ([0-9a-f]{8})"
+END = rf"end (normal|limit|open|trap {NUMBER} ([0-9a-f]{{8}}) {NUMBER}\.{NUMBER})"
+
+
 def read_report(text: str, name: FilePath, start: int = 0) -> Report:
     """The report that a text is, after so many lines of something else."""
     lines = Lines(name, text.removesuffix("\n").split("\n"), start)
     lines.need("fractal 1", "the line `fractal 1`")
+    entries = read_entries(lines)
+    output = lines.need(OUTPUT, "an entry or the output")
+    window = read_window(lines)
+    end = lines.need(END, "a word of the window or the end")
+    if lines.taken < len(lines.texts):
+        lines.refuse("nothing is wanted after the end")
+    return Report(entries, output_of(output), window, end[1].split()[0], trap_of(end))
+
+
+def read_front(text: str, count: int) -> Report:
+    """The first lines of a report, each of them inside the grammar; what they don't tell is empty."""
+    lines = Lines("", text.split("\n")[:count])
+    lines.take("fractal 1")
+    entries = read_entries(lines)
+    output = lines.take(OUTPUT)
+    window = read_window(lines)
+    end = lines.take(END)
+    return Report(entries, output_of(output) if output else b"", window, end[1].split()[0] if end else "",
+                  trap_of(end) if end else None)
+
+
+def read_entries(lines: Lines) -> list[Entry]:
+    """The tasks that took their turns, whose lines come next."""
     entries: list[Entry] = []
-    while found := lines.take(rf"{NUMBER} {NUMBER}\.{NUMBER} {DEPTH} {NUMBER}"):
+    while found := lines.take(ENTRY):
         turn, creator, index, depth, timestamp = map(int, found.groups())
         if turn != len(entries) + 1:
             lines.taken -= 1
             lines.refuse(f"the turn {len(entries) + 1} is wanted")
         entries.append(Entry(turn, Name(creator, index), depth, timestamp))
-    output = lines.need("output (-|(?:[0-9a-f]{2})+)", "an entry or the output")[1]
+    return entries
+
+
+def read_window(lines: Lines) -> list[tuple[int, int]]:
+    """The words of the window, whose lines come next."""
     window = []
-    while found := lines.take("window ([0-9a-f]{8}) ([0-9a-f]{8})"):
+    while found := lines.take(WORD):
         window.append((int(found[1], 16), int(found[2], 16)))
-    trap = rf"trap {NUMBER} ([0-9a-f]{{8}}) {NUMBER}\.{NUMBER}"
-    end = lines.need(f"end (normal|limit|open|{trap})", "a word of the window or the end")
-    if lines.taken < len(lines.texts):
-        lines.refuse("nothing is wanted after the end")
-    told = Trap(int(end[2]), int(end[3], 16), Name(int(end[4]), int(end[5]))) if end[2] else None
-    return Report(entries, b"" if output == "-" else bytes.fromhex(output), window, end[1].split()[0], told)
+    return window
+
+
+def output_of(found: re.Match[str]) -> bytes:
+    """The bytes that the line of the output tells."""
+    return b"" if found[1] == "-" else bytes.fromhex(found[1])
+
+
+def trap_of(end: re.Match[str]) -> Optional[Trap]:
+    """The trap that the end tells, if it tells one."""
+    return Trap(int(end[2]), int(end[3], 16), Name(int(end[4]), int(end[5]))) if end[2] else None

@@ -52,9 +52,9 @@ def sources(names: Sequence[str]) -> List[str]:
 # ---- the pages
 
 # The sources of the page, in the order in which they name each other.
-SHARED = ("texts.js", "machine.js", "view.js")
+SHARED = ("texts.js", "machine.js", "labels.js", "orders.js", "view.js")
 LIVE = ("lines.js", "images.js", "assembler.js", "sections.js", "sources.js", "causes.js", "sentences.js",
-        "machines.js", "live.js", "exports.js", "story.js", "exercises.js", "start.js")
+        "machines.js", "fields.js", "live.js", "exports.js", "story.js", "exercises.js", "start.js")
 # What sentences are made of, for the tools too.
 TABLES = {"sentences": "common/sentences.json", "exercises": "courses/exercises.json", "story": "web/story.json"}
 
@@ -87,8 +87,9 @@ def recorded_page(title: str, values: Dict[str, str]) -> str:
     data = "".join(f'<script type="application/json" id="{name}-data">{value}</script>\n'
                    for name, value in values.items())
     scripts = (script(f'"use strict";\n\n{source(name)}') for name in (*SHARED, "recorded.js"))
+    table = script(constant("sentences", {"order": table_at(TABLES["sentences"])["order"]}))
     parts = {"title": title, "style": source("run.css"), "run": source("run.html"), "data": data,
-             "scripts": "".join(scripts)}
+             "scripts": "".join((table, *scripts))}
     return fill(source("recorded.html"), parts)
 
 

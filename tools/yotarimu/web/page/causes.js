@@ -8,16 +8,6 @@ const ROOTS = {load: "load", store: "store", end: "commit queue", enqueue: "task
   dispatch: "core", abort: "abort"};
 const ROOMS = ["commit queue", "task queue", "core"];
 
-/** Tuples of numbers in their order: the first that differs decides, and a beginning comes first. */
-function compareTimes(one, two) {
-  for (let level = 0; level < Math.min(one.length, two.length); level++) {
-    const [[ts, place], [otherTs, otherPlace]] = [one[level], two[level]];
-    if (ts !== otherTs) return ts - otherTs;
-    if (place !== otherPlace) return place < otherPlace ? -1 : 1;
-  }
-  return one.length - two.length;
-}
-
 /** The causes of an event, by the machine before it. Members come in the order of their times. */
 class Cascade {
   constructor(line, before, lineBytes) {

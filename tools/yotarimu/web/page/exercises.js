@@ -109,8 +109,58 @@ async function judgeOrder({image}, answer) {
   return filled(texts.right, {output});
 }
 
+async function judgeDomains({image}, answer) {
+  const made = imageOf(assembled({name: "", text: answer})), texts = exercises.domains;
+  const begins = (it) => JSON.stringify([it.isOrdered, tasksOf(it).map((task) => [task.ts, [...task.args]])]);
+  hold(begins(headerOf(made)) === begins(headerOf(image)), texts.initial);
+  const run = await runOf(made), before = await runOf(image), output = lettersOf(run.output);
+  hold(run.end === "normal", texts.end, {end: run.end});
+  hold(output === texts.word, texts.other, {output: output.replace(/[^A-Z]/g, "?"), word: texts.word});
+  const times = ({entries}) => entries.map(([, , , ts]) => Number(ts)).sort((one, other) => one - other).join();
+  hold(times(run) === times(before), texts.times);
+  const flat = run.entries.find(([, name, depth]) => depth === "1" && !name.startsWith("0."));
+  hold(!flat, texts.flat, {name: flat?.[1]});
+  return filled(texts.right, {word: texts.word});
+}
+
+const REASONS = {child: "child", touched: "touched", room: "room", abort: "script"};
+const SHARED = ["byte", "line", "bit"];
+
+/** Why each task was taken back by a script: an act, a task, a word, and the task that it goes back to. */
+async function reasonsOf({image, words, script}) {
+  const acts = numbered(script).map(([, act]) => act), run = new ToldRun();
+  await run.take((await machines.call("watch", words, withBehind(image, scriptText(acts)))).output);
+  const taking = run.course.acts.map((line, place) => ({line, place})).filter(({line}) => line.back);
+  return taking.flatMap(({line, place}) => {
+    const before = run.course.at(place), named = (id) => before.label(before.tasks.get(id));
+    return new Cascade(line, before, run.head.line).all().map(({member, kind, by, meeting}) => (
+      [`${line.at}`, before.label(member.task), kind === "access" ? SHARED[meeting?.sharing ?? 2] : REASONS[kind],
+        by === null ? "-" : named(by)]));
+  });
+}
+
+async function judgeWhy(own, answer) {
+  const texts = exercises.why, wanted = await reasonsOf(own), seen = new Set();
+  const given = answer.split(/\r\n?|\n/)
+                  .map((line, place) => [place + 1, line.split("#")[0].trim().split(/\s+/).filter(Boolean)])
+                  .filter(([, fields]) => fields.length);
+  const odd = given.find(([, fields]) => fields.length !== 4);
+  if (odd)
+    throw new Refusal(`Line ${odd[0]}: ${filled(texts.misshapen, {text: odd[1].join(" ").slice(0, MOST_SHOWN)})}.`);
+  for (const [line, [act, task, word, by]] of given) {
+    const right = wanted.find((it) => it[0] === act && it[1] === task);
+    hold(right, texts.stays, {line, act, task});
+    hold(!seen.has(`${act} ${task}`), texts.twice, {line, task});
+    seen.add(`${act} ${task}`);
+    hold(word === right[2], texts.word, {line, task, word});
+    hold(by === right[3], texts.by, {line, task});
+  }
+  hold(given.length >= wanted.length, texts.fewer, {count: given.length});
+  return filled(texts.right, {count: given.length});
+}
+
 const JUDGES = {journal: judgeJournal, abort: judgeAbort, stall: judgeStall, false_conflict: judgeFalseConflict,
-  order: judgeOrder};
+  order: judgeOrder, domains: judgeDomains, why: judgeWhy};
 
 // ---- the page's part
 

@@ -22,27 +22,28 @@ function reportIn(text) {
 async function makeReport() {
   const [words, input] = reportCall();
   const {status, output} = await machines.call("sim", words, input);
-  at("report").value = reportIn(new TextDecoder().decode(output));
-  at("report-said").textContent = `fractal ${words.join(" ")}: status ${status}. ${statusTold(status)}.`;
+  showText("report", reportIn(new TextDecoder().decode(output)));
+  const told = status === UNWRITTEN ? "So long a report isn't made whole here" : statusTold(status);
+  at("report-said").textContent = `fractal ${words.join(" ")}: status ${status}. ${told}.`;
 }
 
 /** Hands the report to `check`, also where it was changed by hand. */
 async function checkReport() {
-  if (!at("report").value) await makeReport();
+  if (!textIn("report")) await makeReport();
   const options = optionsNow();
   const words = ["check", ...optionWords({commits: options.commits, budget: options.budget})];
-  const text = at("report").value;
+  const text = textIn("report");
   const {output} = await machines.call("sim", words, withBehind(subject.image, text));
   const said = new TextDecoder().decode(output).trim();
-  at("report-said").textContent = checkTold(said, text.split("\n"));
+  at("report-said").textContent = checkTold(said, text);
 }
 
 /** What `check` says, in a sentence. */
-function checkTold(said, lines) {
+function checkTold(said, report) {
   const fault = /^fault journal (\d+)$/.exec(said), accepted = /^check ok (\d+)$/.exec(said);
   if (fault) {
-    const line = (lines[fault[1] - 1] ?? "").slice(0, 60);
-    return `Refused: line ${fault[1]} is the first that is wrong: \`${line}\`.`;
+    const line = lineAt(report, Number(fault[1])).slice(0, 60);
+    return `Refusal: line ${fault[1]} is the first that is wrong: \`${line}\`.`;
   }
   if (!accepted) return `The program says: ${said}.`;
   return `Accepted: this is the report of a run, and ${plural(Number(accepted[1]), "task")} took a turn in it.`;
@@ -52,13 +53,13 @@ function checkTold(said, lines) {
 
 const TEXTS = {
   script: () => ["script", scriptText(actsSoFar())],
-  report: () => ["report", at("report").value],
+  report: () => ["report", textIn("report")],
   lines: () => ["lines", toldRun.bytes],
   image: () => ["image.bin", subject.image],
 };
 
 async function save(what) {
-  if (what === "report" && !at("report").value) await makeReport();
+  if (what === "report" && !textIn("report")) await makeReport();
   const [name, content] = TEXTS[what]();
   const link = document.createElement("a");
   link.href = URL.createObjectURL(new Blob([content], {type: "application/octet-stream"}));

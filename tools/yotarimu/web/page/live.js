@@ -1,6 +1,6 @@
 // ---- the live page: an image, options and acts, which the machine in the page plays anew at each change
 
-const MOST_INPUT = 67108864, MOST_AT_ONCE = 10000;
+const MOST_INPUT = 67108864, MOST_AT_ONCE = 10000, MOST_IN_ROUNDS = 200000;
 // After so many milliseconds a call that still runs is told, and can be stopped.
 const PATIENCE = 300;
 // The status of a call whose output wasn't taken whole.
@@ -12,7 +12,7 @@ const NOT_ASKED_FOR = ["empty", "busy", "stale", "ended"];
 
 let machines, toldRun = new ToldRun();
 let subject = {name: "", image: new Uint8Array(0), listing: [], labels: new Labels([])};
-let script = [], undoLengths = [], lastOptions = null;
+let script = [], undoLengths = [], lastOptions = null, callTold = "";
 
 /** What can't be done: its text is the sentence for the person. */
 class Refusal extends Error {}
@@ -27,6 +27,7 @@ let chain = Promise.resolve();
 function perform(action) {
   chain = chain.then(async () => {
     const late = setTimeout(() => showBusy(true), PATIENCE);
+    stopping.isWanted = false;
     try {
       tell("");
       await action();
@@ -46,9 +47,15 @@ function failureTold(error) {
   return `The machine gave no answer: ${error.message}.`;
 }
 
+/** Ends what lasts: the machine's call, or the reading of what it told. */
+function stop() {
+  stopping.isWanted = true;
+  return machines.stop();
+}
+
 function showBusy(isBusy) {
   at("stop").hidden = !isBusy;
-  if (isBusy) at("call").textContent = "The machine runs.";
+  at("call").textContent = isBusy ? "The machine runs." : callTold;
 }
 
 // ---- what is asked of the machine
@@ -90,16 +97,24 @@ function withBehind(image, text) {
 
 /** All that decides what is played, and what was told of it. */
 function stateNow() {
-  return {subject, script, toldRun, options: optionsNow(), course: courseNow()};
+  return {
+    subject, script, undoLengths, toldRun, callTold, lastOptions, bytes: toldRun.bytes, place: current,
+    options: optionsNow(), course: courseNow()
+  };
 }
 
-function setState(state) {
-  ({subject, script, toldRun} = state);
+/** Brings a state back. What was read since then is read as it was: that can't be stopped. */
+async function setState(state) {
+  ({subject, script, undoLengths, toldRun, callTold, lastOptions} = state);
   setOptions(state.options);
   setCourse(state.course);
+  showScript();
+  if (toldRun.bytes === state.bytes && toldRun.course === course) return;
+  const kept = await toldRun.take(state.bytes, {isWanted: false});
+  if (toldRun.course) showAnswer({isNew: toldRun.course !== course, kept, place: state.place});
 }
 
-/** Plays it all anew, and shows an act; where the machine refuses it, all is as it was before. */
+/** Plays it all anew, and shows an act. */
 async function play(place = Infinity) {
   const isSteps = courseNow().kind === "steps";
   const words = [...courseWords(), ...optionWords()];
@@ -110,10 +125,13 @@ async function play(place = Infinity) {
   const text = new TextDecoder().decode(output.subarray(0, 200));
   if (text.startsWith('{"fault"')) throw new Refusal(faultTold(JSON.parse(text.split("\n")[0])));
   if (!output.length) throw new Refusal(`${statusTold(status)}: status ${status}.`);
+  if (!toldRun.isBegunBy(output)) toldRun = new ToldRun();
+  // What was shown last may not stand in what is read now.
+  lastShown = null;
   const had = toldRun.course, kept = await toldRun.take(output);
   showAnswer({isNew: toldRun.course !== had, kept, place});
   const size = `${plural(output.length, "byte")}, ${milliseconds.toFixed(0)} ms`;
-  at("call").textContent
+  callTold
     = `fractal watch ${words.join(" ")}: status ${status}, ${size}.${toldRun.end ? "" : brokenOff(status)}`;
   lastOptions = {options: optionsNow(), course: courseNow()};
   clearTexts();
@@ -140,17 +158,22 @@ function sentenceAt(sayer, act, before, behind) {
   return act === course.length && toldRun.end ? `${told} ${sayer.end(toldRun.end)}` : told;
 }
 
-/** Tries a change of what is played; where that is refused, it is taken back. */
-async function change(make, place) {
-  const before = stateNow();
+/** Does what changes the state; where that is refused or stopped, all is as it was. */
+async function attempt(action, before = stateNow()) {
   try {
-    await make();
-    await play(place);
+    await action();
   } catch (error) {
-    setState(before);
-    showScript();
+    await setState(before);
     throw error;
   }
+}
+
+/** Changes what is played, and plays it. */
+function change(make, place) {
+  return attempt(async () => {
+    await make();
+    await play(place);
+  });
 }
 
 /** What is said of a text without its end. */
@@ -212,70 +235,63 @@ function actsSoFar() {
     [line.do, ...[line.tile, line.core].slice(0, actWords[line.do])].join(" ")));
 }
 
-/** Further acts, behind those that stand. */
-function addActs(more) {
-  return perform(() => change(() => {
-    undoLengths.push(script.length);
-    script = [...actsSoFar(), ...more];
-    setCourse({kind: "steps"});
-  }));
+/** Puts further acts behind those that stand. */
+function append(more) {
+  undoLengths = [...undoLengths, script.length];
+  script = [...actsSoFar(), ...more];
+  setCourse({kind: "steps"});
 }
 
-function runMany(count) {
-  return perform(async () => {
+const addActs = (more) => perform(() => change(() => append(more)));
+
+/** Makes acts of which only those stay that something asked for; where none stays, the sentence says why. */
+function addAsked(more, notAskedFor, sentence) {
+  return attempt(async () => {
     const before = actsSoFar().length;
-    await change(() => {
-      undoLengths.push(script.length);
-      script = [...actsSoFar(), ...Array(count).fill("advance")];
-      setCourse({kind: "steps"});
-    });
-    await dropReplies(before, ["ended"]);
-    if (script.length === before) throw new Refusal("The run is over, so no event is left.");
+    append(more);
+    await play();
+    const asked = script.filter((_, place) => place < before || !notAskedFor.includes(course.acts[place]?.reply));
+    if (asked.length === before) throw new Refusal(sentence);
+    if (asked.length === script.length) return;
+    script = asked;
+    await play();
   });
 }
 
-/** Rounds in lockstep, of which those acts stay that something asked for. A refused act changes nothing. */
+function runMany(count) {
+  return perform(() => addAsked(Array(count).fill("advance"), ["ended"], "The run is over, so no event is left."));
+}
+
+/** Rounds in lockstep. A refused act changes nothing, so the run is the same without those that nothing asked for. */
 function runRounds(count) {
-  return perform(async () => {
-    const {tiles, cores} = course.head, before = actsSoFar().length;
+  return perform(() => {
+    const {tiles, cores} = course.head;
     const each = (length, act) => Array.from({length}, (_, number) => act(number));
     const round = [
       ...each(tiles, (tile) => [`dispatch ${tile}`, ...each(cores, (core) => `step ${tile} ${core}`)]).flat(),
       ...each(tiles, () => "commit"), ...each(tiles, (tile) => `split ${tile}`)
     ];
-    if (count * round.length > 200000) throw new Refusal("So many rounds at once are too many; make fewer.");
-    await change(() => {
-      undoLengths.push(script.length);
-      script = [...actsSoFar(), ...Array(count).fill(round).flat()];
-      setCourse({kind: "steps"});
-    });
-    await dropReplies(before, NOT_ASKED_FOR);
-    if (script.length === before) throw new Refusal("Nothing is left to do in a round.");
+    if (count * round.length > MOST_IN_ROUNDS) throw new Refusal("So many rounds at once are too many; make fewer.");
+    return addAsked(Array(count).fill(round).flat(), NOT_ASKED_FOR, "Nothing is left to do in a round.");
   });
 }
 
-/** Takes acts out of the script that were answered so, behind so many. */
-async function dropReplies(before, replies) {
-  const kept = script.filter((_, place) => place < before || !replies.includes(course.acts[place].reply));
-  if (kept.length === script.length) return;
-  script = kept;
-  await play();
-}
-
-function undo(count) {
+/** Leaves so many acts of the script as `length()` gives. */
+function undoTo(length) {
   return perform(() => {
     if (courseNow().kind !== "steps") throw new Refusal("The machine made these acts; choose another course.");
     if (!script.length) throw new Refusal("No act is left to undo.");
-    return change(() => { script = script.slice(0, Math.max(0, script.length - count)); });
+    return change(() => {
+      script = script.slice(0, Math.max(0, length()));
+      undoLengths = undoLengths.filter((it) => it < script.length);
+    });
   });
 }
 
+const undo = (count) => undoTo(() => script.length - count);
+
 /** Undoes what the last button did. */
-function undoLast() {
-  const length = undoLengths.filter((it) => it < script.length).at(-1) ?? script.length - 1;
-  undoLengths = undoLengths.filter((it) => it < length);
-  return undo(script.length - length);
-}
+const undoLast = () => undoTo(() => undoLengths.filter((it) => it < script.length).at(-1) ?? script.length - 1);
 
 function doTyped() {
   const text = at("typed").value.split("#")[0].trim().replace(/\s+/g, " ");
@@ -373,15 +389,16 @@ function buildPlaces({tiles, cores}) {
   if (chosen[1] < cores) at("core").value = chosen[1] || 0;
 }
 
-/** The script as text, where it is open: a long one takes long to be laid out. */
+/** The script as text, where it is open. */
 function showScript() {
   if (!at("script-box").open) return;
-  at("script").value = scriptText(courseNow().kind === "steps" ? script : []);
+  showText("script", scriptText(courseNow().kind === "steps" ? script : []), true);
   at("script").scrollTop = at("script").scrollHeight;
 }
 
 function clearTexts() {
-  at("report").value = at("report-said").textContent = "";
+  showText("report", "");
+  at("report-said").textContent = "";
 }
 
 function fieldHtml([, name, values, usual, bounds]) {
@@ -422,7 +439,7 @@ function listenToControls() {
   on("run-many", "click", () => withCount(runMany));
   on("run-rounds", "click", () => withCount(runRounds));
   on("undo", "click", undoLast);
-  on("stop", "click", () => machines.stop());
+  on("stop", "click", stop);
   on("typed", "keydown", (event) => { if (event.key === "Enter") doTyped(); });
   on("script-box", "toggle", showScript);
   on("script", "change", () => perform(() => change(() => {
@@ -432,15 +449,10 @@ function listenToControls() {
 }
 
 /** A field was changed: where the machine refuses what stands there, the field is as it was. */
-async function changedOption() {
+function changedOption() {
   document.body.dataset.course = at("course").value;
-  try {
-    await play(at("course").value === "steps" ? Infinity : 0);
-  } catch (error) {
-    setOptions(lastOptions.options);
-    setCourse(lastOptions.course);
-    throw error;
-  }
+  const before = {...stateNow(), ...lastOptions};
+  return attempt(() => play(at("course").value === "steps" ? Infinity : 0), before);
 }
 
 function actOf(button) {

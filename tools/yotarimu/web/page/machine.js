@@ -11,8 +11,10 @@ const MOST_PLACES = 6;
 class Machine {
   constructor(opening) {
     Object.assign(this, opening);
-    this.tasks = new Map(opening.tasks.map((task) => [task.id, task]));
-    this.dispatches = 0;
+    // JSON has no infinity: a task that isn't dispatched comes behind all that are.
+    const placed = (task) => ({...task, dispatched: task.dispatched ?? Infinity});
+    this.tasks = new Map(opening.tasks.map((task) => [task.id, placed(task)]));
+    this.blocks = opening.blocks.map((block) => block.map(placed));
     // The accesses of each task that may be taken back; of a page that begins within a run its stores alone.
     this.accesses = new Map();
     for (const [id, stores] of opening.stores) {
@@ -129,7 +131,8 @@ class Machine {
 }
 
 function nothingDone(own) {
-  return {own, arrived: null, committed: null, back: new Set(), discarded: [], spilled: new Set(), writes: []};
+  return {own, arrived: null, committed: null, maker: null, back: new Set(), discarded: [], spilled: new Set(),
+    writes: []};
 }
 
 /** A task's accesses, the first one first. They are a chain, which copies of the machine share. */
@@ -157,6 +160,16 @@ function domainOfChild(creator, to) {
 /** A task's virtual time: a timestamp and the place of a dispatch for each depth. */
 function timeOf({domain: {maker, kinds}, ts, dispatched}) {
   return [...maker, [kinds.at(-1) ? ts : 0, dispatched]];
+}
+
+/** Tuples of numbers in their order: the first that differs decides, and a beginning comes first. */
+function compareTimes(one, two) {
+  for (let level = 0; level < Math.min(one.length, two.length); level++) {
+    const [[ts, place], [otherTs, otherPlace]] = [one[level], two[level]];
+    if (ts !== otherTs) return ts - otherTs;
+    if (place !== otherPlace) return place < otherPlace ? -1 : 1;
+  }
+  return one.length - two.length;
 }
 
 function without(list, item) {
@@ -191,6 +204,7 @@ const CHANGES = {
     machine.useful += task.work;
     machine.commits += 1;
     machine.act.committed = machine.commits;
+    if (task.subdomain !== null) machine.act.maker = task.dispatched;
     for (const id of task.children) {
       const child = machine.tasks.get(id);
       // A child that was spilled has its name, and its id may be another's.
@@ -215,9 +229,8 @@ function enqueue(machine, creator, line) {
   machine.replace(creator.id, {made: index + 1, children: [...creator.children, line.new]});
   machine.arrive({
     id: line.new, tile: line.in, state: "idle", core: null, name: null, creator: creator.id, index, ts: line.ts,
-    entry: line.entry, pc: line.entry, number: null, work: 0, made: 0, children: [], dispatched: Infinity,
-    // A page that begins within a run knows no domains.
-    subdomain: null, domain: creator.domain && domainOfChild(creator, line.to),
+    args: line.args, entry: line.entry, pc: line.entry, number: null, work: 0, made: 0, children: [],
+    dispatched: Infinity, subdomain: null, domain: domainOfChild(creator, line.to),
   });
 }
 
@@ -291,6 +304,8 @@ class Course {
   constructor(head, opening) {
     Object.assign(this, {head, opening, acts: [], entries: [...opening.journal], before: opening.journal.length});
     this.emitted = {places: [], digits: [], total: ""};
+    // Names of tasks that made a domain and committed, by their places among all dispatches.
+    this.makers = new Map(opening.makers.map(([dispatch, name]) => [dispatch, {name, place: 0}]));
     this.memory = new Memory(opening, head.line);
     this.curves = Object.fromEntries(CURVES.map((name) => [name, []]));
     this.machine = new Machine(opening);
@@ -311,7 +326,9 @@ class Course {
   }
 
   commit(line, place) {
-    this.entries.push([line.name.join("."), line.depth, line.ts]);
+    const name = line.name.join("."), {maker} = this.machine.act;
+    this.entries.push([name, line.depth, line.ts]);
+    if (maker !== null) this.makers.set(maker, {name, place});
     if (!line.output) return;
     this.emitted.total += line.output;
     this.emitted.places.push(place);
@@ -336,6 +353,7 @@ class Course {
     this.copies.length = Math.floor(place / EVERY) + 1;
     this.memory.cutTo(place);
     this.entries.length = this.before + this.machine.commits - this.opening.commits;
+    for (const [dispatch, maker] of this.makers) if (maker.place > place) this.makers.delete(dispatch);
     const {emitted} = this;
     emitted.places.length = emitted.digits.length = countUpTo(emitted.places, place);
     emitted.total = emitted.total.slice(0, emitted.digits.at(-1) ?? 0);

@@ -3,9 +3,6 @@
 // More output than this isn't shown: the program is told that it can't be written.
 const MOST_OUTPUT = 32 << 20;
 
-/** A call that was stopped by a person. */
-class Interruption extends Error {}
-
 /** Both programs, in a worker where the browser allows one for a file from a disk, else in the page's own thread. */
 class Machines {
   constructor(packed) {
@@ -61,7 +58,7 @@ class Machines {
 
   /** Ends a call that runs, and makes the machine ready for the next. */
   async stop() {
-    if (!this.worker) return;
+    if (!this.worker || !this.waiting.size) return;
     this.worker.terminate();
     for (const {reject} of this.waiting.values()) reject(new Interruption());
     this.waiting.clear();

@@ -12,7 +12,7 @@ const STATES = {idle: "i", running: "r", trapped: "t", finished: "f", spilled: "
 
 const at = (id) => document.getElementById(id);
 // What is shown: a course, and `saying(place, before, behind)`, the text on an act by the machine before and behind it.
-let course = null, saying = () => "";
+let course = null, saying = () => "", labels = new Labels([]);
 
 /** Sets a part of the page where it isn't as it stands: what doesn't change isn't laid out again. */
 const shown = new Map();
@@ -24,11 +24,15 @@ function show(element, html) {
 
 /** What stands beside a task in each lane, as it is read out and as it is shown, and the tasks that have no marks. */
 const LANES = {
-  queue: {told: (task) => `timestamp ${task.ts}`, shown: (task) => `@${task.ts}`, plain: new WeakMap()},
+  queue: {told: timeTold, shown: timeShown, plain: new WeakMap()},
   cores: {told: (task) => plural(task.work, "instruction"), shown: (task) => `${task.work}`, plain: new WeakMap()},
   finished: {told: () => "", shown: () => "", plain: new WeakMap()},
-  block: {told: () => "", shown: () => "", plain: new WeakMap()},
+  block: {told: timeTold, shown: timeShown, plain: new WeakMap()},
 };
+
+/** A task's timestamp and its depth, which isn't shown where it is 1. */
+function timeTold(task) { return `timestamp ${task.ts}, depth ${depthOf(task)}`; }
+function timeShown(task) { return `@${task.ts}${depthOf(task) > 1 ? ` d${depthOf(task)}` : ""}`; }
 
 const LANE_TITLES = ["task queue", "cores", "commit queue", "block"];
 
@@ -66,7 +70,8 @@ function itemHtml(label, classes, signs, words, more) {
 
 function detail(task) {
   const number = task.number === null ? "" : `, dispatched with the number ${task.number}`;
-  return `timestamp ${task.ts}, entry ${hex(task.entry)}${number}`;
+  const words = escaped(labels.taskWords(task.entry, task.args));
+  return `${words}, ${timeTold(task)}, entry ${hex(task.entry)}${number}`;
 }
 
 function laneHtml(machine, name, ids, more = "") {
@@ -278,9 +283,11 @@ function go(wanted) {
   showTiles(machine, line);
   showJournal(machine, current);
   showMemory(current, line);
-  showListing(machine, line);
   showCurves(current);
+  showPair();
   showPlace(machine.at);
+  // It asks where a row is, for which all that was changed is laid out: so it comes last.
+  showListing(machine, line);
 }
 
 // What else is to follow where another act is shown, by its number.
@@ -338,6 +345,7 @@ function settingsTold(head) {
 /** Shows a course: what doesn't change from act to act. */
 function build(listing) {
   shown.clear();
+  labels = new Labels(listing);
   at("settings").textContent = settingsTold(course.head);
   buildTiles(course.head.tiles);
   buildListing(listing);
@@ -348,4 +356,5 @@ function listen() {
   at("slider").addEventListener("input", () => go(Number(at("slider").value)));
   for (const [id, action] of Object.entries(BUTTONS)) at(id).addEventListener("click", action);
   document.addEventListener("keydown", onKey);
+  listenToPair();
 }

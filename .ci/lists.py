@@ -1,0 +1,138 @@
+"""Words that stand in lists at several places, held against each other: acts, commands, options, courses and statuses.
+
+Of each kind one list decides: of acts the table of tools/yotarimu/common/acts.py, of all others the launcher's. What a
+document, a definition of a crate, a script or a page has of them is read there, and is to be the same.
+"""
+from __future__ import annotations
+
+import re
+import sys
+from collections.abc import Iterable, Iterator
+
+from yotarimu.common.acts import ACTS
+from yotarimu.common.outcome import Refusal
+from yotarimu.common.places import HOME
+from yotarimu.common.sentences import SENTENCES
+from yotarimu.courses.study import value_text
+from yotarimu.lines.fields import COURSES, EVENTS, SETTINGS
+from yotarimu.lines.reader import RANGES
+from yotarimu.lines.replay import MADE
+from yotarimu.pictures.lanes import CORNERS
+from yotarimu.programs.answers import READERS, SHOWN
+from yotarimu.programs.table import Option, Table
+
+# The modules of bench/ stand beside its scripts.
+sys.path.append(str(HOME / "bench"))
+from cases.kinds import OPTIONS, TABLES  # noqa: E402
+
+FORMATS, README, SETTINGS_PAGE = "docs/guest/FORMATS.md", "README.md", "docs/machine/SETTINGS.md"
+GRAMMAR, REQUESTS = "crates/step_script/specs/Grammar.antt", "crates/command_line/specs/Requests.antt"
+SETTINGS_SPECS, COURSE_WORDS = "crates/command_line/specs/Settings.antt", "crates/fractal_watch/specs/Words.antt"
+STATUSES, PAGE = "crates/program_call/src/statuses.rt", "tools/yotarimu/web/page/live"
+DRIVE = "tools/tries/browser/drive.mjs"
+CODES = r'\(codes "([a-z-]+)"\)'
+# Sentences on what was asked for that belong to a request of a step, and to no act.
+OF_STEPS = {"leg", "enqueue", "end"}
+# A list that is to be the same: where it stands, what it is called there, and its words.
+Place = tuple[str, str, Iterable[str]]
+
+
+def whole(path: str) -> str:
+    return (HOME / path).read_text(encoding="utf-8")
+
+
+def part_of(path: str, start: str, end: str) -> str:
+    """The text of a file between two others, the first of which it has."""
+    _, found, rest = whole(path).partition(start)
+    if not found:
+        raise Refusal(f"{path}: `{start.strip()}` isn't there any more, behind which .ci/lists.py reads a list.")
+    return rest.partition(end)[0]
+
+
+def first_cells(path: str, head: str) -> list[str]:
+    """The first words, in code, of the rows below the head of a table."""
+    return re.findall(r"^\| `(?:--)?([a-z-]+)", part_of(path, f"\n{head}", "\n\n"), re.M)
+
+
+def codes_in(path: str, start: str, end: str) -> list[str]:
+    return re.findall(CODES, part_of(path, start, end))
+
+
+def places_of_acts() -> Iterator[Place]:
+    """Lists of all acts."""
+    yield GRAMMAR, "the grammar", re.findall(CODES, whole(GRAMMAR))
+    yield FORMATS, "the table of lines", first_cells(FORMATS, "| Line | Does |")
+    yield "sentences.json", "wishes", set(SENTENCES["wishes"]) - OF_STEPS
+    yield f"{PAGE}.html", "the buttons", re.findall('data-act="([a-z]+)"', whole(f"{PAGE}.html"))
+    yield DRIVE, "the acts by buttons", re.findall('"([a-z]+)"', part_of(DRIVE, "(const act of [", "]"))
+
+
+def places_of_commands(table: Table) -> Iterator[Place]:
+    yield REQUESTS, "command_by", codes_in(REQUESTS, "command_by word text =", "\n\n")
+    yield README, "the table of commands", first_cells(README, "| Command | Reads | Does |")
+    yield FORMATS, "the first words", re.findall("`([a-z]+)`", part_of(FORMATS, "The first word is the command:", "."))
+    yield "programs/answers.py", "SHOWN", SHOWN
+    readers = [*READERS, *(name for name, row in table.command_rows.items() if not row[1])]
+    yield "programs/answers.py", "READERS", readers
+    yield "bench/cases/kinds.py", "Calls", (name for name in dict(TABLES)["Calls"] if name != "other words")
+
+
+def places_of_options() -> Iterator[Place]:
+    yield SETTINGS_SPECS, "the settings", codes_in(SETTINGS_SPECS, "pub tiles", "\0")
+    yield "bench/cases/kinds.py", "OPTIONS", OPTIONS
+    # Lines tell no host threads, since none make their acts.
+    yield "lines/fields.py", "SETTINGS", ("workers", *(name.replace("_", "-") for name in SETTINGS))
+    yield "lines/reader.py", "RANGES", ("workers", *(name.replace("_", "-") for name in RANGES if name in SETTINGS))
+
+
+def differing(what: str, wanted: Iterable[str], places: Iterable[Place]) -> Iterator[str]:
+    """What a list has too little, or too much."""
+    right = set(wanted)
+    for path, name, words in places:
+        seen = set(words)
+        for word in sorted(right - seen):
+            yield f"{path}: {name} has no `{word}`, which is {what}"
+        for word in sorted(seen - right):
+            yield f"{path}: {name} has `{word}`, which isn't {what}"
+
+
+def told_values(option: Option) -> str:
+    """The values of an option and the one unless given, as tables of documents have them."""
+    values = [value_text(value) for value in option.values]
+    range_told = f"{values[0]} to {values[-1]}" if isinstance(option.values, range) else ", ".join(values)
+    return f"{range_told} | {value_text(option.default)}"
+
+
+def values_that_differ(table: Table) -> Iterator[str]:
+    """Ranges and defaults in documents."""
+    for path, start in ((FORMATS, "| Option | Range | Unless given |"), (SETTINGS_PAGE, "| Option | Range |")):
+        rows = dict(re.findall(r"^\| `--([a-z-]+)`[^|]*\| ([^|]*\|[^|]*?) \|", part_of(path, start, "\n\n"), re.M))
+        yield from differing("an option", table.options, [(path, "the table of options", rows)])
+        for name, option in table.options.items():
+            told = rows.get(name, "").replace(" or ", ", ")
+            if told and told != told_values(option):
+                yield f"{path}: --{name} is `{told}`, and `{told_values(option)}` in the launcher's table"
+
+
+def lists_that_differ() -> Iterator[str]:
+    """All that a list has otherwise than the one that decides."""
+    table = Table()
+    yield from differing("an act", ACTS, places_of_acts())
+    yield from differing("an act with so many numbers", (f"{word}: {kind.numbers}" for word, kind in ACTS.items()),
+                         [(f"{PAGE}.js", "actWords", part_of(f"{PAGE}.js", "const actWords = {", "}").split(", "))])
+    yield from differing("an act that a line tells as done", (word for word, kind in ACTS.items() if "ok" in kind.told),
+                         [("sentences.json", "done", SENTENCES["done"])])
+    yield from differing("an event", EVENTS, [("lines/replay.py", "MADE", MADE)])
+    yield from differing("an act without a core", (word for word, kind in ACTS.items() if kind.numbers < 2),
+                         [("pictures/lanes.py", "CORNERS", CORNERS)])
+    yield from differing("a command", table.commands, places_of_commands(table))
+    yield from differing("an option", table.options, places_of_options())
+    yield from values_that_differ(table)
+    yield from differing("a course", table.course_rows, [
+        ("lines/fields.py", "COURSES", COURSES),
+        (COURSE_WORDS, "course_in", codes_in(COURSE_WORDS, "course_in (word", "\n\n")),
+        (FORMATS, "the table of courses", first_cells(FORMATS, "| Course | Its acts |"))])
+    yield from differing("a status", map(str, table.statuses), [
+        (STATUSES, "the constants", re.findall(r"u8 = (\d+);", whole(STATUSES))),
+        (FORMATS, "the table of statuses", re.findall(r"^\| (\d+) \|", part_of(FORMATS, "| Status | Where |", "\n\n"),
+                                                      re.M))])
