@@ -39,6 +39,7 @@ def reasons_of_traps_are_told(place: Place) -> None:
     end = "    li a7, 0\n    ecall\n"
     below_floor = ("    li a7, 4\n    li a0, 1\n    ecall\n    la a0, inner\n    li a1, 2\n    li a7, 2\n    ecall\n"
                    + end + "inner:\n    la a0, main\n    li a1, 4\n    li a7, 3\n    ecall\n" + end)
+    # A child's arguments are a2 to a4 of its creator, and that of `entry` has its timestamp 5 in a3.
     for name, text, report, parts in (
             ("past", "    la a0, main\n    addi a1, a3, -1\n    li a7, 1\n    ecall\n" + end,
              "end trap 10 00010010 0.0", ("timestamp 4 was asked for, and 5 is the least, the task's own",)),
@@ -46,7 +47,7 @@ def reasons_of_traps_are_told(place: Place) -> None:
              ("timestamp 4 was asked for, and 5 is the least, the floor: that of the task that made the subdomain",)),
             ("entry", "    li a0, 8\n    li a7, 1\n    li a1, 6\n    ecall\n" + end, "end trap 1 00000008 1.0",
              ("the task begins there: its creator gave it this entry address, which is outside of the text",
-              "registers a3 00000006")),
+              "registers a1 00000005  a3 00000006")),
             ("behind", "    nop\n", "end trap 1 00010004 0.0", ("at 00010004, main+4", "registers a3 00000005"))):
         folder = folder_with(place, name, task=head + text)
         expect(place.call("fractal build", str(folder)).status == 0, f"an image of {name}")
