@@ -5,6 +5,7 @@ import pathlib
 import re
 import shutil
 
+from yotarimu.applications.catalogue import APPLICATIONS
 from yotarimu.programs.examples import EXAMPLES, SCHEDULES
 
 from tries.launcher import TRAP
@@ -41,9 +42,31 @@ def accepted_examples_are_named(place: Place) -> None:
     total = listed + 2 * len(wanted)
     expect(count.startswith(f"{total} of {total} answers are as stored, in ") and "Nothing was proved" in count,
            "a count, and what wasn't proved", count)
+    expect("Applications were left out: " in count and "fractal_watch: the program isn't built" in count,
+           "what was left out", count)
     place.make_unwritable()
     answer = place.call("fractal test", "hello", "schedules/stall")
     expect(answer.status == 0 and answer.output.count(b": accepted\n") == 2, "two where nothing can be written", answer)
+
+
+def small_applications_are_played(place: Place) -> None:
+    """small applications are played where they can be, each fault is told by its name, else what is missing"""
+    place.stub(place.program, "cat >/dev/null\n")
+    place.call("fractal test", "applications").sentence("fractal_watch", "isn't built")
+    place.stub(place.second_program, "cat >/dev/null; exit 5\n")
+    answer = place.call("fractal test", "applications")
+    head, *lines = answer.output.decode().splitlines()
+    expect((answer.status, head) == (1, f"applications: 0 of {len(APPLICATIONS)} right"), "none is right", answer)
+    expect([line.split(":")[0].strip() for line in lines] == [*APPLICATIONS], "each by its name", lines)
+    expect(all("ended with status 5" in line for line in lines), "what is wrong with each", lines)
+    place.needs_program()
+    place.needs_second_program()
+    answer = place.call("fractal test", "hello", "applications")
+    wanted = f"applications: {len(APPLICATIONS)} accepted\nhello: accepted\n2 of 2 answers are as stored"
+    expect(answer.status == 0 and answer.output.decode().startswith(wanted), "all are right", answer)
+    place.is_clean()
+    place.without("riscv64-unknown-elf-gcc")
+    place.call("fractal test", "applications").sentence("riscv64-unknown-elf-gcc isn't in the path")
 
 
 def one_unproved_run_plays_all(place: Place) -> None:
@@ -197,7 +220,7 @@ def clones_that_fail_are_told(place: Place) -> None:
 
 
 TRIES = (
-    accepted_examples_are_named, one_unproved_run_plays_all, other_reports_fail, worked_lines_are_held,
-    lying_programs_fail, each_fails_the_gate, wide_lines_only_fall, odd_sources_are_told, lists_are_held,
-    clones_that_fail_are_told,
+    accepted_examples_are_named, small_applications_are_played, one_unproved_run_plays_all, other_reports_fail,
+    worked_lines_are_held, lying_programs_fail, each_fails_the_gate, wide_lines_only_fall, odd_sources_are_told,
+    lists_are_held, clones_that_fail_are_told,
 )

@@ -65,6 +65,14 @@ def need_tools(compiler: str) -> None:
     tool_prefix()
 
 
+def made_elsewhere(case: Case, compiler: str) -> tuple[ApplicationImage, Problem]:
+    """An application that is built in a folder of its own, which isn't kept, and its problem."""
+    need_tools(compiler)
+    problem = case.problem()
+    with tempfile.TemporaryDirectory() as folder:
+        return make(case, problem, compiler, pathlib.Path(folder)), problem
+
+
 @contextlib.contextmanager
 def whole_folder(folder: pathlib.Path) -> Iterator[pathlib.Path]:
     """A folder to write to, which gets its name once all of it is there. Where the name is taken already it is that of

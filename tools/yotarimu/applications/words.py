@@ -13,7 +13,7 @@ from yotarimu.common.words import need_number, number_in, take_option
 from yotarimu.images.compiler import CLANG, GCC
 
 MOST_SEED = 2 ** 32 - 1
-SIZE_UNLESS_TOLD = "small"
+SIZE_UNLESS_TOLD, SEED_UNLESS_TOLD = "small", 1
 
 
 @dataclasses.dataclass(frozen=True)
@@ -41,7 +41,7 @@ def read_words(words: Sequence[str]) -> Words:
     words = [word for word in words if word not in ("--clang", "--both")]
     count = next((place for place, word in enumerate(words) if word.startswith("-")), len(words))
     return Words(words[:count], SIZE_UNLESS_TOLD if size is None else size,
-                 1 if seed is None else need_number("--seed", seed, 0, MOST_SEED),
+                 SEED_UNLESS_TOLD if seed is None else need_number("--seed", seed, 0, MOST_SEED),
                  (GCC, CLANG) if is_both else (CLANG if is_clang else GCC,),
                  None if program is None else pathlib.Path(program), None if second is None else pathlib.Path(second),
                  words[count:])

@@ -32,9 +32,8 @@ import pathlib
 import tempfile
 from typing import Callable, Iterator, Mapping, Optional, Sequence
 
-from yotarimu.applications.application import Problem
 from yotarimu.applications.catalogue import APPLICATIONS
-from yotarimu.applications.image import IMAGE, Case, ApplicationImage, make, need_tools, whole_folder
+from yotarimu.applications.image import IMAGE, Case, made_elsewhere, make, need_tools, whole_folder
 from yotarimu.applications.runs import check, run
 from yotarimu.applications.words import Words, cases_of, read_words
 from yotarimu.commands import study
@@ -137,14 +136,6 @@ def working_folder(folder: str) -> Iterator[None]:
         yield
     finally:
         os.chdir(before)
-
-
-def made_elsewhere(case: Case, compiler: str) -> tuple[ApplicationImage, Problem]:
-    """An application that is built in a folder of its own, which isn't kept, and its problem."""
-    need_tools(compiler)
-    problem = case.problem()
-    with tempfile.TemporaryDirectory() as folder:
-        return make(case, problem, compiler, pathlib.Path(folder)), problem
 
 
 def one_case(asked: Words, word: str) -> Case:

@@ -11,15 +11,15 @@ from yotarimu.programs.devices import device_answers
 
 ANSWERS = "answers"
 UNPROVED = ("Nothing was proved: the program was compiled without its proofs. ./fractal prove proves and builds it; "
-            "what reads more than a megabyte, wants memory, or has devices that fail, waits for that.")
+            "applications, and what reads more than a megabyte, wants memory, or has devices that fail, wait for that.")
 BUILT = "Nothing was proved by this: ./fractal prove proves the program, and rt ci proves all."
 
 
-def answer_lines(faults: Sequence[tuple[str, Optional[str]]]) -> list[str]:
-    """The table of answers in a line, with a line for each that went otherwise."""
+def lines_of(what: str, faults: Sequence[tuple[str, Optional[str]]], right: str) -> list[str]:
+    """All of a kind in a line, with a line for each that went otherwise than right."""
     wrong = [f"  {name}: {fault}" for name, fault in faults if fault]
-    told = f"{len(faults) - len(wrong)} of {len(faults)} as stored" if wrong else f"{len(faults)} accepted"
-    return [f"{ANSWERS}: {told}", *wrong]
+    told = f"{len(faults) - len(wrong)} of {len(faults)} {right}" if wrong else f"{len(faults)} accepted"
+    return [f"{what}: {told}", *wrong]
 
 
 def of_built(answers: Sequence[Case]) -> list[tuple[str, Optional[str]]]:
@@ -44,6 +44,6 @@ def check(names: Sequence[str], is_built: bool) -> tuple[int, int]:
             print(f"{name}: {wrong or 'accepted'}", flush=True)
     if answers:
         found[ANSWERS] += of_built(answers) if is_built else ()
-        print(*answer_lines(found[ANSWERS]), sep="\n")
+        print(*lines_of(ANSWERS, found[ANSWERS], "as stored"), sep="\n")
     faults = [fault for calls in found.values() for _, fault in calls]
     return len(faults), sum(fault is not None for fault in faults)
