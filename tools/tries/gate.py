@@ -172,6 +172,49 @@ def wide_lines_only_fall(place: Place) -> None:
     expect(answer.status == 0 and b"break" not in answer.output, "no failure where their number stays", answer)
 
 
+def definitions_that_stand_twice_are_told(place: Place) -> None:
+    """a definition that is another one but for its names fails the lint, and one with another word doesn't"""
+    path = place.clone / "crates" / "program_call" / "specs" / "Call.antt"
+    text = path.read_text()
+    again = """
+-- said again
+pub record SaidAgain (asked : Call) : Type 0 where
+  pub first : Rose asked.input.source_before.faults asked.input.source_after.faults → ⊥
+  pub second : Rose asked.sink_before.faults asked.sink_after.faults → {}
+"""
+    for end, is_same in (("⊥", True), ("Call", False)):
+        path.write_text(text + again.format(end))
+        answer = place.call(".ci/lint")
+        told = b"IsFaultless and crates/program_call/specs/Call.antt: SaidAgain are the same but for names"
+        expect((answer.status == 1, told in answer.output) == (is_same, is_same), f"{end} at the end", answer)
+
+
+def page_of_definitions_is_held(place: Place) -> None:
+    """the page of what must be read counts lines as by hand, fails the lint where it is old, and is made anew"""
+    page, program = place.clone / "docs" / "proof" / "READING.md", "fractal_sim/specs/Program.antt"
+    row = f"| [{program}](../../crates/{program}) | {{0}} | 0 | {{0}} |"
+    # The one definition there has a comment of three lines, a head and five fields.
+    expect(row.format(9) in page.read_text() and "progress_cell" not in page.read_text(), "rows as by hand")
+    path = place.clone / "crates" / program
+    path.write_text(path.read_text().replace("pub record", "-- one more line\npub record", 1))
+    answer = place.call(".ci/lint")
+    expect(answer.status == 1 and b"READING.md: it isn't the page" in answer.output, "an old page", answer)
+    expect(place.call(".ci/reading").status == 0 and row.format(10) in page.read_text(), "a new page")
+    expect(place.call(".ci/lint").status == 0, "a lint that passes")
+    place.call(".ci/reading", "crates").sentence("`crates`")
+
+
+def limits_are_held(place: Place) -> None:
+    """a limit that is another one in a document, or stands there no more, fails the lint"""
+    path = place.clone / "docs" / "guest" / "TASKS.md"
+    text = path.read_text()
+    for row, told in (("| data bytes | 16,777,215 |", "TASKS.md: the bytes of data are 16,777,215, and 16,777,216 in "),
+                      ("", "isn't there any more, where .ci/limits.py looks for the bytes of data")):
+        path.write_text(text.replace("| data bytes | 16,777,216 |", row))
+        answer = place.call(".ci/lint")
+        expect(answer.status == 1 and told in answer.output.decode(), f"`{told}`", answer)
+
+
 def odd_sources_are_told(place: Place) -> None:
     """the lint takes no words, and tells a source that is no text, and an edit or a version that isn't whole"""
     expect(b"WIDE_LINES" in place.call(".ci/lint", "--help").output, "a help page")
@@ -221,6 +264,7 @@ def clones_that_fail_are_told(place: Place) -> None:
 
 TRIES = (
     accepted_examples_are_named, small_applications_are_played, one_unproved_run_plays_all, other_reports_fail,
-    worked_lines_are_held, lying_programs_fail, each_fails_the_gate, wide_lines_only_fall, odd_sources_are_told,
-    lists_are_held, clones_that_fail_are_told,
+    worked_lines_are_held, lying_programs_fail, each_fails_the_gate, wide_lines_only_fall,
+    definitions_that_stand_twice_are_told, page_of_definitions_is_held, odd_sources_are_told, lists_are_held,
+    limits_are_held, clones_that_fail_are_told,
 )
