@@ -1,18 +1,17 @@
-"""Sentences of documents that have more than 40 words: how many are left."""
+"""Sentences of documents that have more than 40 words: where they stand, and how many may."""
 from __future__ import annotations
 
 import pathlib
 import re
-from collections import Counter
 from collections.abc import Iterator
 
 from yotarimu.common.places import HOME
 
 MOST_WORDS = 40
+# How many sentences may be longer. The number only falls.
+MOST_LONG = 0
 # Made by scripts, of the first sentences of files and of measured numbers.
 MADE = {"docs/proof/READING.md", "docs/machine/STUDY.md"}
-# The front pages, which are looked at first; of all others their number is told.
-FRONT = ("README.md", "docs/proof/GUARANTEES.md", "docs/proof/SOUNDNESS.md", "docs/machine/MACHINE.md")
 
 
 def documents() -> list[pathlib.Path]:
@@ -46,14 +45,11 @@ def long_sentences(path: pathlib.Path) -> Iterator[tuple[int, int]]:
             yield number, len(words)
 
 
-def note_on_sentences() -> Iterator[str]:
-    """How many sentences are too long: where they stand in the front pages, and how many each other page has."""
-    counts: Counter[str] = Counter()
-    for path in documents():
-        name = path.relative_to(HOME).as_posix()
-        for line, words in long_sentences(path):
-            counts[name] += 1
-            if name in FRONT:
-                yield f"sentences: {name}:{line} has one of {words} words"
-    told = ", ".join(f"{name} {count}" for name, count in counts.most_common())
-    yield f"sentences: {sum(counts.values())} have more than {MOST_WORDS} words" + (f" ({told})" if told else "")
+def notes_on_sentences() -> Iterator[tuple[str, bool]]:
+    """Where sentences are too long, how many they are, and whether that is a fault."""
+    found = [f"{path.relative_to(HOME).as_posix()}:{line} has one of {words} words"
+             for path in documents() for line, words in long_sentences(path)]
+    yield from ((f"sentences: {place}", False) for place in found)
+    more = "; part new ones" if len(found) > MOST_LONG else ""
+    yield (f"sentences: {len(found)} have more than {MOST_WORDS} words, and {MOST_LONG} may{more}",
+           len(found) > MOST_LONG)

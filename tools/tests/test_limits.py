@@ -1,4 +1,4 @@
-"""Limits of parallelism: the tiny texts of docs/machine/FIGURES.md, and all schedules of random ones."""
+"""Limits of parallelism: the tiny texts of docs/machine/PARALLELISM.md, and all schedules of random ones."""
 from __future__ import annotations
 
 import random
@@ -14,10 +14,10 @@ from yotarimu.figures.orders import Bounds
 from tests.best_schedule import Best, Text
 from tests.orders_of_trees import random_tree, text_of
 
-PAGE = HOME / "docs" / "machine" / "FIGURES.md"
+PAGE = HOME / "docs" / "machine" / "PARALLELISM.md"
 TWO, TWO_SLOTS = Window(2), Window(2, WindowKind.SLOTS)
 WINDOWS = (Window(1), TWO, TWO_SLOTS, Window(3), Window(3, WindowKind.SLOTS), UNBOUNDED)
-# The columns of the page's table behind that of the text.
+# The columns of the page's table after that of the text.
 COLUMNS = ((Manner.WHOLE, Unit.INSTRUCTION, UNBOUNDED), (Manner.RENAMED, Unit.INSTRUCTION, UNBOUNDED),
            (Manner.ONE, Unit.INSTRUCTION, UNBOUNDED), (Manner.RENAMED, Unit.INSTRUCTION, TWO),
            (Manner.RENAMED, Unit.INSTRUCTION, TWO_SLOTS), (Manner.RENAMED, Unit.STEP, UNBOUNDED))

@@ -1,4 +1,4 @@
-"""Exercises of one's own, by docs/guide/EXERCISES.md; options whose values are words; and programs of other systems."""
+"""Exercises of one's own, by docs/guide/LESSON.md; options whose values are words; and programs of other systems."""
 from __future__ import annotations
 
 import pathlib

@@ -1,4 +1,4 @@
-"""Tries of tasks in C: what is built by either compiler, and how each mistake of docs/guest/C.md shows."""
+"""Tries of tasks in C: what is built by either compiler, and how each mistake of docs/guest/MISTAKES.md shows."""
 from __future__ import annotations
 
 import pathlib

@@ -215,6 +215,17 @@ def limits_are_held(place: Place) -> None:
         expect(answer.status == 1 and told in answer.output.decode(), f"`{told}`", answer)
 
 
+def long_sentences_are_told(place: Place) -> None:
+    """a sentence of 41 words in a document fails the lint, with its place, and one of 40 doesn't"""
+    path = place.clone / "docs" / "GLOSSARY.md"
+    text = path.read_text()
+    for words, is_told in ((40, False), (41, True)):
+        path.write_text(f"{text}\n{'word ' * words}\n")
+        answer = place.call(".ci/lint")
+        told = f"docs/GLOSSARY.md:{len(text.splitlines()) + 2} has one of 41 words" in answer.output.decode()
+        expect((answer.status == 1, told) == (is_told, is_told), f"{words} words", answer)
+
+
 def odd_sources_are_told(place: Place) -> None:
     """the lint takes no words, and tells a source that is no text, and an edit or a version that isn't whole"""
     expect(b"WIDE_LINES" in place.call(".ci/lint", "--help").output, "a help page")
@@ -266,5 +277,5 @@ TRIES = (
     accepted_examples_are_named, small_applications_are_played, one_unproved_run_plays_all, other_reports_fail,
     worked_lines_are_held, lying_programs_fail, each_fails_the_gate, wide_lines_only_fall,
     definitions_that_stand_twice_are_told, page_of_definitions_is_held, odd_sources_are_told, lists_are_held,
-    limits_are_held, clones_that_fail_are_told,
+    limits_are_held, long_sentences_are_told, clones_that_fail_are_told,
 )

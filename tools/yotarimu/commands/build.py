@@ -14,7 +14,7 @@ may stand elsewhere. Comments of the sources describe the image; in C they begin
     # image: data LABEL FILE        what stands from a label on: bytes, or numbers where the name ends in .csv
     # image: window LABEL [WORDS]   the words that the report tells, else none; a variable of C knows its size
     # image: task LABEL [ts N] [args A [B [C]]]
-    # image: tasks FILE             a row for each task, as docs/guest/TASKS.md says
+    # image: tasks FILE             a row for each task, as docs/guest/SOURCES.md says
     # image: version 1              or 2; 2 where a compiler made a source, else 1
 
 Numbers are decimal, or hexadecimal after 0x. An argument may be a label, for its address. There is at least one line on

@@ -1,6 +1,6 @@
 """An exercise of one's own: a folder whose file `wanted` says what an answer is, and what has to hold of it.
 
-docs/guide/EXERCISES.md has the lines of that file, under "An exercise of your own".
+docs/guide/LESSON.md has the lines of that file, under "An exercise of your own".
 """
 from __future__ import annotations
 
@@ -92,7 +92,7 @@ def need_condition(words: Sequence[str], place: str) -> None:
     elif right:
         right = RANGE.fullmatch(further[-1]) is not None and any(map(str.isdigit, further[-1]))
     if not right or word == "reply" and further[0] not in DONE + REFUSALS:
-        raise Refusal(f"{place}: `{' '.join(words)}` isn't whole; docs/guide/EXERCISES.md has the lines.")
+        raise Refusal(f"{place}: `{' '.join(words)}` isn't whole; docs/guide/LESSON.md has the lines.")
 
 
 def is_in(number: int, text: str) -> bool:

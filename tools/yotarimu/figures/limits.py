@@ -1,4 +1,5 @@
-"""How much of a run could be done at once: limits that its own dependences leave. docs/machine/FIGURES.md defines them.
+"""How much of a run could be done at once: limits that its own dependences leave, which docs/machine/PARALLELISM.md
+defines.
 
 The tasks that committed are taken in the order of their commits, and all that a task waits for belongs to tasks before
 it. So the earliest time of each of its units follows from theirs, and no schedule has one earlier. A unit of time is an

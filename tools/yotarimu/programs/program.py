@@ -39,7 +39,7 @@ def why_not_started(program: pathlib.Path) -> Optional[str]:
     if system.sysname == "Linux" and (wanted == system.machine or wanted == "x86_64" and EMULATION.exists()):
         return None
     return (f"this system can't start {program}, which wants x86-64 Linux with glibc 2.34 or later; fractal.html runs "
-            "in any browser, and docs/guide/HANDING_ON.md tells what else there is.")
+            "in any browser, and docs/guide/OTHER_SYSTEMS.md tells what else there is.")
 
 
 def end_of(report: bytes) -> str:
