@@ -252,6 +252,8 @@ def lists_are_held(place: Place) -> None:
         file.write_text(text.replace(old, new))
         answer = place.call(".ci/lint")
         expect(answer.status == 1 and told in answer.output.decode(), told, answer)
+        *_, last = answer.output.decode().splitlines()
+        expect("dear at" not in last and "sentences: " not in last and "twins: " not in last, "a fault last", last)
         file.write_text(text)
 
 
