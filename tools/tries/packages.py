@@ -122,10 +122,13 @@ def packages_are_of_one_commit(place: Place) -> None:
     place.call("fractal", "package").sentence("nothing tells which commit", status=70)
     build(place)
     (place.clone / "README.md").write_text("")
-    place.call("fractal", "package").sentence("differs from its commit", "README.md", status=70)
+    place.call("fractal", "package").sentence("differs from its commit", "README.md", "or take it away", status=70)
     place.call("fractal", "prove")
     git = ["git", "-C", str(place.clone), "-c", "user.name=a", "-c", "user.email=a@b.c"]
     subprocess.run([*git, "checkout", "-q", "README.md"], check=True)
+    # The folder in which the documents build a program of one's own is no change.
+    (place.clone / "mine").mkdir()
+    (place.clone / "mine" / "task.s").write_text("")
     place.call("fractal", "package").sentence("nothing tells which commit", status=70)
     place.call("fractal", "prove")
     subprocess.run([*git, "commit", "-q", "--allow-empty", "-m", "more"], check=True)
