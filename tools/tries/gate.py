@@ -164,6 +164,8 @@ def wide_lines_only_fall(place: Place) -> None:
         path.write_text(f"{text}{comment} {'wide ' * 30}\n")
         answer = place.call(".ci/lint")
         expect(answer.status == 1 and b"break new ones" in answer.output, "a failure for one more wide line", answer)
+        place_told = f"plot.py:{len(text.splitlines()) + 1}" if comment == "#" else ""
+        expect(place_told in answer.output.decode(), f"where it is, {place_told}", answer)
         path.write_text(text)
     lines = wide.read_text().splitlines()
     lines[next(at for at, line in enumerate(lines) if len(line) > 120)] = "wide " * 30

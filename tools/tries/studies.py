@@ -82,8 +82,8 @@ def rounds_are_held_against_whole_runs(place: Place) -> None:
     """how many times fewer rounds a run took is told where it came as far as the first one, also by a join, else not"""
     place.needs_second_program()
     image = walk_of(place, "60")
-    for words, wanted in (((), [True, True]), (("--rounds", "100"), [False, False]), (("--commits", "50"), [True, True]),
-                          (("--commits", "50,60"), [True, False, True, False])):
+    for words, wanted in (((), [True, True]), (("--rounds", "100"), [False, False]),
+                          (("--commits", "50"), [True, True]), (("--commits", "50,60"), [True, False, True, False])):
         study = ("fractal study", image, "--tiles", "1,16", *words)
         answer = place.call(*study, "--columns", "fewer,end", "--csv", "whole.csv")
         rows = rows_at(place, "whole.csv")

@@ -169,7 +169,7 @@ def some_value(chance: random.Random, option: Option) -> str:
 
 
 def options_of_words_are_known(place: Place) -> None:
-    """an option whose values are words, a row of the table, is known to launcher, completions, manual page and tools"""
+    """an option whose values are words, a row of the table, is known to launcher, completions, manual and tools"""
     launcher, image = place.clone / "fractal", str(place.clone / "examples" / "hello" / "image.bin")
     launcher.write_text(launcher.read_text().replace("\nseed|any|", f"\n{OF_WORDS}\nseed|any|", 1))
     for words, told in TOLD_OF_WORDS.items():
@@ -374,7 +374,8 @@ def play_refuses_bad_words(place: Place) -> None:
 
 
 TRIES = (
-    refused_words_are_told, own_words_are_told, each_word_is_told, random_words_are_judged_alike, options_of_words_are_known,
+    refused_words_are_told, own_words_are_told, each_word_is_told, random_words_are_judged_alike,
+    options_of_words_are_known,
     refused_scripts_are_told, refused_reports_are_told, other_ends_are_told, refusals_want_both,
     scripts_are_played_beside_their_lines, play_refuses_bad_words,
 )
