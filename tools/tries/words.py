@@ -177,7 +177,7 @@ def options_of_words_are_known(place: Place) -> None:
         expect(answer.status == 0 and told in answer.output.decode(), f"`{told}`", answer)
     for program in (place.program, place.second_program):
         place.stub(program, "cat >/dev/null; exit 5\n")
-    one_sentence_each([(place.call(f"fractal {tool}", image, *words, "--filter", "exact,no"),
+    one_sentence_each([(place.call(f"fractal {tool}", image, *words, "--filter", "no"),
                         ["--filter takes one of signature, exact, and not `no`"])
                        for tool, *words in (["sweep"], ["study"], ["console"], ["resume", "pieces", "--every", "1"])])
     answer = place.call("fractal sweep", image, "--filter", "exact,signature")
