@@ -58,7 +58,8 @@ def packages_run_elsewhere(place: Place) -> None:
     place.without("rt", "git")
     expect(place.call("fractal", "--version").output == version, "the version and the commit")
     expect(place.call("fractal", "run", stdin=image_of(place, "hello")) == Answer(0, HELLO, ""), "a report")
-    expect(place.call("fractal", "test").status == 0, "all examples")
+    answer = place.call("fractal", "test")
+    expect(answer.status == 0 and b"PACKAGE names the commit" in answer.output, "all examples", answer)
     sums = (place.clone / "PACKAGE").read_text().partition("\n")[2]
     both = subprocess.run(["sha256sum", "-c"], input=sums, text=True, cwd=place.clone, capture_output=True)
     expect(both.returncode == 0 and both.stdout.count(": OK") == 2, "the checksums of both programs", both)
