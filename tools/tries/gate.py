@@ -217,6 +217,19 @@ def limits_are_held(place: Place) -> None:
         expect(answer.status == 1 and told in answer.output.decode(), f"`{told}`", answer)
 
 
+def named_files_are_held(place: Place) -> None:
+    """a file that the page of where a change goes names, and that isn't there, fails the lint"""
+    page = place.clone / "docs" / "maintain" / "ARCHITECTURE.md"
+    text = page.read_text()
+    line = text.count("\n") + 1
+    for names, gone in (("`pictures/histogram.py`, `specs/Lines`, `watch_text/specs/Lines`", None),
+                        ("`pictures/histograms.py`", "pictures/histograms.py"), ("`specs/Rows`", "specs/Rows")):
+        page.write_text(f"{text}{names}\n")
+        answer = place.call(".ci/lint")
+        told = f"ARCHITECTURE.md:{line}: `{gone}` isn't there"
+        expect((answer.status, told in answer.output.decode()) == ((1, True) if gone else (0, False)), names, answer)
+
+
 def odd_sources_are_told(place: Place) -> None:
     """the lint takes no words, and tells a source that is no text, and an edit or a version that isn't whole"""
     expect(b"WIDE_LINES" in place.call(".ci/lint", "--help").output, "a help page")
@@ -269,6 +282,6 @@ def clones_that_fail_are_told(place: Place) -> None:
 TRIES = (
     accepted_examples_are_named, small_applications_are_played, one_unproved_run_plays_all, other_reports_fail,
     worked_lines_are_held, lying_programs_fail, each_fails_the_gate, wide_lines_only_fall,
-    definitions_that_stand_twice_are_told, page_of_definitions_is_held, odd_sources_are_told, lists_are_held,
-    limits_are_held, clones_that_fail_are_told,
+    definitions_that_stand_twice_are_told, page_of_definitions_is_held, odd_sources_are_told, named_files_are_held,
+    lists_are_held, limits_are_held, clones_that_fail_are_told,
 )
