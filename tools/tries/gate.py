@@ -259,6 +259,8 @@ def lists_are_held(place: Place) -> None:
             ("fractal", "course|least|", "course|last|", "COURSES has `least`, which isn't a course"),
             ("fractal", "status|13|", "status|14|", "has `13`, which isn't a status"),
             ("tools/yotarimu/web/page/live.js", "coalesce: 1", "coalesce: 2", "actWords has no `coalesce: 1`"),
+            ("tools/yotarimu/lines/fields.py", '"split": (("tile", NUMBER),), "advance"',
+             '"parted": (("tile", NUMBER),), "advance"', "PLACES has no `split`, which is an act"),
             ("tools/yotarimu/common/sentences.json", '"coalesce": "Tile {tile} is to', '"coal": "Tile {tile} is to',
              "wishes has no `coalesce`")):
         file = place.clone / path
