@@ -94,7 +94,12 @@ def rounds_are_held_against_whole_runs(place: Place) -> None:
         place.call(*study, "--shard", "2/2", "--csv", "2.csv")
         place.call("fractal study", "--join", "1.csv", "2.csv", "--csv", "all.csv")
         expect(rows_at(place, "all.csv") == rows, f"the same by a join with {words}", rows_at(place, "all.csv"))
-    place.call("fractal study", image, "--columns", "rond").sentence("`rond`; ", "round", "may be meant")
+    one_sentence_each([
+        (place.call("fractal study", image, "--columns", "rond"), ["`rond`; ", "round", "may be meant"]),
+        (place.call("fractal study", image, "--plot", "fewr,tiles,x.svg"), ["`fewr` is no column", "fewer may be"]),
+        (place.call("fractal study", image, "--plot", "fewer,tile,x.svg"), ["`tile` is no option; tiles", "quantum"]),
+        (place.call("fractal sweep", image, "--plot", "sec,tiles,x.svg"), ["`sec` is no column", "status, commits"]),
+    ])
 
 
 def ended_studies_keep_their_rows(place: Place) -> None:
