@@ -427,7 +427,7 @@ def scarce_memory_is_answered(place: Place) -> None:
 
 
 def refused_allocations_are_answered(place: Place) -> None:
-    """each allocation of three schedules is refused in turn, the program answers with status 5 or whole, as TOOLS says"""
+    """each allocation of three schedules is refused in turn: status 5 or the whole answer, as many as TOOLS says"""
     place.needs_program()
     answer = place.call("fractal allocations")
     told = re.findall(r"(\w+): ([\d,]+) allocations, each refused once: ([\d,]+) out of memory, ([\d,]+) whole "
