@@ -14,7 +14,7 @@ from yotarimu.common.outcome import Refusal
 from yotarimu.common.places import HOME
 from yotarimu.common.sentences import SENTENCES
 from yotarimu.courses.study import value_text
-from yotarimu.lines.fields import COURSES, EVENTS, SETTINGS
+from yotarimu.lines.fields import COURSES, EVENTS, PLACES, SETTINGS
 from yotarimu.lines.reader import RANGES
 from yotarimu.lines.replay import MADE
 from yotarimu.pictures.lanes import CORNERS
@@ -24,6 +24,7 @@ from yotarimu.programs.table import Option, Table
 # The modules of bench/ stand beside its scripts.
 sys.path.append(str(HOME / "bench"))
 from cases.kinds import OPTIONS, TABLES  # noqa: E402
+from cases.scripts import MOODS  # noqa: E402
 
 FORMATS, README, SETTINGS_PAGE = "docs/guest/FORMATS.md", "README.md", "docs/machine/SETTINGS.md"
 GRAMMAR, REQUESTS = "crates/step_script/specs/Grammar.antt", "crates/command_line/specs/Requests.antt"
@@ -64,6 +65,8 @@ def places_of_acts() -> Iterator[Place]:
     yield FORMATS, "the table of lines", first_cells(FORMATS, "| Line | Does |")
     yield "sentences.json", "wishes", set(SENTENCES["wishes"]) - OF_STEPS
     yield f"{PAGE}.html", "the buttons", re.findall('data-act="([a-z]+)"', whole(f"{PAGE}.html"))
+    yield "lines/fields.py", "PLACES", PLACES
+    yield "bench/cases/scripts.py", "MOODS", (word for mood in MOODS.values() for word in mood)
     yield DRIVE, "the acts by buttons", re.findall('"([a-z]+)"', part_of(DRIVE, "(const act of [", "]"))
 
 

@@ -4,6 +4,7 @@ from __future__ import annotations
 from collections.abc import Sequence
 
 from cases.chance import Chance
+from yotarimu.common.acts import ACTS
 from yotarimu.courses.schedules import Act, round_of, script_text
 
 # How often each act comes, by what a script is about.
@@ -17,17 +18,14 @@ MOODS: dict[str, dict[str, float]] = {
     "tight": {"dispatch": 8, "step": 20, "coalesce": 4, "split": 5, "commit": 3, "abort": 1, "take": 2, "give": 2},
     "least": {"advance": 20, "dispatch": 2, "step": 3},
 }
-WITHOUT_TILE = ("commit", "advance")
-WITH_CORE = ("step", "take", "give")
 BAD_LINES = ("", "dispatch", "dispatch 99", "dispatch 00", "dispatch  0", " dispatch 0", "dispatch 0 ", "step 0",
              "step 0 9", "commit 0", "advance 1", "Commit", "run", "step 0 0 0", "dispatch -1", "take 0\t0", "split 16",
              "\x00", "give 0 4")
 
 
 def act_of(chance: Chance, word: str, tiles: int, cores: int) -> Act:
-    if word in WITHOUT_TILE:
-        return Act(word)
-    return Act(word, chance.below(tiles), chance.below(cores) if word in WITH_CORE else None)
+    numbers = [chance.below(most) for most in (tiles, cores)[:ACTS[word].numbers]]
+    return Act(word, *numbers)
 
 
 def random_acts(chance: Chance, mood: str, tiles: int, cores: int, count: int) -> list[Act]:

@@ -5,6 +5,7 @@ import unittest
 
 from yotarimu.common.outcome import Refusal
 from yotarimu.courses.schedules import Shuffle, lockstep, round_of
+from yotarimu.figures.columns import Reach, number_cell
 from yotarimu.figures.occupancy import PLACES, RATES, Curve, Occupancy
 from yotarimu.figures.spread import Spread
 from yotarimu.pictures import histogram, plot
@@ -69,6 +70,29 @@ class Means(unittest.TestCase):
         self.assertTrue(60 <= len(curve.points) < 120)
         first, (second, _) = curve.points[0], curve.points[1]
         self.assertEqual((first, second), ((16, [7.5]), 32))
+
+
+class Columns(unittest.TestCase):
+    """Columns of a study."""
+    def fewer(self, *runs: tuple[str, int, int]) -> list[object]:
+        """What is told of two runs, the second of which is held against the first, by end, commits and rounds."""
+        first, second = (Reach(*run) for run in runs)
+        return [number_cell(it.fewer_than(first), ".6g") for it in (first, second)]
+
+    def test_rounds_of_whole_runs_are_held_against_the_first(self) -> None:
+        self.assertEqual(self.fewer(("normal", 500, 1_256), ("normal", 500, 120)), ["1", "10.4667"])
+
+    def test_rounds_of_runs_that_came_as_far_are_too(self) -> None:
+        self.assertEqual(self.fewer(("limit", 10, 30), ("limit", 10, 20)), ["1", "1.5"])
+        self.assertEqual(self.fewer(("trap", 10, 30), ("trap", 10, 20)), ["1", "1.5"])
+
+    def test_other_runs_have_no_number(self) -> None:
+        """A run without an end took as many rounds as it was given, and one with other commits did other work."""
+        for end in ("open", "none in 300 rounds"):
+            self.assertEqual(self.fewer((end, 88, 300), ("normal", 500, 120)), ["", ""])
+            self.assertEqual(self.fewer(("normal", 500, 1_256), (end, 88, 300)), ["1", ""])
+        self.assertEqual(self.fewer(("limit", 10, 30), ("limit", 100, 20)), ["1", ""])
+        self.assertEqual(self.fewer(("normal", 0, 0), ("normal", 0, 0)), ["", ""])
 
 
 class Shuffles(unittest.TestCase):

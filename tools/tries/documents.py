@@ -2,6 +2,7 @@
 from __future__ import annotations
 
 import itertools
+import os
 import pathlib
 import shutil
 import tempfile
@@ -141,4 +142,19 @@ def blocks_of_python_are_run(place: Place) -> None:
     picture_in((place.clone / "mine" / "rounds.svg").read_bytes())
 
 
-TRIES = (blocks_of_commands_are_called, blocks_of_python_are_run)
+def ways_in_are_told(place: Place) -> None:
+    """README says that there is no licence as long as there is none, and where a change and a fault go is told"""
+    readme, page = ((place.clone / name).read_text() for name in ("README.md", "docs/maintain/OUTSIDE.md"))
+    _, _, licence = readme.partition("\n## Licence\n")
+    has_one = any(path.name.upper().startswith(("LICEN", "COPYING")) for path in place.clone.iterdir())
+    expect(("There is none yet" in licence) != has_one, "what README says of a licence", licence)
+    expect("(docs/maintain/OUTSIDE.md)" in licence, "where the way in is told", licence)
+    for part in ("where a change is sent", "without the toolchain", "with the toolchain", "who judges",
+                 "how a fault is reported", "under which licence", "\n## What security means here\n"):
+        expect(part in page, f"`{part}` in the way in")
+    # What a change needs is there to be called.
+    for path in (".ci/lint", ".ci/python", ".ci/run", "fractal"):
+        expect(os.access(place.clone / path, os.X_OK), f"{path} to be called")
+
+
+TRIES = (blocks_of_commands_are_called, blocks_of_python_are_run, ways_in_are_told)

@@ -164,6 +164,8 @@ def wide_lines_only_fall(place: Place) -> None:
         path.write_text(f"{text}{comment} {'wide ' * 30}\n")
         answer = place.call(".ci/lint")
         expect(answer.status == 1 and b"break new ones" in answer.output, "a failure for one more wide line", answer)
+        place_told = f"plot.py:{len(text.splitlines()) + 1}" if comment == "#" else ""
+        expect(place_told in answer.output.decode(), f"where it is, {place_told}", answer)
         path.write_text(text)
     lines = wide.read_text().splitlines()
     lines[next(at for at, line in enumerate(lines) if len(line) > 120)] = "wide " * 30
@@ -226,6 +228,19 @@ def long_sentences_are_told(place: Place) -> None:
         expect((answer.status == 1, told) == (is_told, is_told), f"{words} words", answer)
 
 
+def named_files_are_held(place: Place) -> None:
+    """a file that the page of where a change goes names, and that isn't there, fails the lint"""
+    page = place.clone / "docs" / "maintain" / "PLACES.md"
+    text = page.read_text()
+    line = text.count("\n") + 1
+    for names, gone in (("`pictures/histogram.py`, `specs/Lines`, `watch_text/specs/Lines`", None),
+                        ("`pictures/histograms.py`", "pictures/histograms.py"), ("`specs/Rows`", "specs/Rows")):
+        page.write_text(f"{text}{names}\n")
+        answer = place.call(".ci/lint")
+        told = f"PLACES.md:{line}: `{gone}` isn't there"
+        expect((answer.status, told in answer.output.decode()) == ((1, True) if gone else (0, False)), names, answer)
+
+
 def odd_sources_are_told(place: Place) -> None:
     """the lint takes no words, and tells a source that is no text, and an edit or a version that isn't whole"""
     expect(b"WIDE_LINES" in place.call(".ci/lint", "--help").output, "a help page")
@@ -255,6 +270,8 @@ def lists_are_held(place: Place) -> None:
             ("fractal", "course|least|", "course|last|", "COURSES has `least`, which isn't a course"),
             ("fractal", "status|13|", "status|14|", "has `13`, which isn't a status"),
             ("tools/yotarimu/web/page/live.js", "coalesce: 1", "coalesce: 2", "actWords has no `coalesce: 1`"),
+            ("tools/yotarimu/lines/fields.py", '"split": (("tile", NUMBER),), "advance"',
+             '"parted": (("tile", NUMBER),), "advance"', "PLACES has no `split`, which is an act"),
             ("tools/yotarimu/common/sentences.json", '"coalesce": "Tile {tile} is to', '"coal": "Tile {tile} is to',
              "wishes has no `coalesce`")):
         file = place.clone / path
@@ -263,6 +280,8 @@ def lists_are_held(place: Place) -> None:
         file.write_text(text.replace(old, new))
         answer = place.call(".ci/lint")
         expect(answer.status == 1 and told in answer.output.decode(), told, answer)
+        *_, last = answer.output.decode().splitlines()
+        expect("dear at" not in last and "sentences: " not in last and "twins: " not in last, "a fault last", last)
         file.write_text(text)
 
 
@@ -276,6 +295,6 @@ def clones_that_fail_are_told(place: Place) -> None:
 TRIES = (
     accepted_examples_are_named, small_applications_are_played, one_unproved_run_plays_all, other_reports_fail,
     worked_lines_are_held, lying_programs_fail, each_fails_the_gate, wide_lines_only_fall,
-    definitions_that_stand_twice_are_told, page_of_definitions_is_held, odd_sources_are_told, lists_are_held,
-    limits_are_held, long_sentences_are_told, clones_that_fail_are_told,
+    definitions_that_stand_twice_are_told, page_of_definitions_is_held, odd_sources_are_told, named_files_are_held,
+    lists_are_held, limits_are_held, long_sentences_are_told, clones_that_fail_are_told,
 )

@@ -31,6 +31,21 @@ ENTRY_AT = 24
 # Public tests of what is no part of RV32I, or of what it leaves to a machine: FENCE.I, and accesses at no multiple.
 OTHER_TESTS = ("fence_i", "ma_data")
 RISCV_FOLDER = TOOLS_FOLDER / "tries" / "riscv"
+# A test in the form of the public ones, with a number that its one case wants, and what it takes of their macros.
+SAMPLE = """#include "riscv_test.h"
+#include "test_macros.h"
+RVTEST_RV32U
+RVTEST_CODE_BEGIN
+    TEST_CASE(2, x14, {}, li x11, 3; li x12, 4; add x14, x11, x12)
+    TEST_PASSFAIL
+RVTEST_CODE_END
+    .data
+RVTEST_DATA_BEGIN
+RVTEST_DATA_END
+"""
+MACROS = """#define TEST_CASE(number, seen, wanted, code...) li TESTNUM, number; code; li x7, wanted; bne seen, x7, fail
+#define TEST_PASSFAIL bne x0, TESTNUM, pass; fail: RVTEST_FAIL; pass: RVTEST_PASS
+"""
 # li a7, 0; ecall.
 END, NOP = b"\x93\x08\x00\x00\x73\x00\x00\x00", 0x13
 TILES, CORES = 16, 4
@@ -187,6 +202,21 @@ def public_tests_pass(place: Place) -> None:
         expect(report.endswith("output 50\nend normal\n"), f"that {path.stem} passes", report[-200:])
 
 
+def tests_in_the_public_form_are_judged(place: Place) -> None:
+    """a test in the form of the public ones passes as a task where it is right, and ends in a trap where it isn't"""
+    place.needs_program()
+    need_compiler(GCC)
+    folder = place.root / "isa"
+    for name, text in (("macros/scalar/test_macros.h", MACROS), ("rv32ui/right.S", SAMPLE.format(7)),
+                       ("rv32ui/wrong.S", SAMPLE.format(8))):
+        path = folder / name
+        path.parent.mkdir(parents=True, exist_ok=True)
+        path.write_text(text)
+    for name, told in (("right", b"output 50\nend normal\n"), ("wrong", b"output -\nend trap 8 ")):
+        answer = place.call("fractal", "run", stdin=image_bytes(image_of_test(place, folder / "rv32ui" / f"{name}.S")))
+        expect(told in answer.output, f"an end of one that is {name}", answer)
+
+
 def image_of_test(place: Place, path: pathlib.Path) -> Image:
     """The image of a public test, which is written for the preprocessor of C."""
     folders = (RISCV_FOLDER, path.parents[1] / "macros" / "scalar")
@@ -201,4 +231,5 @@ def image_of_test(place: Place, path: pathlib.Path) -> Image:
 
 TRIES = (
     each_form_is_the_emulators, random_programs_are_the_emulators, legal_words_are_those_of_objdump, public_tests_pass,
+    tests_in_the_public_form_are_judged,
 )

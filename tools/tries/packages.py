@@ -58,7 +58,8 @@ def packages_run_elsewhere(place: Place) -> None:
     place.without("rt", "git")
     expect(place.call("fractal", "--version").output == version, "the version and the commit")
     expect(place.call("fractal", "run", stdin=image_of(place, "hello")) == Answer(0, HELLO, ""), "a report")
-    expect(place.call("fractal", "test").status == 0, "all examples")
+    answer = place.call("fractal", "test")
+    expect(answer.status == 0 and b"PACKAGE names the commit" in answer.output, "all examples", answer)
     sums = (place.clone / "PACKAGE").read_text().partition("\n")[2]
     both = subprocess.run(["sha256sum", "-c"], input=sums, text=True, cwd=place.clone, capture_output=True)
     expect(both.returncode == 0 and both.stdout.count(": OK") == 2, "the checksums of both programs", both)
@@ -122,10 +123,13 @@ def packages_are_of_one_commit(place: Place) -> None:
     place.call("fractal", "package").sentence("nothing tells which commit", status=70)
     build(place)
     (place.clone / "README.md").write_text("")
-    place.call("fractal", "package").sentence("differs from its commit", "README.md", status=70)
+    place.call("fractal", "package").sentence("differs from its commit", "README.md", "or take it away", status=70)
     place.call("fractal", "prove")
     git = ["git", "-C", str(place.clone), "-c", "user.name=a", "-c", "user.email=a@b.c"]
     subprocess.run([*git, "checkout", "-q", "README.md"], check=True)
+    # The folder in which the documents build a program of one's own is no change.
+    (place.clone / "mine").mkdir()
+    (place.clone / "mine" / "task.s").write_text("")
     place.call("fractal", "package").sentence("nothing tells which commit", status=70)
     place.call("fractal", "prove")
     subprocess.run([*git, "commit", "-q", "--allow-empty", "-m", "more"], check=True)

@@ -427,13 +427,17 @@ def scarce_memory_is_answered(place: Place) -> None:
 
 
 def refused_allocations_are_answered(place: Place) -> None:
-    """each allocation of three schedules is refused in turn, and the program answers with status 5 or whole"""
+    """each allocation of three schedules is refused in turn: status 5 or the whole answer, as many as TOOLS says"""
     place.needs_program()
     answer = place.call("fractal allocations")
-    told = re.findall(r"(\w+): [\d,]+ allocations, each refused once: ([\d,]+) out of memory, [\d,]+ whole answers, "
-                      "0 killed", answer.output.decode())
-    expect((answer.status, [name for name, _ in told]) == (0, ["conflict", "children", "four_cores"]), "lines", answer)
-    expect(all(count != "0" for _, count in told), "status 5", told)
+    told = re.findall(r"(\w+): ([\d,]+) allocations, each refused once: ([\d,]+) out of memory, ([\d,]+) whole "
+                      "answers, 0 killed", answer.output.decode())
+    expect((answer.status, [name for name, *_ in told]) == (0, ["conflict", "children", "four_cores"]), "lines", answer)
+    page = (place.clone / "docs" / "guide" / "TOOLS.md").read_text()
+    for name, *counts in told:
+        expect(counts[1] != "0", "status 5", told)
+        row = f"| `{name}` | {' | '.join(counts)} |"
+        expect(row in page, f"`{row}` in TOOLS.md")
     stub = str(place.stub(place.root / "stub", "cat >/dev/null; exit 3\n"))
     one_sentence_each([
         (place.call("fractal allocations", "--program", stub), ["conflict", "status 3"]),

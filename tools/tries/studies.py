@@ -78,6 +78,30 @@ def columns_are_numbers(place: Place) -> None:
     expect("logarithmic" in " ".join(picture_in((place.root / "x.svg").read_bytes())), "axes as they were asked for")
 
 
+def rounds_are_held_against_whole_runs(place: Place) -> None:
+    """how many times fewer rounds a run took is told where it came as far as the first one, also by a join, else not"""
+    place.needs_second_program()
+    image = walk_of(place, "60")
+    for words, wanted in (((), [True, True]), (("--rounds", "100"), [False, False]),
+                          (("--commits", "50"), [True, True]), (("--commits", "50,60"), [True, False, True, False])):
+        study = ("fractal study", image, "--tiles", "1,16", *words)
+        answer = place.call(*study, "--columns", "fewer,end", "--csv", "whole.csv")
+        rows = rows_at(place, "whole.csv")
+        expect([row["fewer"] != "" for row in rows] == wanted, f"{wanted} with {words}", rows)
+        shown = [line.split("|")[-3].strip() != "-" for line in answer.output.decode().splitlines()[2:]]
+        expect(shown == wanted, f"the same in the table with {words}", answer)
+        place.call(*study, "--shard", "1/2", "--csv", "1.csv")
+        place.call(*study, "--shard", "2/2", "--csv", "2.csv")
+        place.call("fractal study", "--join", "1.csv", "2.csv", "--csv", "all.csv")
+        expect(rows_at(place, "all.csv") == rows, f"the same by a join with {words}", rows_at(place, "all.csv"))
+    one_sentence_each([
+        (place.call("fractal study", image, "--columns", "rond"), ["`rond`; ", "round", "may be meant"]),
+        (place.call("fractal study", image, "--plot", "fewr,tiles,x.svg"), ["`fewr` is no column", "fewer may be"]),
+        (place.call("fractal study", image, "--plot", "fewer,tile,x.svg"), ["`tile` is no option; tiles", "quantum"]),
+        (place.call("fractal sweep", image, "--plot", "sec,tiles,x.svg"), ["`sec` is no column", "status, commits"]),
+    ])
+
+
 def ended_studies_keep_their_rows(place: Place) -> None:
     """a study that is interrupted has the rows that were known by then as CSV, says so, and leaves no process"""
     place.needs_second_program()
@@ -100,5 +124,5 @@ def progress_within_choices_is_shown(place: Place) -> None:
     answer.tells("0 of 2 choices; choice 1 in round ", "choice 2 in round ")
 
 
-TRIES = (shards_of_studies_are_joined, columns_are_numbers, ended_studies_keep_their_rows,
-         progress_within_choices_is_shown)
+TRIES = (shards_of_studies_are_joined, columns_are_numbers, rounds_are_held_against_whole_runs,
+         ended_studies_keep_their_rows, progress_within_choices_is_shown)

@@ -9,12 +9,17 @@ import subprocess
 from collections.abc import Sequence
 
 from yotarimu.programs.examples import SCHEDULES
-from yotarimu.programs.table import Option, Table
+from yotarimu.programs.table import Option, Table, option_in
 
 from tries.files import picture_in
 from tries.place import Answer, Place, expect, one_sentence_each
 
 USAGE = b"fault usage\n"
+# An option whose values are words, as a row of the launcher's table, and what is told of it.
+OF_WORDS = "option|filter|signature,exact|signature|which filter a task keeps"
+TOLD_OF_WORDS = {"help": "--filter       which filter a task keeps (signature, exact; signature unless given)",
+                 "shell bash": "--filter) words='signature exact'", "shell zsh": ":(signature exact)'",
+                 "shell man": "which filter a task keeps (one of signature, exact; signature unless given)"}
 # Words that are refused, and what standard error tells of each.
 REFUSED = (
     ("rum", "`rum` is no command", "run, check"),
@@ -161,6 +166,29 @@ def some_value(chance: random.Random, option: Option) -> str:
         return chance.choice((one, one, one, f"{one},{other}", one.upper(), one[:-1], f"{one} ", f"{one}{other}", "1"))
     few = [int(value) for value in option.values] if len(option.values) < 20 else []
     return number(chance, int(option.values[0]), int(option.values[-1]), few)
+
+
+def options_of_words_are_known(place: Place) -> None:
+    """an option whose values are words, a row of the table, is known to launcher, completions, manual and tools"""
+    launcher, image = place.clone / "fractal", str(place.clone / "examples" / "hello" / "image.bin")
+    launcher.write_text(launcher.read_text().replace("\nseed|any|", f"\n{OF_WORDS}\nseed|any|", 1))
+    for words, told in TOLD_OF_WORDS.items():
+        answer = place.call(f"fractal {words}")
+        expect(answer.status == 0 and told in answer.output.decode(), f"`{told}`", answer)
+    for program in (place.program, place.second_program):
+        place.stub(program, "cat >/dev/null; exit 5\n")
+    one_sentence_each([(place.call(f"fractal {tool}", image, *words, "--filter", "no"),
+                        ["--filter takes one of signature, exact, and not `no`"])
+                       for tool, *words in (["sweep"], ["study"], ["console"], ["resume", "pieces", "--every", "1"])])
+    answer = place.call("fractal sweep", image, "--filter", "exact,signature")
+    expect(answer.status == 1 and answer.output.count(b",5,") == 2, "a run of each word", answer)
+    for program in (place.program, place.second_program):
+        program.unlink()
+    place.without("rt")
+    chance, option = random.Random(1), option_in(*OF_WORDS.split("|")[1:])
+    for value in [some_value(chance, option) for _ in range(20)]:
+        answer = place.call("fractal", "run", "--filter", value)
+        expect(answer.status == (69 if value in option.values else 1), f"a judgement of `{value}`", answer)
 
 
 def number(chance: random.Random, least: int, most: int, values: Sequence[int] = ()) -> str:
@@ -347,6 +375,7 @@ def play_refuses_bad_words(place: Place) -> None:
 
 TRIES = (
     refused_words_are_told, own_words_are_told, each_word_is_told, random_words_are_judged_alike,
+    options_of_words_are_known,
     refused_scripts_are_told, refused_reports_are_told, other_ends_are_told, refusals_want_both,
     scripts_are_played_beside_their_lines, play_refuses_bad_words,
 )

@@ -25,7 +25,9 @@ NAMES are:
 {columns}
 
 A run without an end is a line that says so, with its numbers up to there. The status is 1 where no run came to an end.
-A shard doesn't tell `fewer`, which is held against the first row of all; the join does.
+`fewer` is held against the first row of the same image, and is told where both runs came equally far. A shard doesn't
+tell it; the join does. --workers makes no difference: no host thread makes an act of lockstep. docs/machine/FIGURES.md
+says what each column is.
 
 With --page the commands of a page such as docs/machine/STUDY.md are called, one after another, and each table that
 stands behind some is held against what they tell; with --write it is replaced. The status is 1 where one differs.
@@ -38,6 +40,7 @@ from typing import Optional
 
 from yotarimu.common.files import need_outputs, read_bytes, write_whole
 from yotarimu.common.outcome import Refusal, say
+from yotarimu.common.text import likely
 from yotarimu.common.words import need_number, take_option
 from yotarimu.courses import page_tables
 from yotarimu.courses.grid import MOST_RUNS, cells_of, picture_of, shard_of, values_of
@@ -87,7 +90,8 @@ def columns_of(text: Optional[str]) -> list[str]:
     names = list(UNLESS_TOLD) if text is None else text.split(",")
     unknown = next((name for name in names if name not in COLUMNS and name != END), None)
     if unknown is not None:
-        raise Refusal(f"--columns takes {', '.join(COLUMNS)} and {END}, and not `{unknown}`.")
+        raise Refusal(f"--columns: there is no column `{unknown}`{likely(unknown, [*COLUMNS, END])}; "
+                      "./fractal study --help lists all.")
     return names
 
 

@@ -1,5 +1,8 @@
-"""Texts for people: what can't be printed, and how many of what."""
+"""Texts for people: what can't be printed, how many of what, and which name may be meant."""
 from __future__ import annotations
+
+import difflib
+from collections.abc import Iterable
 
 
 def without_controls(text: object) -> str:
@@ -16,3 +19,10 @@ def printable(data: bytes) -> str:
 def count_text(count: int, what: str) -> str:
     """So many of what a word names."""
     return f"{count:,} {what}{'' if count == 1 else 's'}"
+
+
+def likely(name: str, known: Iterable[str]) -> str:
+    """Which of the names that are known may have been meant by another one, behind a sentence; nothing where none is
+    near."""
+    near = difflib.get_close_matches(name, list(known), 3)
+    return f"; {' or '.join(near)} may be meant" if near else ""

@@ -9,11 +9,14 @@ from typing import Optional, TypeVar
 
 from yotarimu.common.files import encode
 from yotarimu.common.outcome import Refusal
+from yotarimu.common.text import likely
 from yotarimu.common.words import number_in, take_option
 from yotarimu.pictures import plot
 from yotarimu.programs.table import MOST_VALUE, Option, Value
 
 MOST_RUNS = 100_000
+# So many names are listed where one is refused; of more the help page tells.
+MOST_LISTED = 12
 LEAST_PLOTTED, MOST_PLOTTED = 1e-9, 1e15
 # What rows have beside options that tells them apart.
 INPUTS = ("input", "image")
@@ -113,9 +116,12 @@ def picture_of(text: Optional[str], axes: Optional[str], columns: Collection[str
     if text is None:
         return None
     column, option, path = (text.split(",", 2) + ["", ""])[:3]
-    if column not in columns or option not in options or not path:
-        raise Refusal(f"--plot takes COLUMN,OPTION,FILE with a column of {', '.join(columns)} and an option of "
-                      f"{', '.join(options)}, and not `{text}`.")
+    if not path:
+        raise Refusal(f"--plot takes COLUMN,OPTION,FILE, and not `{text}`.")
+    for name, known, what in ((column, columns, "column of numbers"), (option, options, "option")):
+        if name not in known:
+            others = f"there are {', '.join(known)}" if len(known) <= MOST_LISTED else "--help lists all"
+            raise Refusal(f"--plot takes COLUMN,OPTION,FILE, and `{name}` is no {what}{likely(name, known)}; {others}.")
     return Picture(column, option, path, axes or "")
 
 

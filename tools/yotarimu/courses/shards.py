@@ -11,7 +11,10 @@ from yotarimu.common.outcome import Refusal
 from yotarimu.common.words import number_in
 from yotarimu.courses.grid import MOST_RUNS
 from yotarimu.courses.study import SHARD_COLUMNS, rows_in
+from yotarimu.figures.columns import END, Reach, number_cell
 
+# What a cell may count.
+MOST_COUNT = 1 << 63
 Rows = list[dict[str, str]]
 
 
@@ -83,10 +86,10 @@ def need_whole(part: Part) -> None:
 
 def hold_against_first(rows: Rows) -> None:
     """Fills the columns that are held against the first row of an image which has figures, as one study has them."""
-    first: dict[str, int] = {}
+    first: dict[str, Reach] = {}
     for row in rows:
         row["shard"], row["shards"] = "1", "1"
-        rounds = number_in(row["rounds"], 0, 1 << 63)
-        if rounds:
-            others = first.setdefault(row["image"], rounds)
-            row["fewer"] = f"{others / rounds:.6g}"
+        rounds, commits = (number_in(row[name], 0, MOST_COUNT) for name in ("rounds", "commits"))
+        if rounds is not None and commits is not None:
+            reach = Reach(row[END], commits, rounds)
+            row["fewer"] = number_cell(reach.fewer_than(first.setdefault(row["image"], reach)), ".6g")

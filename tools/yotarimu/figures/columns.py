@@ -3,7 +3,7 @@ from __future__ import annotations
 
 import dataclasses
 from collections.abc import Callable, Sequence
-from typing import Optional
+from typing import NamedTuple, Optional
 
 from yotarimu.common.tables import plain_ratio, ratio
 from yotarimu.figures.limits import UNBOUNDED, WINDOWS, Manner, WindowKind, Unit, Window
@@ -13,6 +13,9 @@ from yotarimu.figures.tables import count_cell
 from yotarimu.figures.taken_tasks import Edge, Root
 from yotarimu.figures.tasks import SPREADS
 
+# The ends of a run that came to one.
+NORMAL = "normal"
+ENDS = (NORMAL, "limit", "trap")
 Number = Callable[[Figures], float]
 Count = Callable[[Figures], Optional[int]]
 
@@ -104,10 +107,28 @@ def bound(manner: Manner) -> Column:
     return mean(f"any order, {manner.value}, at most", lambda it: it.bounds[manner])
 
 
-def fewer(it: Figures, first: Figures) -> float:
-    """How many times fewer rounds a run took than the first one; 0 where either has none."""
-    rounds, others = it.rounds(), first.rounds()
-    return others / rounds if rounds and others else 0.0
+class Reach(NamedTuple):
+    """How far a run came: its end, how many tasks committed, and in how many rounds."""
+    end: str
+    commits: int
+    rounds: int
+
+    def fewer_than(self, first: Reach) -> Optional[float]:
+        """How many times fewer rounds it took than the first one; None where they didn't come equally far: both to a
+        normal end, or both to a limit or a trap with as many commits."""
+        is_as_far = self.end == first.end and (self.end == NORMAL or self.commits == first.commits)
+        return first.rounds / self.rounds if is_as_far and self.end in ENDS and self.rounds else None
+
+
+def fewer(it: Figures, first: Figures) -> Optional[float]:
+    """How many times fewer rounds a run took than the first one, where both came equally far."""
+    one, other = (Reach(run.end, run.commits, run.rounds() or 0) for run in (it, first))
+    return one.fewer_than(other)
+
+
+def number_cell(number: Optional[float], form: str, unknown: str = "") -> str:
+    """A number in a form, or what stands where there is none."""
+    return unknown if number is None else format(number, form)
 
 
 def wasted_share(it: Figures) -> float:
@@ -118,8 +139,8 @@ def wasted_share(it: Figures) -> float:
 COLUMNS = {
     "commits": count("Commits", lambda it: it.commits),
     "rounds": count("Rounds", lambda it: it.rounds()),
-    "fewer": Column("as many times less", lambda it, first: f"{fewer(it, first):.1f}",
-                    lambda it, first: f"{fewer(it, first):.6g}", True),
+    "fewer": Column("as many times less", lambda it, first: number_cell(fewer(it, first), ".1f", "-"),
+                    lambda it, first: number_cell(fewer(it, first), ".6g"), True),
     "barren": count("Barren rounds in a row", lambda it: it.longest_barren),
     "advances": count("Acts that brought the least task on", lambda it: it.advances),
     "acts": count("Acts", lambda it: it.acts),

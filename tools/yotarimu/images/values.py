@@ -2,13 +2,12 @@
 from __future__ import annotations
 
 import dataclasses
-import difflib
 import re
 from typing import Iterator, Mapping
 
 from yotarimu.common.data import Data
 from yotarimu.common.outcome import Refusal
-from yotarimu.common.text import count_text
+from yotarimu.common.text import count_text, likely
 from yotarimu.images.image import DATA, Image
 from yotarimu.images.listing import Listing
 
@@ -49,12 +48,6 @@ def piece_of(word: str, known: Mapping[str, tuple[int, int]], width: int) -> Pie
     if not first <= last < count:
         raise Refusal(f"`{word}`: `{name}` has the places 0 to {count - 1}.")
     return Piece(name, start, first, last + 1, width)
-
-
-def likely(name: str, known: Mapping[str, tuple[int, int]]) -> str:
-    """Which names may have been meant."""
-    near = difflib.get_close_matches(name, known, 3)
-    return f"; {' or '.join(near)} may be meant" if near else ""
 
 
 def piece_lines(piece: Piece, data: Data, is_hex: bool) -> Iterator[str]:

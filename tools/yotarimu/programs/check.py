@@ -4,6 +4,7 @@ from __future__ import annotations
 from collections.abc import Sequence
 from typing import Optional
 
+from yotarimu.common.places import ARCHIVE
 from yotarimu.courses.agreement import retold_schedules
 from yotarimu.programs.answers import MOST_UNPROVED, Case, all_answers, missing_statuses
 from yotarimu.programs.cases import cases_of, play_built, play_unproved
@@ -12,7 +13,9 @@ from yotarimu.programs.devices import device_answers
 ANSWERS = "answers"
 UNPROVED = ("Nothing was proved: the program was compiled without its proofs. ./fractal prove proves and builds it; "
             "applications, and what reads more than a megabyte, wants memory, or has devices that fail, wait for that.")
-BUILT = "Nothing was proved by this: ./fractal prove proves the program, and rt ci proves all."
+BUILT = "Nothing was proved by this: " + (
+    "the file PACKAGE names the commit that was proved." if ARCHIVE.is_file()
+    else "./fractal prove proves the program, and rt ci proves all.")
 
 
 def lines_of(what: str, faults: Sequence[tuple[str, Optional[str]]], right: str) -> list[str]:
