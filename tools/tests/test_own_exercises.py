@@ -44,7 +44,9 @@ class OwnExercises(unittest.TestCase):
             self.assertEqual(wanted.answer, "script")
             self.assertEqual([(it.line, it.text) for it in wanted.conditions], [(4, "acts ..9"), (5, "end normal")])
             for text, told in (("end so\n", ":1: `end so` isn't whole"), ("acts ..\n", ":1: `acts ..`"),
-                               ("answer x\n", ":1: `answer` stands once"), ("end trap\n", "no line `answer`")):
+                               ("answer x\n", ":1: `answer` stands once"), ("end trap\n", "no line `answer`"),
+                               ("answer script\nacts 5..1\n", ":2: `acts 5..1` isn't whole"),
+                               ("# any\nanswer source\n", "no line says what has to hold of a source")):
                 path.write_text(text)
                 with self.assertRaisesRegex(Refusal, told):
                     read_wanted(path)

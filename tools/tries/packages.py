@@ -21,7 +21,9 @@ OWN = (("taken 1..\ncommits 3\nend normal\n", "right: what is wanted holds, 3 li
 NOT_WANTED = (("taken 1\n", "no line `answer`"), ("answer sauce\n", "wanted:1: `answer` stands once"),
               ("answer script\ndance 1\n", "wanted:2: `dance` is no condition"),
               ("answer script\ntaken one\n", "wanted:2: `taken one` isn't whole"),
-              ("answer script\nreply yes 1\n", "wanted:2: `reply yes 1` isn't whole"))
+              ("answer script\nreply yes 1\n", "wanted:2: `reply yes 1` isn't whole"),
+              ("answer script\nacts 5..1\n", "wanted:2: `acts 5..1` isn't whole"),
+              ("answer script\n", "wanted: no line says what has to hold of a script"))
 # An rt that builds a program, by the folder that it is called in, by copying.
 STUB_BUILD = """cat >/dev/null; mkdir -p out; cp '{}'/"${{PWD##*/}}"/out/"${{PWD##*/}}" out/\n"""
 

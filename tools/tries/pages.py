@@ -62,8 +62,9 @@ document.body.dataset.seen = JSON.stringify([...Array(course.length + 1).keys()]
     ...tasks.flatMap((one) => tasks.map((other) => orders.orderTold(one, other)))].sort();
 }));
 </script></body>"""
-KEYS = ("a", "c", "ArrowRight", "ArrowLeft", "c", "PageDown", "a", "PageUp", "End", "Home", "ArrowLeft", "x")
-PRESSED = [6, 8, 9, 8, 14, 17, 17, 0, 17, 0, 0, 0]
+KEYS = ("a", "c", "ArrowRight", "ArrowLeft", "c", "PageDown", "a", "PageUp", "End", "Home", "ArrowLeft", "x", "A",
+        "End", "A", "C", "End", "C", "C", "C", "A", "A")
+PRESSED = [6, 8, 9, 8, 14, 17, 17, 0, 17, 0, 0, 0, 0, 17, 6, 6, 17, 14, 8, 8, 6, 6]
 
 
 class Body(html.parser.HTMLParser):

@@ -96,7 +96,11 @@ def web_words(place: Place) -> None:
         (place.call("fractal web", "a", "b"), ["one FOLDER"]),
         (place.call("fractal web", "--dance"), ["--help"]),
         (place.call("fractal web", "--compare"), [""]),
+        (place.call("fractal web", "--hold", "0"), ["fractal_sim: the program isn't built"]),
     ])
+    for program in (place.program, place.second_program):
+        place.stub(program, "exit 0")
+    place.call("fractal web", "--hold", "0").sentence("fractal_sim.wasm isn't there; ./fractal prove --web makes it")
 
 
 def web_wants_a_toolchain(place: Place) -> None:

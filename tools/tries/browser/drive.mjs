@@ -166,6 +166,12 @@ const TRIES = {
       await driver.type("undo 2");
       await driver.type("run 3");
       expect((await driver.see()).script === 3, "three acts", await driver.see());
+      await driver.type("order 0.0 0.1");
+      const pair = await driver.page.run("at('pair-told').textContent"), seen = await driver.see();
+      expect(
+        pair.includes("0.0 comes after 0.1") && !seen.message && seen.script === 3, "which comes first", [pair, seen]);
+      await driver.type("order 0.0");
+      expect((await driver.see()).message.startsWith("`order 0.0` is no act;"), "a sentence", await driver.see());
     });
   },
 
@@ -178,6 +184,8 @@ const TRIES = {
       expect((await driver.page.run("at('option-tiles').value")) === "16", "the value as it was", await driver.see());
       await driver.choose("course", "lockstep");
       expect((await driver.see()).call.includes("lockstep 200 1"), "rounds", await driver.see());
+      const settings = await driver.page.run("at('settings').textContent");
+      expect(settings.includes("count those too that nothing asked for"), "how acts are numbered", settings);
     });
   },
 
@@ -200,6 +208,8 @@ const TRIES = {
       const begin = async (name) => {
         await driver.choose("exercise", name);
         await driver.click("#exercise-open");
+        const {at, said} = await driver.see();
+        expect(at === 0 && said.includes("nothing was done yet"), "a beginning that tells no answer", [at, said]);
       };
       const judged = async (kind) => {
         await driver.click("#judge");

@@ -24,6 +24,8 @@ from yotarimu.programs.table import Table
 from yotarimu.reports.report import Report
 
 ANSWERS = ("script", "source", "journal", "why")
+# Of these the conditions alone say what is right.
+CONDITIONED = ("script", "source")
 ENDS = ("normal", "trap", "limit", "open")
 # Conditions that want a script, and how many words stand behind each condition; of `output` the rest of its line.
 OF_SCRIPTS = ("acts", "reply", "taken")
@@ -76,6 +78,8 @@ def read_wanted(path: pathlib.Path) -> Wanted:
         conditions.append(Condition(number, words, text))
     if not answer:
         raise Refusal(f"{path}: no line `answer` says what an answer is: one of {', '.join(ANSWERS)}.")
+    if answer in CONDITIONED and not conditions:
+        raise Refusal(f"{path}: no line says what has to hold of a {answer}, so each one would be right.")
     return Wanted(answer, conditions)
 
 
@@ -90,9 +94,18 @@ def need_condition(words: Sequence[str], place: str) -> None:
     if right and word == "end":
         right = further[0] in ENDS
     elif right:
-        right = RANGE.fullmatch(further[-1]) is not None and any(map(str.isdigit, further[-1]))
+        right = is_range(further[-1])
     if not right or word == "reply" and further[0] not in DONE + REFUSALS:
         raise Refusal(f"{place}: `{' '.join(words)}` isn't whole; docs/guide/LESSON.md has the lines.")
+
+
+def is_range(text: str) -> bool:
+    """Whether a text is a range that a number is in."""
+    found = RANGE.fullmatch(text)
+    if found is None or not any(map(str.isdigit, text)):
+        return False
+    least, _, most = found.groups()
+    return not least or not most or int(least) <= int(most)
 
 
 def is_in(number: int, text: str) -> bool:

@@ -16,11 +16,12 @@ from typing import Any, Counter, Dict, Iterator, List, NamedTuple, Sequence
 from yotarimu.common.outcome import Refusal
 from yotarimu.common.places import EXAMPLES_FOLDER, HOME
 from yotarimu.programs.answers import all_answers
+from yotarimu.programs.calls import need_program
 from yotarimu.programs.cases import cases_of
 from yotarimu.programs.examples import EXAMPLES, SCHEDULES, words_of
 from yotarimu.programs.program import PROGRAM, SECOND_PROGRAM
 from yotarimu.web.bundle import source
-from yotarimu.web.modules import PROGRAMS, module_path
+from yotarimu.web.modules import PROGRAMS, module_path, need_module
 
 ENGINE = "node"
 NATIVE = {"sim": PROGRAM, "watch": SECOND_PROGRAM}
@@ -197,8 +198,9 @@ class Comparison:
 def compare_all(count: int, seed: int) -> Comparison:
     """All of it, with so many generated cases."""
     for program in NATIVE.values():
-        if not program.exists():
-            raise Refusal(f"{program} isn't built; ./fractal prove proves and builds it.")
+        need_program(program)
+    for crate in PROGRAMS.values():
+        need_module(crate)
     with engine({name: module_path(crate) for name, crate in PROGRAMS.items()}) as running:
         outcome = Comparison(running)
         for case in stored_calls():

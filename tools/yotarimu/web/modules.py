@@ -60,11 +60,16 @@ def make_modules() -> None:
         print(f"{module_path(crate)}: {len(module):,} bytes")
 
 
+def need_module(crate: str) -> None:
+    """Refuses where the module of a program wasn't made."""
+    if not module_path(crate).is_file() or not commit_path(crate).is_file():
+        raise Refusal(f"{module_path(crate)} isn't there; ./fractal prove --web makes it, of what is proved.")
+
+
 def modules() -> Modules:
     """The modules that were made here."""
     for crate in PROGRAMS.values():
-        if not module_path(crate).is_file() or not commit_path(crate).is_file():
-            raise Refusal(f"{module_path(crate)} isn't there; ./fractal prove --web makes it, of what is proved.")
+        need_module(crate)
     commits = {read_text(commit_path(crate)).strip() for crate in PROGRAMS.values()}
     if len(commits) > 1:
         raise Refusal("the two modules are of different commits; ./fractal prove --web makes both anew.")

@@ -171,11 +171,12 @@ function buildExercises() {
     .map(([name, {title}]) => `<option value="${name}">${escaped(title)}</option>`).join("");
 }
 
-/** Opens an exercise: its image at the beginning of a run, its text, and a place for the answer. */
+/** Opens an exercise: its image before the first act, where no answer is told yet, its text, and a place for the
+    answer. */
 function openExercise() {
   const name = at("exercise").value, {text, answer} = exercises.exercises[name], example = exerciseExample(name);
   return perform(async () => {
-    await openExample(example);
+    await openExample(example, 0);
     if (answer !== "script") setAnswer(answer === "source" ? example.source : "");
     at("exercise-text").textContent = text + (answer === "script" ? " Your answer is the acts that you make." : "");
     at("answer-box").hidden = answer === "script";

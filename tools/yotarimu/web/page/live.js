@@ -215,7 +215,7 @@ function actFault(act, line) {
   const [word, ...numbers] = act.split(" "), {tiles, cores} = optionsNow();
   const where = line ? `Line ${line}, \`${act.slice(0, 40)}\`` : `\`${act.slice(0, 40)}\``;
   if (!Object.hasOwn(actWords, word))
-    return `${where}, is no act; an act begins with ${Object.keys(actWords).join(", ")}.`;
+    return `${where}${line ? "," : ""} is no act; an act begins with ${Object.keys(actWords).join(", ")}.`;
   if (numbers.length !== actWords[word])
     return `${where}: it wants ${["no number", "a tile", "a tile and a core"][actWords[word]]}.`;
   if (numbers.some((it) => /^0\d/.test(it))) return `${where}: a number has no leading zero.`;
@@ -296,9 +296,10 @@ const undoLast = () => undoTo(() => undoLengths.filter((it) => it < script.lengt
 function doTyped() {
   const text = at("typed").value.split("#")[0].trim().replace(/\s+/g, " ");
   if (!text) return;
-  const many = /^(run|undo)(?: (\d{1,5}))?$/.exec(text);
+  const many = /^(run|undo)(?: (\d{1,5}))?$/.exec(text), pair = /^order (\S+) (\S+)$/.exec(text);
   const count = many && Math.min(Number(many[2] ?? 1), MOST_AT_ONCE);
-  const done = !many ? addTyped(text) : many[1] === "run" ? runMany(count) : undo(count);
+  const done = pair ? perform(() => pickBoth(pair[1], pair[2])) : !many ? addTyped(text)
+    : many[1] === "run" ? runMany(count) : undo(count);
   done.then(() => { if (!at("message").textContent) at("typed").value = ""; });
 }
 
@@ -325,10 +326,10 @@ function open({name, image, listing = [], acts = [], options = {}, course: wante
   }, place);
 }
 
-function openExample(example) {
+function openExample(example, place = example.words[0] === "steps" ? Infinity : 0) {
   const {course: wanted, options} = wordsRead(example.words);
   return open({name: example.name, image: bytesOf(example.image), listing: listingRows(example.listing),
-    acts: actsIn(example.script), options, course: wanted}, example.words[0] === "steps" ? Infinity : 0);
+    acts: actsIn(example.script), options, course: wanted}, place);
 }
 
 const bytesOf = (base64) => Uint8Array.from(atob(base64), (sign) => sign.charCodeAt(0));

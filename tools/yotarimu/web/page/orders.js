@@ -106,6 +106,13 @@ function pick(label) {
   showPair();
 }
 
+/** Puts two tasks into the fields. */
+function pickBoth(one, other) {
+  [at("one-task").value, at("other-task").value] = [one, other];
+  showPair();
+  at("pair").scrollIntoView({block: "nearest"});
+}
+
 /** The tasks behind the act that is shown. */
 const ordersNow = () => new Orders(lastShown.machine, (dispatch) => course.makers.get(dispatch)?.name);
 

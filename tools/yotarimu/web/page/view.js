@@ -311,6 +311,12 @@ function next(isWanted) {
   else at("where").textContent = "no further one";
 }
 
+function previous(isWanted) {
+  const found = course.acts.slice(0, Math.max(0, current - 1)).findLastIndex(isWanted);
+  if (found >= 0) go(found + 1);
+  else at("where").textContent = "no earlier one";
+}
+
 /** Goes to an act by its number, or else to the last one before it. */
 function goToNumber(number) {
   const after = course.acts.findIndex((line) => line.at > number);
@@ -320,7 +326,7 @@ function goToNumber(number) {
 const KEYS = {
   ArrowRight: () => go(current + 1), ArrowLeft: () => go(current - 1), PageDown: () => go(current + PAGE_OF_ACTS),
   PageUp: () => go(current - PAGE_OF_ACTS), Home: () => go(0), End: () => go(course.length),
-  a: () => next(tookBack), c: () => next(committed),
+  a: () => next(tookBack), c: () => next(committed), A: () => previous(tookBack), C: () => previous(committed),
 };
 const BUTTONS = {
   first: KEYS.Home, before: KEYS.ArrowLeft, after: KEYS.ArrowRight, last: KEYS.End, taking: KEYS.a, committing: KEYS.c,
@@ -335,11 +341,14 @@ function onKey(event) {
   KEYS[event.key]();
 }
 
+const NUMBERED = "; the numbers of acts count those too that nothing asked for, which are not shown";
+
 function settingsTold(head) {
-  const rounds = head.course === "lockstep" ? ` of ${plural(head.rounds, "round")}, seed ${head.seed}` : "";
+  const isLockstep = head.course === "lockstep";
+  const rounds = isLockstep ? ` of ${plural(head.rounds, "round")}, seed ${head.seed}` : "";
   return `${head.course}${rounds}: ${plural(head.tiles, "tile")} of ${plural(head.cores, "core")}`
     + `, task queues of ${head.task_queue}, commit queues of ${head.commit_queue}, lines of ${head.line} bytes, `
-    + `quantum ${head.quantum}, phase ${head.phase}`;
+    + `quantum ${head.quantum}, phase ${head.phase}${isLockstep ? NUMBERED : ""}`;
 }
 
 /** Shows a course: what doesn't change from act to act. */
