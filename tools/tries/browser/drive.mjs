@@ -65,10 +65,10 @@ const STOPPING = `
   }
   0`;
 
-// At which acts a cell of the tiles has something that is wider than it is.
+// At which acts a cell or a lane of the tiles has something that is wider than it is.
 const COVERING = `Array.from({length: course.length + 1}, (_, place) => place).filter((place) => {
   go(place);
-  return [...at("tiles").querySelectorAll("td, th")].some((it) => it.scrollWidth > it.clientWidth + 1);
+  return [...at("tiles").querySelectorAll("td, th, ul")].some((it) => it.scrollWidth > it.clientWidth + 1);
 })`;
 
 class Driver {
