@@ -38,9 +38,11 @@ function timeShown(task) { return `@${task.ts}${depthOf(task) > 1 ? ` d${depthOf
 /** A task in a lane. What colours and lines show is told in words too, for whoever doesn't see them. */
 function taskHtml(machine, name, task) {
   const {told, shown: beside, plain} = LANES[name];
+  const marks = marksOf(machine.act, task), kept = marks.length ? undefined : plain.get(task);
   // The label of a task that has no name changes with the names of others.
-  const marks = marksOf(machine.act, task), label = machine.label(task), kept = plain.get(task);
-  if (kept?.label === label && !marks.length) return kept.html;
+  if (kept && task.name !== null) return kept.html;
+  const label = machine.label(task);
+  if (kept?.label === label) return kept.html;
   const classes = [task.state, ...marks.map((mark) => mark.name)].join(" ");
   const signs = [beside(task), STATES[task.state], ...marks.map((mark) => mark.sign)].filter((sign) => sign !== "");
   const words = [told(task), task.state, ...marks.map((mark) => mark.words)].filter((word) => word !== "");
@@ -264,7 +266,7 @@ function buildCurve(id, curves, what) {
   const samples = curves.map(([name, style]) => (
     `<svg class="sample" aria-hidden="true" viewBox="0 0 44 10"><path class="${style}" d="M0,5L44,5"/></svg> `
     + (CURVE_NAMES[name] ?? name)));
-  at(`${id}-caption`).innerHTML = `${what}, from 0 to ${most.toLocaleString("en")}: ${samples.join(", ")}`;
+  at(`${id}-caption`).innerHTML = `${what}, from 0 to ${grouped(most)}: ${samples.join(", ")}`;
 }
 
 function showCurves(_, place) {
@@ -275,7 +277,7 @@ function showCurves(_, place) {
   const [idle, running, finished, spilled, useful, wasted] = CURVES.map((name) => course.curves[name][place]);
   at("counts").textContent = `Behind this act: ${plural(idle, "task")} idle, ${running} running or trapped, `
     + `${finished} finished, ${spilled} spilled; ${plural(useful, "instruction")} executed by tasks that committed, `
-    + `${wasted.toLocaleString("en")} wasted by tasks that were taken back.`;
+    + `${grouped(wasted)} wasted by tasks that were taken back.`;
 }
 
 // ---- going from act to act
@@ -347,7 +349,7 @@ let onPlace = () => {};
 
 function showPlace(number) {
   const last = (course.acts.at(-1) ?? course.opening).at;
-  const told = `act ${number.toLocaleString("en")} of ${last.toLocaleString("en")}`;
+  const told = `act ${grouped(number)} of ${grouped(last)}`;
   if (at("slider").max !== String(course.length)) at("slider").max = course.length;
   at("slider").value = current;
   at("slider").setAttribute("aria-valuetext", told);
