@@ -65,11 +65,27 @@ const STOPPING = `
   }
   0`;
 
-// At which acts a cell of the tiles has something that is wider than it is.
+// At which acts a cell or a lane of the tiles has something that is wider than it is.
 const COVERING = `Array.from({length: course.length + 1}, (_, place) => place).filter((place) => {
   go(place);
-  return [...at("tiles").querySelectorAll("td, th")].some((it) => it.scrollWidth > it.clientWidth + 1);
+  return [...at("tiles").querySelectorAll("td, th, ul")].some((it) => it.scrollWidth > it.clientWidth + 1);
 })`;
+
+// At which acts, forwards and back, what steps have changed one by one differs from what is drawn anew.
+const REDRAWN = `(() => {
+  const forwards = Array.from({length: course.length + 1}, (_, place) => place);
+  const drawn = (place) => {
+    go(place);
+    showLate();
+    return ["tiles", "journal", "memory", "listing"].map((id) => at(id).innerHTML).join();
+  };
+  const places = [...forwards, ...[...forwards].reverse()], stepped = places.map(drawn);
+  if (places.length < 10) return [course.length];
+  return places.filter((place, number) => {
+    build(subject.listing);
+    return drawn(place) !== stepped[number];
+  });
+})()`;
 
 class Driver {
   static async at(hash, how, action) {
@@ -328,6 +344,26 @@ const TRIES = {
       await driver.page.run("at('one-task').focus(); at('one-task').select()");
       await driver.page.press("9");
       expect((await told())[0] === "No uncommitted task is called 9 here.", "a sentence on another one", await told());
+    });
+  },
+
+  async "what steps change one by one is what is drawn anew, and what isn't on the screen is drawn too"() {
+    await Driver.at("#example=hello", WIDE, async (driver) => {
+      for (const name of ["conflict", "stall", "by_hand", "domains_by_hand"]) {
+        await driver.open(`schedules/${name}`);
+        const differing = await driver.page.run(REDRAWN);
+        expect(!differing.length, `the same page of ${name}`, differing);
+      }
+    });
+    await Driver.at("#example=hello", NARROW, async (driver) => {
+      await driver.page.run(opened(AHEAD, {tiles: "2", "task-queue": "4", "commit-queue": "1"}, "lockstep"));
+      const differing = await driver.page.run(REDRAWN);
+      expect(!differing.length, "the same page with spilled tasks", differing);
+      await driver.page.run("go(9); new Promise((resolve) => setTimeout(resolve, 10 * MOST_WAITING))");
+      const [isUnseen, seen] = await driver.page.run("[unseen.has('tasks'), at('counts').textContent]");
+      await driver.page.run("showCurves(null, 9)");
+      const wanted = await driver.page.run("at('counts').textContent");
+      expect(isUnseen && seen === wanted, "the counts, further down", [isUnseen, seen, wanted]);
     });
   },
 

@@ -52,7 +52,7 @@ def sources(names: Sequence[str]) -> List[str]:
 # ---- the pages
 
 # The sources of the page, in the order in which they name each other.
-SHARED = ("texts.js", "machine.js", "labels.js", "orders.js", "view.js")
+SHARED = ("texts.js", "machine.js", "labels.js", "orders.js", "items.js", "view.js")
 LIVE = ("lines.js", "images.js", "assembler.js", "sections.js", "sources.js", "causes.js", "sentences.js",
         "machines.js", "fields.js", "live.js", "exports.js", "story.js", "exercises.js", "start.js")
 # What sentences are made of, for the tools too.

@@ -135,7 +135,7 @@ class CauseSayer {
   sharing({own, other, sharing}) {
     if (sharing === SAME_BYTE) return "";
     if (sharing === SAME_LINE) return filled(this.texts.line, {bytes: this.cascade.lineBytes});
-    const [one, two] = [own, other].map(({address}) => this.cascade.lineOf(address).toLocaleString("en"));
+    const [one, two] = [own, other].map(({address}) => grouped(this.cascade.lineOf(address)));
     return filled(this.texts.alias, {one, other: two});
   }
 

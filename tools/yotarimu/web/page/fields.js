@@ -30,7 +30,7 @@ function showText(id, text, isEndShown = false) {
   at(id).readOnly = !isWhole;
   wholeTexts[id] = isWhole ? undefined : text;
   at(`${id}-note`).textContent = isWhole ? ""
-    : `Only the ${isEndShown ? "last" : "first"} ${MOST_SHOWN_LINES.toLocaleString("en")} lines are shown, and can't `
+    : `Only the ${isEndShown ? "last" : "first"} ${grouped(MOST_SHOWN_LINES)} lines are shown, and can't `
       + "be changed here. What is saved or checked is the whole text.";
 }
 

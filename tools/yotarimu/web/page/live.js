@@ -192,7 +192,7 @@ function faultTold(fault) {
     case "image":
       return `${subject.name} is no image: ${sentences["image faults"][fault.number]} (at its byte ${fault.offset}).`;
     case "script": return actFault(script[fault.line - 1] ?? "", fault.line);
-    case "long": return `The image and its script have more than ${MOST_INPUT.toLocaleString("en")} bytes.`;
+    case "long": return `The image and its script have more than ${grouped(MOST_INPUT)} bytes.`;
     default: return `An option is outside its range: ${optionFault()}.`;
   }
 }
@@ -349,7 +349,7 @@ async function openFiles(files) {
   const large = files.find((file) => file.size > MOST_INPUT);
   if (large) {
     throw new Refusal(`${large.name} has ${plural(large.size, "byte")}; an image and its script have at most `
-      + `${MOST_INPUT.toLocaleString("en")}.`);
+      + `${grouped(MOST_INPUT)}.`);
   }
   const read = await Promise.all(
     files.map(async (file) => ({name: file.name, bytes: new Uint8Array(await file.arrayBuffer())})));
@@ -407,7 +407,7 @@ function fieldHtml([, name, values, usual, bounds]) {
   const control = most === undefined
     ? `<select id="option-${name}">${values.split(",").map((it) => `<option>${it}</option>`).join("")}</select>`
     : `<input id="option-${name}" type="number" min="${least}" max="${most}" value="${usual}">`;
-  const range = most === undefined ? values.replaceAll(",", ", ") : `${least} to ${Number(most).toLocaleString("en")}`;
+  const range = most === undefined ? values.replaceAll(",", ", ") : `${least} to ${grouped(Number(most))}`;
   return `<label title="${escaped(bounds)}">${name} ${control} <small class="quiet">${range}</small></label>`;
 }
 
@@ -464,5 +464,5 @@ function actOf(button) {
 function withCount(action) {
   const count = Number(at("count").value);
   if (Number.isInteger(count) && count >= 1 && count <= MOST_AT_ONCE) return action(count);
-  return perform(() => { throw new Refusal(`N is 1 to ${MOST_AT_ONCE.toLocaleString("en")}.`); });
+  return perform(() => { throw new Refusal(`N is 1 to ${grouped(MOST_AT_ONCE)}.`); });
 }

@@ -6,7 +6,7 @@ const isOrAre = (count) => (count === 1 ? "is" : "are");
 
 function listed(parts) {
   if (parts.length <= MOST_NAMED) return parts.join(", ");
-  const more = filled(sentences.more, {count: (parts.length - MOST_NAMED).toLocaleString("en")});
+  const more = filled(sentences.more, {count: grouped(parts.length - MOST_NAMED)});
   return [...parts.slice(0, MOST_NAMED), more].join(", ");
 }
 
@@ -102,7 +102,7 @@ class Sayer {
       return filled(work ? texts.worked : texts.idle, {task: named(id), instructions: plural(work, "instruction"),
         discarded: gone.has(id) ? texts.discarded : "", cause: sayer.sentence(cause)});
     });
-    const more = count > MOST_NAMED ? filled(texts.more, {count: (count - MOST_NAMED).toLocaleString("en")}) : "";
+    const more = count > MOST_NAMED ? filled(texts.more, {count: grouped(count - MOST_NAMED)}) : "";
     return filled(sentences.back, {tasks: plural(count, "task"), are: isOrAre(count), list: told.join(""), more});
   }
 

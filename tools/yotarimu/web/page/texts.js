@@ -1,7 +1,9 @@
 // ---- numbers, bytes and texts as they are told
 
 const hex = (number) => number.toString(16).padStart(8, "0");
-const plural = (count, one) => `${count.toLocaleString("en")} ${one}${count === 1 ? "" : "s"}`;
+/** A number with its digits in groups of three. */
+const {format: grouped} = new Intl.NumberFormat("en");
+const plural = (count, one) => `${grouped(count)} ${one}${count === 1 ? "" : "s"}`;
 
 /** A text with the values that it names between braces. */
 function filled(text, values) {

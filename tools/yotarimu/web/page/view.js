@@ -22,45 +22,46 @@ function show(element, html) {
   element.innerHTML = html;
 }
 
-/** What stands beside a task in each lane, as it is read out and as it is shown, and the tasks that have no marks. */
+/** What stands beside a task in each lane, as it is read out and as it is shown; the texts of tasks without marks. */
 const LANES = {
-  queue: {told: timeTold, shown: timeShown, plain: new WeakMap()},
-  cores: {told: (task) => plural(task.work, "instruction"), shown: (task) => `${task.work}`, plain: new WeakMap()},
-  finished: {told: () => "", shown: () => "", plain: new WeakMap()},
-  block: {told: timeTold, shown: timeShown, plain: new WeakMap()},
+  queue: {title: "task queue", told: timeTold, shown: timeShown, plain: new WeakMap()},
+  cores: {title: "cores", told: (task) => plural(task.work, "instruction"), shown: (task) => `${task.work}`,
+    plain: new WeakMap()},
+  finished: {title: "commit queue", told: () => "", shown: () => "", plain: new WeakMap()},
+  block: {title: "block", told: timeTold, shown: timeShown, plain: new WeakMap()},
 };
 
 /** A task's timestamp and its depth, which isn't shown where it is 1. */
 function timeTold(task) { return `timestamp ${task.ts}, depth ${depthOf(task)}`; }
 function timeShown(task) { return `@${task.ts}${depthOf(task) > 1 ? ` d${depthOf(task)}` : ""}`; }
 
-const LANE_TITLES = ["task queue", "cores", "commit queue", "block"];
-
 /** A task in a lane. What colours and lines show is told in words too, for whoever doesn't see them. */
 function taskHtml(machine, name, task) {
-  const lane = LANES[name];
-  const marks = marksOf(machine.act, task);
+  const {told, shown: beside, plain} = LANES[name];
+  const marks = marksOf(machine.act, task), kept = marks.length ? undefined : plain.get(task);
   // The label of a task that has no name changes with the names of others.
-  const isPlain = task.name !== null && !marks.length;
-  if (isPlain && lane.plain.has(task)) return lane.plain.get(task);
-  const classes = [task.state, ...marks.map((mark) => mark[1])].join(" ");
-  const signs = [lane.shown(task), STATES[task.state], ...marks.map((mark) => mark[2])].filter((sign) => sign !== "");
-  const words = [lane.told(task), task.state, ...marks.map((mark) => mark[3])].filter((word) => word !== "");
+  if (kept && task.name !== null) return kept.html;
+  const label = machine.label(task);
+  if (kept?.label === label) return kept.html;
+  const classes = [task.state, ...marks.map((mark) => mark.name)].join(" ");
+  const signs = [beside(task), STATES[task.state], ...marks.map((mark) => mark.sign)].filter((sign) => sign !== "");
+  const words = [told(task), task.state, ...marks.map((mark) => mark.words)].filter((word) => word !== "");
   const id = task.id === null ? "" : ` data-id="${task.id}"`;
-  const html = itemHtml(machine.label(task), classes, signs, words, `${id} title="${detail(task)}"`);
-  if (isPlain) lane.plain.set(task, html);
+  const html = itemHtml(label, classes, signs, words, `${id} title="${detail(task)}"`);
+  if (!marks.length) plain.set(task, {label, html});
   return html;
 }
 
-/** What an act did to a task: whether it is so, the class, the sign and the words for it. */
-function marksOf(act, task) {
-  return [
-    [task.id !== null && act.own === task.id, "own", "*", "the act's task"],
-    [task.id !== null && act.arrived === task.id, "new", "new", "came by this act"],
-    [act.back.has(task.id), "back", "back", "taken back by this act"],
-    [act.spilled.has(task), "moved", "spilled", "spilled by this act"],
-  ].filter(([isSo]) => isSo);
-}
+/** What an act may do to a task, with the class, the sign and the words for it. */
+const MARKS = [
+  {isOn: (act, task) => task.id !== null && act.own === task.id, name: "own", sign: "*", words: "the act's task"},
+  {isOn: (act, task) => task.id !== null && act.arrived === task.id, name: "new", sign: "new",
+    words: "came by this act"},
+  {isOn: (act, task) => act.back.has(task.id), name: "back", sign: "back", words: "taken back by this act"},
+  {isOn: (act, task) => act.spilled.has(task), name: "moved", sign: "spilled", words: "spilled by this act"},
+];
+
+const marksOf = (act, task) => MARKS.filter((mark) => mark.isOn(act, task));
 
 /** An item of a lane: what is read out says the same as what is seen. */
 function itemHtml(label, classes, signs, words, more) {
@@ -74,52 +75,59 @@ function detail(task) {
   return `${words}, ${timeTold(task)}, entry ${hex(task.entry)}${number}`;
 }
 
-function laneHtml(machine, name, ids, more = "") {
-  const items = ids.map((id) => (id === null ? '<li class="free">free</li>'
-    : taskHtml(machine, name, machine.tasks.get(id))));
-  return `<ul role="list" data-lane="${name}">${items.join("")}${more}</ul>`;
+/** The items of each lane of a tile, by keys. */
+const LANE_ITEMS = {
+  queue: (machine, tile) => [...tasksAs("queue", machine, machine.queues[tile]), ...discardedOf(machine, tile)],
+  cores: (machine, tile) => machine.cores[tile].map((id, core) => (
+    [core, id === null ? '<li class="free">free</li>' : taskHtml(machine, "cores", machine.tasks.get(id))])),
+  finished: (machine, tile) => tasksAs("finished", machine, machine.finished[tile]),
+  block: (machine, tile) => blockItems(machine, machine.blocks[tile]),
+};
+
+function tasksAs(name, machine, ids) {
+  return ids.map((id) => [id, taskHtml(machine, name, machine.tasks.get(id))]);
 }
 
-function discardedHtml(machine, tile) {
+function discardedOf(machine, tile) {
   return machine.act.discarded.filter((task) => task.tile === tile).map((task) => {
     const id = ` data-discarded="${task.id}"`;
-    return itemHtml(task.label, "discarded", ["discarded"], ["discarded by this act"], id);
-  }).join("");
+    return [`discarded ${task.id}`,
+      itemHtml(task.label, "discarded", ["discarded"], ["discarded by this act"], id)];
+  });
 }
 
-function blockHtml(machine, tile) {
-  const block = machine.blocks[tile];
-  const latest = block.slice(-MOST_IN_BLOCK);
-  const rest = block.length - latest.length;
-  return `<ul role="list" data-lane="block" data-count="${block.length}">${rest ? `<li>${rest} more</li>` : ""}`
-    + `${latest.map((task) => taskHtml(machine, "block", task)).join("")}</ul>`;
+function blockItems(machine, block) {
+  const latest = block.slice(-MOST_IN_BLOCK), rest = block.length - latest.length;
+  return [...(rest ? [["more", `<li>${rest} more</li>`]] : []),
+    ...latest.map((task) => [task.name.join("."), taskHtml(machine, "block", task)])];
 }
 
+// The row of each tile, and the items of its lanes.
 const rows = [];
+let lanes = [];
 
 /** A row for each tile. */
 function buildTiles(tiles) {
-  at("tiles").tBodies[0].replaceChildren();
-  rows.length = 0;
-  for (let tile = 0; tile < tiles; tile++) {
-    const row = at("tiles").tBodies[0].insertRow();
-    row.dataset.tile = tile;
-    row.innerHTML
-      = `<th scope="row">${tile}</th>${LANE_TITLES.map((title) => `<td data-title="${title}"></td>`).join("")}`;
-    rows.push(row);
-  }
+  const cells = Object.entries(LANES).map(([name, {title}]) => (
+    `<td data-title="${title}"><ul role="list" data-lane="${name}"></ul></td>`)).join("");
+  const body = at("tiles").tBodies[0];
+  body.innerHTML = Array.from({length: tiles}, (_, tile) => (
+    `<tr data-tile="${tile}"><th scope="row">${tile}</th>${cells}</tr>`)).join("");
+  rows.splice(0, rows.length, ...body.rows);
+  lanes = rows.map((row) => Object.fromEntries(
+    [...row.querySelectorAll("ul")].map((list) => [list.dataset.lane, new Items(list)])));
 }
 
 function showTiles(machine, line) {
-  machine.queues.forEach((queue, tile) => {
-    const cells = rows[tile].cells;
+  lanes.forEach((ofTile, tile) => {
     rows[tile].className = line && line.tile === tile ? "here" : "";
-    show(cells[1], laneHtml(machine, "queue", queue, discardedHtml(machine, tile)));
-    show(cells[2], laneHtml(machine, "cores", machine.cores[tile]));
-    show(cells[3], laneHtml(machine, "finished", machine.finished[tile]));
-    show(cells[4], blockHtml(machine, tile));
+    for (const [name, items] of Object.entries(ofTile)) items.show(LANE_ITEMS[name](machine, tile));
+    ofTile.block.parent.dataset.count = machine.blocks[tile].length;
   });
 }
+
+// The rows of both tables.
+let journalRows, memoryRows;
 
 function showJournal(machine, place) {
   // Where the page begins behind the first act, it has the last entries before it.
@@ -129,10 +137,10 @@ function showJournal(machine, place) {
   const body = course.entries.slice(first, end).map(([name, depth, ts], index) => {
     const turn = missing + first + index + 1;
     const isNew = turn === machine.act.committed;
-    return `<tr class="${isNew ? "hit" : ""}"><td>${turn}</td><td>${name}</td><td>${depth}</td><td>${ts}</td>`
-      + `<td>${isNew ? "committed" : ""}</td></tr>`;
+    return [turn, `<tr class="${isNew ? "hit" : ""}"><td>${turn}</td><td>${name}</td><td>${depth}</td><td>${ts}</td>`
+      + `<td>${isNew ? "committed" : ""}</td></tr>`];
   });
-  show(at("journal").tBodies[0], body.join(""));
+  journalRows.show(body);
   const digits = course.outputAt(place);
   const count = digits.length / 2 + course.opening.emitted;
   at("output").textContent = `${plural(machine.commits, "task")} committed, ${plural(count, "byte")} of output`
@@ -156,7 +164,7 @@ function latestLines(place) {
 
 function memoryRow(address, place, line) {
   const word = course.memory.at(address, place);
-  if (!word) return "";
+  if (!word) return [];
   const own = course.memory.lineOf(address);
   const isHit = line && isAccess(line) && course.memory.lineOf(line.addr) === own;
   const isIt = isHit && address === line.addr - (line.addr % 4);
@@ -164,25 +172,28 @@ function memoryRow(address, place, line) {
   const digits = [...word.bytes].reverse().map((byte) => (
     byte === null ? ".." : byte.toString(16).padStart(2, "0"))).join("");
   const value = word.bytes.includes(null) ? "" : parseInt(digits, 16);
-  return `<tr class="${isHit ? "hit" : ""}" data-address="${address}"><td>${own}</td>`
+  const html = `<tr class="${isHit ? "hit" : ""}" data-address="${address}"><td>${own}</td>`
     + `<td class="digits">${hex(address)}</td><td class="digits">${digits}</td><td>${value}</td><td>${said}</td></tr>`;
+  return [[address, html]];
 }
 
-function showMemory(place, line) {
+function showMemory(_, place, line) {
   const body = latestLines(place).flatMap((chosen) => course.memory.lines.get(chosen) ?? [])
-    .map((address) => memoryRow(address, place, line)).join("");
-  show(at("memory").tBodies[0], body);
-  at("touched").textContent = body ? `The words of the ${MOST_LINES} lines touched last at most; `
+    .flatMap((address) => memoryRow(address, place, line));
+  memoryRows.show(body);
+  at("touched").textContent = body.length ? `The words of the ${MOST_LINES} lines touched last at most; `
     + "bytes that no task has touched are told as two dots" : "No data was touched.";
 }
 
 // ---- the listing
 
 const places = new Map();
-let marked = [];
+// What stands beside rows, and the row of the act's task.
+let marked = new Map(), ownRow = null;
 function buildListing(listing) {
   places.clear();
-  marked = [];
+  marked.clear();
+  ownRow = null;
   at("source").hidden = !listing.length;
   at("listing").innerHTML = listing.map(([address, text]) => (
     `<div${address === null ? "" : ` data-address="${address}"`}><span></span>${escaped(text) || " "}</div>`)).join("");
@@ -191,30 +202,40 @@ function buildListing(listing) {
   }
 }
 
-function showListing(machine, line) {
-  for (const row of marked) {
-    row.className = row.firstChild.textContent = "";
-    row.removeAttribute("aria-current");
+function showListing(machine, _, line) {
+  const {texts, own} = marksIn(machine, line);
+  for (const row of marked.keys()) if (!texts.has(row)) row.firstChild.textContent = "";
+  for (const [row, text] of texts) if (marked.get(row) !== text) row.firstChild.textContent = text;
+  marked = texts;
+  if (own !== ownRow) {
+    ownRow?.removeAttribute("class");
+    ownRow?.removeAttribute("aria-current");
+    own?.setAttribute("class", "hit");
+    own?.setAttribute("aria-current", "true");
+    ownRow = own;
   }
-  marked = [];
-  for (const id of machine.cores.flat()) {
-    const task = machine.tasks.get(id);
-    if (task) markPlace(task.pc, machine.label(task), id === machine.act.own);
-  }
-  if (line && "pc" in line && !machine.cores.flat().includes(line.task)) {
-    markPlace(line.pc, machine.tasks.has(line.task) ? machine.label(machine.tasks.get(line.task)) : "", true);
-  }
+  // Where a row is makes a browser lay out all that was changed: so it is asked last.
+  if (own) at("listing").scrollTop = own.offsetTop - at("listing").clientHeight / 2;
 }
 
-function markPlace(address, label, isOwn) {
-  const row = places.get(address);
-  if (!row) return;
-  row.firstChild.textContent += `${isOwn ? "*" : ""}${label} `;
-  marked.push(row);
-  if (!isOwn) return;
-  row.className = "hit";
-  row.setAttribute("aria-current", "true");
-  at("listing").scrollTop = row.offsetTop - at("listing").clientHeight / 2;
+/** What is to stand beside rows, the tasks that stopped there; and the row of the act's task. */
+function marksIn(machine, line) {
+  const texts = new Map(), held = machine.cores.flat();
+  let own = null;
+  const mark = (address, label, isOwn) => {
+    const row = places.get(address);
+    if (!row) return;
+    texts.set(row, `${texts.get(row) ?? ""}${isOwn ? "*" : ""}${label} `);
+    if (isOwn) own = row;
+  };
+  for (const id of held) {
+    const task = machine.tasks.get(id);
+    if (task) mark(task.pc, machine.label(task), id === machine.act.own);
+  }
+  if (line && "pc" in line && !held.includes(line.task)) {
+    mark(line.pc, machine.tasks.has(line.task) ? machine.label(machine.tasks.get(line.task)) : "", true);
+  }
+  return {texts, own};
 }
 
 // ---- the curves
@@ -245,10 +266,10 @@ function buildCurve(id, curves, what) {
   const samples = curves.map(([name, style]) => (
     `<svg class="sample" aria-hidden="true" viewBox="0 0 44 10"><path class="${style}" d="M0,5L44,5"/></svg> `
     + (CURVE_NAMES[name] ?? name)));
-  at(`${id}-caption`).innerHTML = `${what}, from 0 to ${most.toLocaleString("en")}: ${samples.join(", ")}`;
+  at(`${id}-caption`).innerHTML = `${what}, from 0 to ${grouped(most)}: ${samples.join(", ")}`;
 }
 
-function showCurves(place) {
+function showCurves(_, place) {
   // The mark stands over the curves, which needn't be painted anew then.
   const across = place / Math.max(1, course.length);
   for (const mark of document.querySelectorAll(".mark"))
@@ -256,7 +277,7 @@ function showCurves(place) {
   const [idle, running, finished, spilled, useful, wasted] = CURVES.map((name) => course.curves[name][place]);
   at("counts").textContent = `Behind this act: ${plural(idle, "task")} idle, ${running} running or trapped, `
     + `${finished} finished, ${spilled} spilled; ${plural(useful, "instruction")} executed by tasks that committed, `
-    + `${wasted.toLocaleString("en")} wasted by tasks that were taken back.`;
+    + `${grouped(wasted)} wasted by tasks that were taken back.`;
 }
 
 // ---- going from act to act
@@ -281,13 +302,46 @@ function go(wanted) {
   document.body.dataset.at = machine.at;
   document.body.dataset.n = machine.events;
   showTiles(machine, line);
-  showJournal(machine, current);
-  showMemory(current, line);
-  showCurves(current);
   showPair();
   showPlace(machine.at);
-  // It asks where a row is, for which all that was changed is laid out: so it comes last.
-  showListing(machine, line);
+  showParts((id) => !unseen.has(id));
+}
+
+// ---- parts that may be beyond the screen
+
+// After so many milliseconds without another act what isn't on the screen is drawn too.
+const MOST_WAITING = 100;
+// What shows a part by the machine, its act and its line. The listing asks where a row is, so it comes last.
+const PARTS = {journal: showJournal, memory: showMemory, tasks: showCurves, listing: showListing};
+// The parts that aren't on the screen, and those that don't show the act that the others show.
+const unseen = new Set(), late = new Set();
+let waitingParts;
+
+const onScreen = new IntersectionObserver((seen) => {
+  for (const {target, isIntersecting} of seen) {
+    const id = Object.keys(PARTS).find((it) => target.contains(at(it)));
+    if (isIntersecting) unseen.delete(id); else unseen.add(id);
+  }
+  showLate((id) => !unseen.has(id));
+});
+
+/** Draws the parts that are wanted now, and the others later: who goes from act to act doesn't wait for what isn't
+    seen. */
+function showParts(isWanted) {
+  for (const id of Object.keys(PARTS)) late.add(id);
+  showLate(isWanted);
+  clearTimeout(waitingParts);
+  if (late.size) waitingParts = setTimeout(showLate, MOST_WAITING);
+}
+
+function showLate(isWanted = () => true) {
+  // While an answer is read no act is shown.
+  if (lastShown === null) return;
+  for (const [id, draw] of Object.entries(PARTS)) {
+    if (!late.has(id) || !isWanted(id)) continue;
+    late.delete(id);
+    draw(lastShown.machine, lastShown.place, course.acts[lastShown.place - 1]);
+  }
 }
 
 // What else is to follow where another act is shown, by its number.
@@ -295,8 +349,8 @@ let onPlace = () => {};
 
 function showPlace(number) {
   const last = (course.acts.at(-1) ?? course.opening).at;
-  const told = `act ${number.toLocaleString("en")} of ${last.toLocaleString("en")}`;
-  at("slider").max = course.length;
+  const told = `act ${grouped(number)} of ${grouped(last)}`;
+  if (at("slider").max !== String(course.length)) at("slider").max = course.length;
   at("slider").value = current;
   at("slider").setAttribute("aria-valuetext", told);
   at("where").textContent = told;
@@ -357,6 +411,7 @@ function build(listing) {
   labels = new Labels(listing);
   at("settings").textContent = settingsTold(course.head);
   buildTiles(course.head.tiles);
+  [journalRows, memoryRows] = ["journal", "memory"].map((id) => new Items(at(id).tBodies[0]));
   buildListing(listing);
   buildCurves();
 }
@@ -366,4 +421,5 @@ function listen() {
   for (const [id, action] of Object.entries(BUTTONS)) at(id).addEventListener("click", action);
   document.addEventListener("keydown", onKey);
   listenToPair();
+  for (const id of Object.keys(PARTS)) onScreen.observe(at(id).closest("section"));
 }
