@@ -298,8 +298,7 @@ def gdb_over_a_pipe_and_a_port(place: Place) -> None:
 
 
 def many_tasks_connect(place: Place) -> None:
-    """of a walk with 40,000 tasks gdb is answered within ten seconds, from its lines and its report: of a processor, and
-    by the clock too where one is free"""
+    """a walk of 40,000 tasks connects within ten seconds of a processor, and by the clock where one is free"""
     place.needs_program()
     place.needs_second_program()
     image = place.call("fractal", "generate", "walk", "7", "20000").output
