@@ -331,14 +331,15 @@ class Machine:
 
     def count_act(self, line: Line) -> None:
         """Holds the number of an act against those before it."""
-        if self.placed < self.head["tasks"]:
+        at = line["at"]
+        if self.acts == 0 and self.placed < self.head["tasks"]:
             raise WrongLine(f"{self.placed} of {self.head['tasks']} tasks of the image are placed before the first act")
-        is_next = line["at"] == self.acts + 1 if self.rounds is None else line["at"] > self.acts
+        is_next = at == self.acts + 1 if self.rounds is None else at > self.acts
         if not is_next:
-            raise WrongLine(f"act {line['at']} can't follow on act {self.acts}")
+            raise WrongLine(f"act {at} can't follow on act {self.acts}")
         if self.rounds is not None:
             self.rounds.need(line)
-        self.acts = line["at"]
+        self.acts = at
 
     def force(self, told: ToldLine, line: Line) -> None:
         """What an event forces: tasks are taken back, some of them leave, and tasks are spilled."""
@@ -423,8 +424,9 @@ class Machine:
         task.pc = line["pc"]
         task.work += line["leg"] + (asks not in NOT_EXECUTED)
         task.steps += 1
-        if asks in REQUESTS:
-            REQUESTS[asks](self, told, task, line)
+        request = REQUESTS.get(asks)
+        if request is not None:
+            request(self, told, task, line)
 
     def load_or_store(self, told: ToldLine, task: Task, line: Line) -> None:
         """An access. A load makes the bytes known that stand there, a store those that it leaves."""
