@@ -118,7 +118,7 @@ def load_of(word: int) -> Last:
 
     def grant(core: Core, found: int) -> None:
         if target:
-            core.registers[target] = (found if kind & 4 else signed_number(found, 8 * width)) & MASK
+            core.registers[target] = (signed_number(found, 8 * width) if kind < 2 else found) & MASK
         core.pc += 4
 
     return Last(ask, grant)
