@@ -174,7 +174,9 @@ class Core(Run):
     def __init__(self, scratch: Scratch, task: Task) -> None:
         start = serial_machine.Task(NAMELESS, task.entry, task.timestamp, tuple(task.arguments), around(task.domain))
         super().__init__(scratch, start)
-        self.used, self.blocks, self.end = 0, scratch.blocks, DATA + len(scratch.memory)
+        self.used, self.blocks = 0, scratch.blocks
+        # Where the data ends.
+        self.end: int = DATA + len(scratch.memory)
         # Where the last leg came into blocks, and where it stopped: at this instruction.
         self.path = [self.pc, self.pc]
         self.last = NO_INSTRUCTION
