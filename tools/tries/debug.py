@@ -2,6 +2,7 @@
 from __future__ import annotations
 
 import json
+import os
 import pathlib
 import re
 import resource
@@ -10,6 +11,7 @@ import socket
 import subprocess
 import tempfile
 import threading
+import time
 from typing import Any, Dict, Iterator, List, Optional
 
 from yotarimu.debugger.lines_track import LinesTrack
@@ -296,7 +298,7 @@ def gdb_over_a_pipe_and_a_port(place: Place) -> None:
 
 
 def many_tasks_connect(place: Place) -> None:
-    """of a walk with 40,000 tasks gdb is answered after ten seconds of a processor, from its lines and its report"""
+    """a walk of 40,000 tasks connects within ten seconds of a processor, and by the clock where one is free"""
     place.needs_program()
     place.needs_second_program()
     image = place.call("fractal", "generate", "walk", "7", "20000").output
@@ -304,15 +306,25 @@ def many_tasks_connect(place: Place) -> None:
     for name, words in (("report", ["run"]), ("lines", ["watch", "least"])):
         answer = place.call("fractal", *words, stdin=image)
         (place.root / name).write_bytes(answer.output)
-        before = seconds_of_children()
+        was_free, before, begun = has_free_processor(), seconds_of_children(), time.monotonic()
         for port, _ in served_at_a_port(place, "image.bin", name):
             with socket.create_connection(("127.0.0.1", port)) as one:
                 one.sendall(b"$?#3f")
-                answered = read_until(one, b"thread:")
+                answered, passed = read_until(one, b"thread:"), time.monotonic() - begun
                 one.sendall(b"$D#44")
         taken = seconds_of_children() - before
         expect(answered.startswith(b"+$T05"), "where it stands", answered)
-        expect(taken < MOST_SECONDS_TO_CONNECT, f"less than {MOST_SECONDS_TO_CONNECT} seconds for the {name}", taken)
+        expect(taken < MOST_SECONDS_TO_CONNECT, f"less than {MOST_SECONDS_TO_CONNECT} seconds of a processor for the "
+               f"{name}", taken)
+        # A machine with other work may keep it waiting, which says nothing of the debugger.
+        if was_free and has_free_processor():
+            expect(passed < MOST_SECONDS_TO_CONNECT, f"less than {MOST_SECONDS_TO_CONNECT} seconds by the clock for "
+                   f"the {name}", passed)
+
+
+def has_free_processor() -> bool:
+    """Whether of the last minute's work less than all processors were kept, so that one more call finds one free."""
+    return os.getloadavg()[0] < (os.cpu_count() or 1)
 
 
 def seconds_of_children() -> float:

@@ -47,7 +47,9 @@ class LegNotes:
         # The accesses that make stores, by their places among all stores; those that undo others have none.
         self.accesses: dict[int, Access] = {}
         self.steps, self.turns = 0, 0
+        # Where legs came by: each set once, and which it is by the path of a leg.
         self.known: dict[frozenset[int], frozenset[int]] = {}
+        self.passed: dict[tuple[int, ...], frozenset[int]] = {}
         with open_lines(path, image=image) as watched:
             self.head: Line = watched.head
             legs = watched.machine.legs
@@ -88,7 +90,7 @@ class LegNotes:
     def leg(self, told: ToldLine, task: Task, line: Line) -> None:
         """Notes a leg, what its event takes back, and then the access or the call at its end."""
         attempt, first, number = self.running[task], len(self.memory.stores), len(self.stretches)
-        asks, passed = line["asks"], frozenset(self.cores[task].passed)
+        asks, passed = line["asks"], self.passed_by(self.cores[task])
         length = line["leg"] + (asks not in NOT_EXECUTED)
         self.need_room(length)
         if told.taken:
@@ -103,7 +105,16 @@ class LegNotes:
         self.starts.append(attempt.note(number, length))
         self.owners.append(attempt)
         self.events.append(line["n"])
-        self.stretches.append(Stretch(length, self.known.setdefault(passed, passed), first, len(self.memory.stores)))
+        self.stretches.append(Stretch(length, passed, first, len(self.memory.stores)))
+
+    def passed_by(self, core: Core) -> frozenset[int]:
+        """Where the last leg of a core came by."""
+        path = tuple(core.path)
+        found = self.passed.get(path)
+        if found is None:
+            passed = core.passed
+            found = self.passed[path] = self.known.setdefault(passed, passed)
+        return found
 
     def access(self, attempt: Attempt, access: Access) -> None:
         """Notes an access: a store changes memory, and of a load the value that it found is kept."""

@@ -21,9 +21,8 @@ STATES = ("idle", "running", "trapped", "finished")
 COURSES = ("steps", "least", "lockstep")
 ENDS = ("normal", "limit", "open", "trap")
 SETTINGS = ("tiles", "cores", "task_queue", "commit_queue", "line", "quantum", "commits", "budget", "phase")
-# No number of the second program has more digits: a skeleton with a longer one is never known.
+# No number of the second program has more digits.
 MOST_DIGITS = 20
-TOO_LONG = b"0" * (MOST_DIGITS + 1)
 # Makes each digit 0.
 ZEROS = bytes(ord("0") if chr(byte).isdigit() else byte for byte in range(128)) + bytes(range(128, 256))
 MOST_SKELETONS = 4_096
@@ -210,7 +209,7 @@ def value_text(value: object) -> str:
 
 
 class Shapes:
-    """The skeletons of lines that were found right."""
+    """The skeletons of lines that were found right: lines with a digit 0 in place of each number."""
 
     __slots__ = ("known",)
 
@@ -225,23 +224,16 @@ class Shapes:
             raise WrongLine(f"`{value_text(text)}` is no JSON") from None
         except RecursionError:
             raise WrongLine("it is nested too deep") from None
-        skeleton = skeleton_of(text)
+        zeros = text.encode(errors="replace").translate(ZEROS)
+        # This makes one digit of up to ten, which most numbers have, and two or more of seventeen or more.
+        skeleton = zeros.replace(b"0000", b"0").replace(b"00", b"0").replace(b"00", b"0")
         if skeleton not in self.known or end != len(text):
             need_shape(text, decoded)
-            # The digits of bytes in hexadecimal are no numbers.
-            if len(self.known) < MOST_SKELETONS and "output" not in decoded and TOO_LONG not in skeleton:
+            # So numbers that are too long are never known, and the digits of bytes in hexadecimal are no numbers.
+            if len(self.known) < MOST_SKELETONS and "output" not in decoded and b"00" not in skeleton:
                 self.known.add(skeleton)
         line: Line = decoded
         return line
-
-
-def skeleton_of(text: str) -> bytes:
-    """A line with one or more digits 0 in place of each number; of one that is too long all of them are kept."""
-    zeros = text.encode(errors="replace").translate(ZEROS)
-    if TOO_LONG in zeros:
-        return zeros
-    # This makes one digit of up to ten, which most numbers have; that of a longer one is another skeleton.
-    return zeros.replace(b"0000", b"0").replace(b"00", b"0").replace(b"00", b"0")
 
 
 def need_shape(text: str, line: object) -> None:

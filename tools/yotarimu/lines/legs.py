@@ -5,12 +5,15 @@ leg that a line tells has to be the one that this core runs; then what it asked 
 """
 from __future__ import annotations
 
+import functools
+import itertools
+from collections.abc import Callable
 from typing import TYPE_CHECKING, Any, NamedTuple, Optional
 
 from yotarimu.images import serial_machine
-from yotarimu.images.image import DATA, STACK, Image
+from yotarimu.images.image import DATA, Image
 from yotarimu.images.serial_machine import (
-    Operation, Run, TaskTrap, is_straight, operation_of, signed_number)
+    MASK, Operation, Run, TaskTrap, decode, is_straight, operation_of, signed_number)
 from yotarimu.lines.fields import WrongLine
 from yotarimu.lines.times import Domain
 from yotarimu.reports.report import Name
@@ -18,16 +21,16 @@ from yotarimu.reports.report import Name
 if TYPE_CHECKING:
     from yotarimu.lines.replay import Task, ToldLine
 
+# Nobody asks a core for the name of its task.
+NAMELESS = Name(0, 0)
 CHILDREN = {1: "same", 2: "sub", 3: "super"}
 FETCH, BUDGET = 1, 17
 # A block has so many straight instructions at most, so that blocks of a long text stay short.
 MOST_STRAIGHT = 64
 # The fields of a line that tell a leg, in their order.
 FIELDS = ("leg", "pc", "asks", "addr", "bytes", "value", "to", "entry", "ts", "args", "hint", "byte", "cause")
-
-
-class Stops(Exception):
-    """A leg stops before an instruction that others can see. It has the fields by which the line tells that."""
+# What a leg stops for: the fields of the line that tell it.
+Asked = dict[str, Any]
 
 
 class Nothing(bytearray):
@@ -38,7 +41,7 @@ class Nothing(bytearray):
 
 
 class Scratch(serial_machine.Machine):
-    """A serial machine that calls and stores may change, since nobody reads it: the lines have what comes of them."""
+    """A serial machine that calls may change, since nobody reads it: the lines have what comes of them."""
 
     def __init__(self, image: Image) -> None:
         super().__init__(image)
@@ -48,18 +51,25 @@ class Scratch(serial_machine.Machine):
         """The lines have the child."""
 
 
+# Most tasks of a run are in few domains.
+@functools.lru_cache(maxsize=1_024)
 def around(domain: Domain) -> serial_machine.Domain:
     """A domain of the lines as a call sees it. The root domain has no maker, whose timestamp counts as 0."""
     outer = around(domain.outer()) if domain.maker else None
     return serial_machine.Domain(len(domain.kinds), domain.kinds[-1], outer, domain.maker[-1][0] if domain.maker else 0)
 
 
+class Last(NamedTuple):
+    """An instruction behind straight ones. `ask` gives what it asks for, and None where it asks nothing and was
+    executed; `grant` executes it once that is granted, with the number that a load finds."""
+    ask: Callable[[Core], Optional[Asked]]
+    grant: Callable[[Core, int], None]
+
+
 class Block(NamedTuple):
-    """Instructions one after another: those that change a register at most, the addresses behind each of them, and the
-    one that comes then."""
+    """Instructions one after another: those that change a register at most, and the one that comes then."""
     straight: tuple[Operation, ...]
-    passed: tuple[int, ...]
-    last: Operation
+    last: Last
 
 
 class Blocks(dict[int, Block]):
@@ -75,8 +85,7 @@ class Blocks(dict[int, Block]):
         while (word := self.word(end)) is not None and is_straight(word) and len(straight) < MOST_STRAIGHT:
             straight.append(operation_of(word))
             end += 4
-        last = no_instruction if word is None else operation_of(word)
-        found = self[pc] = Block(tuple(straight), tuple(range(pc + 4, end + 4, 4)), last)
+        found = self[pc] = Block(tuple(straight), NO_INSTRUCTION if word is None else last_of(word))
         return found
 
     def word(self, pc: int) -> Optional[int]:
@@ -84,81 +93,137 @@ class Blocks(dict[int, Block]):
         return None if pc & 3 else self.image.word(pc)
 
 
+# ---- what stops a leg
+
+
+def last_of(word: int) -> Last:
+    """What an instruction asks for, and how it is executed then; most ask nothing."""
+    opcode = word & 0x7F
+    if opcode in (serial_machine.LOAD, serial_machine.STORE):
+        return (load_of if opcode == serial_machine.LOAD else store_of)(word)
+    return CALL if word == serial_machine.ECALL else Last(operation_of(word), pass_over)
+
+
+def load_of(word: int) -> Last:
+    """A load, which asks for data; what it finds in text and stack it takes at once. One that may not be traps."""
+    _, target, first, _, kind, offset, _ = decode(word)
+    width, plainly = 1 << (kind & 3), operation_of(word)
+
+    def ask(core: Core) -> Optional[Asked]:
+        address = core.registers[first] + offset & MASK
+        if DATA <= address <= core.end - width and not address % width:
+            return {"asks": "load", "addr": address, "bytes": width}
+        plainly(core)
+        return None
+
+    def grant(core: Core, found: int) -> None:
+        if target:
+            core.registers[target] = (signed_number(found, 8 * width) if kind < 2 else found) & MASK
+        core.pc += 4
+
+    return Last(ask, grant)
+
+
+def store_of(word: int) -> Last:
+    """A store, which asks for data; one to the stack is made at once. One that may not be traps."""
+    _, _, first, second, kind, offset, _ = decode(word)
+    width, plainly = 1 << (kind & 3), operation_of(word)
+
+    def ask(core: Core) -> Optional[Asked]:
+        address = core.registers[first] + offset & MASK
+        if DATA <= address <= core.end - width and not address % width:
+            return {"asks": "store", "addr": address, "bytes": width, "value": core.registers[second]}
+        plainly(core)
+        return None
+
+    return Last(ask, pass_over)
+
+
+def ask_by_call(core: Core) -> Asked:
+    """What a call asks for. What it changes the core has aside, until it is granted."""
+    before = core.inner, core.children, core.emitted
+    core.call()
+    core.changed = core.inner, core.children, core.emitted
+    core.inner, core.children, core.emitted = before
+    return core.request()
+
+
+def grant_call(core: Core, _found: int) -> None:
+    """Makes a call that is granted."""
+    core.inner, core.children, core.emitted = core.changed
+    core.pc += 4
+
+
+def pass_over(core: Core, _found: int) -> None:
+    """Goes on behind an instruction that changes no register."""
+    core.pc += 4
+
+
 def no_instruction(_run: Run) -> None:
     """Traps, as a task does that goes where the text has no word."""
     raise TaskTrap(FETCH)
 
 
+CALL = Last(ask_by_call, grant_call)
+NO_INSTRUCTION = Last(no_instruction, pass_over)
+
+
 class Core(Run):
-    """The core of a dispatched task. An access to data or a call stops it, unless it is granted."""
+    """The core of a dispatched task. An access to data or a call stops it, until it is granted."""
 
     def __init__(self, scratch: Scratch, task: Task) -> None:
-        start = serial_machine.Task(Name(0, 0), task.entry, task.timestamp, tuple(task.arguments), around(task.domain))
+        start = serial_machine.Task(NAMELESS, task.entry, task.timestamp, tuple(task.arguments), around(task.domain))
         super().__init__(scratch, start)
-        self.used, self.is_granted, self.found = 0, False, 0
-        self.blocks = scratch.blocks
-        # Where the last leg came by.
-        self.passed: set[int] = set()
+        self.used, self.blocks = 0, scratch.blocks
+        # Where the data ends.
+        self.end: int = DATA + len(scratch.memory)
+        # Where the last leg came into blocks, and where it stopped: at this instruction.
+        self.path = [self.pc, self.pc]
+        self.last = NO_INSTRUCTION
+        # What the call at which it stopped changes: the subdomain, and how many children and bytes there are.
+        self.changed: tuple[Optional[serial_machine.Domain], int, int] = None, 0, 0
 
-    def leg(self, quantum: int, budget: int) -> dict[str, Any]:
+    def leg(self, quantum: int, budget: int) -> Asked:
         """Runs a leg, and gives the fields of the line that tell it."""
-        count, passed, blocks = 0, {self.pc}, self.blocks
-        asked: dict[str, Any] = {"asks": "go"}
-        most = min(quantum, budget - self.used)
+        count, most, blocks = 0, min(quantum, budget - self.used), self.blocks
+        asked: Optional[Asked] = None
+        self.path = path = [self.pc]
         try:
             while count < most:
-                block, left = blocks[self.pc], most - count
-                for operation in block.straight[:left]:
+                straight, self.last = blocks[self.pc]
+                if len(straight) > most - count:
+                    straight = straight[:most - count]
+                for operation in straight:
                     operation(self)
-                passed.update(block.passed[:left])
-                count += min(len(block.straight), left)
-                if count < most:
-                    block.last(self)
-                    passed.add(self.pc)
-                    count += 1
-            if most < quantum:
-                raise TaskTrap(BUDGET)
-        except Stops as stops:
-            asked = stops.args[0]
+                count += len(straight)
+                if count == most:
+                    break
+                if asked := self.last.ask(self):
+                    break
+                count += 1
+                path.append(self.pc)
+            if asked is None:
+                asked = {"asks": "go"} if most == quantum else {"asks": "trap", "cause": BUDGET}
         except TaskTrap as trapped:
             asked = {"asks": "trap", "cause": trapped.cause}
-        self.used, self.passed = self.used + count, passed
-        return {"leg": count, "pc": self.pc, **asked}
+        self.used += count
+        path.append(self.pc)
+        asked["leg"], asked["pc"] = count, self.pc
+        return asked
+
+    @property
+    def passed(self) -> frozenset[int]:
+        """Where the last leg came by."""
+        *whole, last, stop = self.path
+        ways = (range(start, start + 4 * len(self.blocks[start].straight) + 4, 4) for start in whole)
+        return frozenset(itertools.chain(range(last, stop + 4, 4), *ways))
 
     def grant(self, found: int) -> None:
         """Executes the instruction at which the core stopped; a load finds this number."""
-        self.is_granted, self.found = True, found
-        self.blocks[self.pc].last(self)
-        self.is_granted = False
+        self.last.grant(self, found)
         self.used += 1
 
-    def load(self, kind: int, address: int) -> int:
-        """Loads of data stop the leg, unless what they find is granted; those of text and stack are plain."""
-        width = 1 << (kind & 3)
-        if self.is_granted:
-            return self.found if kind & 4 else signed_number(self.found, 8 * width)
-        value = super().load(kind, address)
-        if DATA <= address < STACK:
-            raise Stops({"asks": "load", "addr": address, "bytes": width})
-        return value
-
-    def store(self, width: int, address: int, value: int) -> None:
-        """Stores to data stop the leg, unless they are granted; those to the stack are plain."""
-        if self.is_granted:
-            return
-        super().store(width, address, value)
-        if DATA <= address < STACK:
-            raise Stops({"asks": "store", "addr": address, "bytes": width, "value": value})
-
-    def call(self) -> None:
-        """Calls stop the leg, unless they are granted."""
-        before = self.inner, self.children, self.emitted, self.is_over
-        super().call()
-        if not self.is_granted:
-            self.inner, self.children, self.emitted, self.is_over = before
-            raise Stops(self.request())
-
-    def request(self) -> dict[str, Any]:
+    def request(self) -> Asked:
         """What a call asks for that doesn't trap."""
         number, registers = self.registers[17], self.registers
         if number == 0:
@@ -170,14 +235,15 @@ class Core(Run):
         domain = {1: self.task.domain, 2: self.inner, 3: self.task.domain.outer}[number]
         assert domain is not None, "else the call traps"
         return {"asks": "enqueue", "to": CHILDREN[number], "entry": registers[10],
-                "ts": registers[11] if domain.is_ordered else 0, "args": list(registers[12:15]), "hint": registers[15]}
+                "ts": registers[11] if domain.is_ordered else 0, "args": registers[12:15], "hint": registers[15]}
 
 
 class Legs:
     """The cores of all dispatched tasks of a run, as far as its lines were read."""
 
     def __init__(self, image: Image, head: dict[str, Any]) -> None:
-        self.image, self.head, self.scratch = image, head, Scratch(image)
+        self.image, self.scratch = image, Scratch(image)
+        self.quantum, self.budget = head["quantum"], head["budget"]
         self.cores: dict[Task, Core] = {}
         own = {"root": "ordered" if image.is_ordered else "unordered", "text": len(image.text) // 4,
                "data": image.size, "window": [image.window_offset, image.window_words], "tasks": len(image.tasks)}
@@ -187,15 +253,14 @@ class Legs:
 
     def note(self, told: ToldLine) -> None:
         """Takes a line, once the machine has done what it tells."""
-        line = told.line
-        if line.get("do") == "place":
-            self.need_initial(line)
         for taken in told.taken:
             self.cores.pop(taken.task, None)
         if told.committed is not None:
             self.cores.pop(told.committed, None)
-        if "leg" in line and told.task is not None:
-            self.need_leg(told.task, line)
+        elif "leg" in told.line and told.task is not None:
+            self.need_leg(told.task, told.line)
+        elif told.line.get("do") == "place":
+            self.need_initial(told.line)
 
     def need_initial(self, line: dict[str, Any]) -> None:
         """Holds a task that is placed against the image's own."""
@@ -214,7 +279,7 @@ class Legs:
             core = self.cores[task] = Core(self.scratch, task)
         is_taken = line["reply"] == "ok"
         before = None if is_taken else (core.pc, list(core.registers), bytes(core.stack), core.used)
-        wanted = core.leg(self.head["quantum"], self.head["budget"])
+        wanted = core.leg(self.quantum, self.budget)
         # What is asked for says which fields a line has, so it has no others where it has these.
         if not wanted.items() <= line.items():
             name = next(it for it in FIELDS if line.get(it) != wanted.get(it))
@@ -222,5 +287,5 @@ class Legs:
                             f"{wanted.get(name, 'missing')}")
         if before is not None:
             core.pc, core.registers, core.stack[:], core.used = before
-        elif line["asks"] not in ("go", "trap"):
+        elif wanted["asks"] not in ("go", "trap"):
             core.grant(line.get("old", 0))

@@ -54,10 +54,9 @@ class Memory:
         self.touched[place:place + count] = TOUCHED * count
 
     def write(self, address: int, count: int, value: int) -> None:
-        """Writes a value of so many bytes at an address of the data."""
+        """Writes a value of so many bytes at an address of the data, which was met before."""
         place = address - DATA_START
         self.data[place:place + count] = value.to_bytes(count, "little")
-        self.touched[place:place + count] = TOUCHED * count
 
     def undo(self, accesses: Iterable[Access]) -> None:
         """Takes the stores among some accesses back, the latest first."""

@@ -64,19 +64,24 @@ class Reader:
         follow, line_of = self.machine.follow, self.shapes.line_of
         with self.place_told():
             while (text := self.next_text()) is not None:
-                told = ToldLine(self.number, line_of(text))
+                line = line_of(text)
                 if self.end is not None:
                     raise WrongLine("nothing may follow on the end")
-                if "end" in told.line:
-                    self.machine.close(told.line)
-                    self.end = told.line
-                    continue
-                if "at" not in told.line and "view" not in told.line:
-                    raise WrongLine("this line may only stand alone or first")
-                follow(told)
-                yield told
+                if "at" in line or "view" in line:
+                    told = ToldLine(self.number, line)
+                    follow(told)
+                    yield told
+                else:
+                    self.close(line)
         if self.end is None and not self.is_cut_allowed:
             raise Refusal(f"{self.name}: it has no end: it was cut behind line {self.number}.")
+
+    def close(self, line: Line) -> None:
+        """Takes the last line."""
+        if "end" not in line:
+            raise WrongLine("this line may only stand alone or first")
+        self.machine.close(line)
+        self.end = line
 
     def next_text(self) -> Optional[str]:
         """The next line without its newline; None where there is no whole line any more."""

@@ -8,13 +8,12 @@ counting gives.
 from __future__ import annotations
 
 import hashlib
-import itertools
 from collections.abc import Sequence
 from typing import Callable, Iterator, NamedTuple, Optional
 
 from yotarimu.images.image import Image
 from yotarimu.lines.dispatch_numbers import DispatchNumbers
-from yotarimu.lines.fields import EVENTS, Line, WrongLine
+from yotarimu.lines.fields import Line, WrongLine
 from yotarimu.lines.legs import Legs
 from yotarimu.lines.memory import DATA_START, Memory
 from yotarimu.lines.rounds import Rounds
@@ -149,17 +148,18 @@ class ToldLine:
     """A line behind the head, and what it did: the task that it is about, those that were taken back, those of them
     that are gone, those that were spilled, the one that came, and the one that committed."""
 
-    __slots__ = ("number", "line", "is_made", "task", "taken", "gone", "spilled", "arrived", "committed", "access")
+    # Most lines do little of this.
+    is_made = False
+    task: Optional[Task] = None
+    arrived: Optional[Task] = None
+    committed: Optional[Task] = None
+    access: Optional[Access] = None
+    taken: Sequence[TakenTask] = ()
+    gone: Sequence[Task] = ()
+    spilled: Sequence[Task] = ()
 
     def __init__(self, number: int, line: Line) -> None:
-        self.number, self.line, self.is_made = number, line, False
-        self.task: Optional[Task] = None
-        self.arrived: Optional[Task] = None
-        self.committed: Optional[Task] = None
-        self.access: Optional[Access] = None
-        self.taken: Sequence[TakenTask] = ()
-        self.gone: Sequence[Task] = ()
-        self.spilled: Sequence[Task] = ()
+        self.number, self.line = number, line
 
     def is_act(self) -> bool:
         """Whether it tells an act; other lines tell where a task was placed, or a view of the machine."""
@@ -174,6 +174,8 @@ class Machine:
 
     def __init__(self, head: Line, image: Optional[Image] = None) -> None:
         self.head, tiles = head, range(head["tiles"])
+        self.tile_count, self.core_count, self.data_size = head["tiles"], head["cores"], head["data"]
+        self.quantum, self.budget = head["quantum"], head["budget"]
         self.root, self.numbers = root(head["root"] == ORDERED), DispatchNumbers()
         self.memory = Memory(head["data"], None if image is None else image.initial)
         self.legs = None if image is None else Legs(image, head)
@@ -192,7 +194,9 @@ class Machine:
 
     def all_tasks(self) -> Iterator[Task]:
         """The uncommitted tasks, spilled ones too."""
-        return itertools.chain(self.tasks.values(), *(block.values() for block in self.blocks))
+        yield from self.tasks.values()
+        for block in self.blocks:
+            yield from block.values()
 
     # Lists of ids, and where tasks stand in them.
 
@@ -250,12 +254,12 @@ class Machine:
     def follow(self, told: ToldLine) -> None:
         """Does what a line tells."""
         line = told.line
-        if "view" in line:
-            self.compare(line)
-        elif line["do"] == "place":
-            self.place(told, line)
-        else:
+        if "reply" in line:
             self.act(told, line)
+        elif "view" in line:
+            self.compare(line)
+        else:
+            self.place(told, line)
         if self.legs is not None:
             self.legs.note(told)
 
@@ -277,12 +281,13 @@ class Machine:
         """Follows an act: what it tells is held against the machine, and is made."""
         self.count_act(line)
         word, reply = line["do"], line["reply"]
-        told.is_made = is_made = reply == "ok" and word in EVENTS
-        if line["n"] != self.events + is_made:
-            raise WrongLine(f"it tells {line['n']} events, and {self.events + is_made} were made")
+        make = MADE.get(word) if reply == "ok" else None
+        events = self.events + (make is not None)
+        if line["n"] != events:
+            raise WrongLine(f"it tells {line['n']} events, and {events} were made")
         if "task" in line:
             told.task = self.task_at(line["task"])
-        if line.get("tile", 0) >= self.head["tiles"] or line.get("core", 0) >= self.head["cores"]:
+        if line.get("tile", 0) >= self.tile_count or line.get("core", 0) >= self.core_count:
             self.need_place(line)
         if word == "take" and reply == "ok" and self.cores[line["tile"]][line["core"]] is None:
             raise WrongLine(f"core {line['core']} of tile {line['tile']} holds no task")
@@ -290,10 +295,10 @@ class Machine:
             if told.task is None:
                 raise WrongLine("no task is told that takes this leg")
             self.need_leg(told.task, line)
-        if is_made:
-            self.events += 1
+        if make is not None:
+            told.is_made, self.events = True, events
             self.force(told, line)
-            MADE[word](self, told, line)
+            make(self, told, line)
         elif word in REFUSALS and reply in REFUSALS[word] and not REFUSALS[word][reply](self, line["tile"]):
             raise WrongLine(f"the tile has no reason to answer `{reply}`")
         if self.rounds is not None:
@@ -302,11 +307,11 @@ class Machine:
     def need_leg(self, task: Task, line: Line) -> None:
         """A leg of a whole quantum goes on, whatever stands next, and no other does. None goes beyond the budget."""
         leg, asks = line["leg"], line["asks"]
-        if leg > self.head["quantum"] or (leg == self.head["quantum"]) != (asks == "go"):
-            raise WrongLine(f"a leg of {leg} instructions doesn't stop so, as a quantum has {self.head['quantum']}")
-        left = self.head["budget"] - task.work - leg
+        if leg > self.quantum or (leg == self.quantum) != (asks == "go"):
+            raise WrongLine(f"a leg of {leg} instructions doesn't stop so, as a quantum has {self.quantum}")
+        left = self.budget - task.work - leg
         if left < (asks not in NOT_EXECUTED) or asks == "trap" and (line["cause"] == OVER_BUDGET) != (left == 0):
-            raise WrongLine(f"of {self.head['budget']} instructions that a task may execute {left} would be left")
+            raise WrongLine(f"of {self.budget} instructions that a task may execute {left} would be left")
 
     def has_no_idle(self, tile: int) -> bool:
         """Whether no task of a tile's queue is idle."""
@@ -326,14 +331,15 @@ class Machine:
 
     def count_act(self, line: Line) -> None:
         """Holds the number of an act against those before it."""
-        if self.placed < self.head["tasks"]:
+        at = line["at"]
+        if self.acts == 0 and self.placed < self.head["tasks"]:
             raise WrongLine(f"{self.placed} of {self.head['tasks']} tasks of the image are placed before the first act")
-        is_next = line["at"] == self.acts + 1 if self.rounds is None else line["at"] > self.acts
+        is_next = at == self.acts + 1 if self.rounds is None else at > self.acts
         if not is_next:
-            raise WrongLine(f"act {line['at']} can't follow on act {self.acts}")
+            raise WrongLine(f"act {at} can't follow on act {self.acts}")
         if self.rounds is not None:
             self.rounds.need(line)
-        self.acts = line["at"]
+        self.acts = at
 
     def force(self, told: ToldLine, line: Line) -> None:
         """What an event forces: tasks are taken back, some of them leave, and tasks are spilled."""
@@ -413,19 +419,20 @@ class Machine:
         task, asks = told.task, line.get("asks")
         if asks is None or task is None or task.state is not RUNNING:
             raise WrongLine("no task runs that takes this leg")
-        if (task.tile, task.core) != (line["tile"], line["core"]):
+        if task.tile != line["tile"] or task.core != line["core"]:
             raise WrongLine(f"task {task.id} runs on another core")
         task.pc = line["pc"]
         task.work += line["leg"] + (asks not in NOT_EXECUTED)
         task.steps += 1
-        if asks in REQUESTS:
-            REQUESTS[asks](self, told, task, line)
+        request = REQUESTS.get(asks)
+        if request is not None:
+            request(self, told, task, line)
 
     def load_or_store(self, told: ToldLine, task: Task, line: Line) -> None:
         """An access. A load makes the bytes known that stand there, a store those that it leaves."""
         is_store = line["asks"] == "store"
         address, count, old = line["addr"], line["bytes"], line["old"]
-        if count not in (1, 2, 4) or not 0 <= address - DATA_START <= self.head["data"] - count:
+        if count not in (1, 2, 4) or not 0 <= address - DATA_START <= self.data_size - count:
             raise WrongLine(f"the data has no {count} bytes at {address}")
         if address % count:
             raise WrongLine(f"{address} is no multiple of {count}")
