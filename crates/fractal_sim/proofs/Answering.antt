@@ -26,10 +26,9 @@ use Rattle.guest_image.specs.Writing.{image_bytes}
 use Rattle.resume_image.specs.Saved.{saved_image}
 use Rattle.spec_state.specs.declared.pending.Pending.{Pending}
 use Rattle.program_call.specs.declared.outcome.Outcome.{Outcome}
-use Rattle.program_call.specs.Answers.{IsWantOfRun}
 use Rattle.program_call.specs.Call.{Call, Input}
-use Rattle.program_call.specs.Given.{ReadsAsAsked, ReadsImage}
-use Rattle.program_call.specs.Outcomes.{IsEmpty, closed_of}
+use Rattle.program_call.specs.Given.{ReadsAsAsked}
+use Rattle.program_call.specs.Outcomes.{closed_of}
 use Rattle.program_call.specs.Program.{IsDue, TellsOutcome}
 use Rattle.program_call.specs.Runs.{HoldsRunOfInput, HoldsRunOrNothing}
 use Rattle.program_call.proofs.Fronts.{holds_lawful}

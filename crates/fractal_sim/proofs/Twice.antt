@@ -287,7 +287,7 @@ module _ (input : Input) (bytes : List ℕ) (request : Request) (o : Outcome)
       }
 
   -- what is found says something of the bytes
-  pub found_says : {n : ℕ} {text : List ℕ} → IsToldBy program input o n text → Says input bytes request o n text
+  found_says : {n : ℕ} {text : List ℕ} → IsToldBy program input o n text → Says input bytes request o n text
   found_says (inl refused) = refusal_says refused.0 refused.1
   found_says (inr answer) = says answer
 

@@ -1,5 +1,5 @@
 -- Which run an outcome holds, and which events made it. `Brand` is the naming under which the program's runs are made.
-use Rattle.std.specs.Prelude.{◌≡◌, ◌≢◌, ℕ, List, [], Some, None, Ok, IfSome}
+use Rattle.std.specs.Prelude.{◌≡◌, ◌≢◌, ℕ, List, Some, None, Ok, IfSome}
 use Rattle.std.specs.declared.marker.Brand.{Brand}
 use Rattle.guest_image.specs.ImageValue.{ImageValue}
 use Rattle.run_journal.specs.declared.end.End.{End}

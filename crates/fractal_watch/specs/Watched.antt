@@ -17,7 +17,8 @@ use Rattle.program_call.specs.declared.outcome.Outcome.{Outcome}
 use Rattle.program_call.specs.Outcomes.{closed_of}
 use Rattle.program_call.specs.Call.{Input}
 use Rattle.fractal_watch.specs.declared.words.Asking.{Asking}
-use Rattle.fractal_watch.specs.Given.{IsWatchScript, WatchReadsImage}
+use Rattle.program_call.specs.Given.{ReadsImage}
+use Rattle.fractal_watch.specs.Given.{IsWatchScript, front}
 
 -- the course of a word, with the acts of its script
 abbrev pub course_of : CourseWord → Settings → List Act → Course
@@ -45,7 +46,7 @@ pub record IsWatched (N : Type 0) (input : Input) (o : Outcome) : Type 0 where
   pub asking : Asking
   pub image : ImageValue
   pub behind : List ℕ
-  pub given : WatchReadsImage input asking image behind
+  pub given : ReadsImage front input asking image behind
   pub script : List Act
   pub script_is : HasActs asking.course asking behind script
   pub opening : BookView

@@ -1,8 +1,7 @@
 -- What is found at the front and is told is an answer, whatever the program does with an image.
-use Rattle.std.proofs.Common.{◌≡◌, ◌≢◌, ◌⊎◌, ◌∙◌, inl, inr, ap, subst, sym, drop, ℕ, List, Some, Ok}
+use Rattle.std.proofs.Common.{◌≡◌, ◌≢◌, ◌⊎◌, ◌∙◌, inl, inr, ap, subst, sym, drop, ℕ, List, Some}
 use Rattle.std.proofs.lemmas.Bool.{cases_eq}
 use Rattle.sim_io.specs.Streams.{SinkState}
-use Rattle.guest_image.specs.ImageValue.{ImageValue}
 use Rattle.guest_image.specs.Reading.{image_of}
 use Rattle.run_law.proofs.Proved.{lawful}
 use Rattle.program_call.specs.declared.input.FrontFault.{FrontFault}

@@ -1,5 +1,5 @@
 -- Which run an outcome may hold.
-use Rattle.std.specs.Prelude.{◌⊎◌, ℕ}
+use Rattle.std.specs.Prelude.{◌⊎◌}
 use Rattle.guest_image.specs.ImageValue.{ImageValue}
 use Rattle.run_law.specs.Laws.{AreLawful}
 use Rattle.serial_machine.specs.WholeRun.{IsRunOf}

@@ -25,7 +25,7 @@ returns-in-Err g c =
     let asks : request_of_words input.words ≡ Some request = search rules in
     let reads : Reads request.command = search rules in
     record {
-      found = fault_given front input request asks reads c.in-Err-read_input.fault c.in-Err-read_input.ensures.fault;
+      found = fault_given front input request asks reads c.in-Err.fault c.in-Err.ensures.fault;
       writable = tt;
     }
 
