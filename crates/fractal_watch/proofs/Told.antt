@@ -22,16 +22,17 @@ use Rattle.watch_play.specs.declared.stop.StoryStop.{StoryStop}
 use Rattle.watch_play.specs.declared.stop.StoryStop.TheVariants as stops
 use Rattle.watch_play.specs.Telling.{HasStory, IsAllTold, Tells}
 use Rattle.watch_text.specs.Moments.{Moment}
-use Rattle.watch_text.specs.Views.{last_line}
 use Rattle.program_call.specs.declared.outcome.Outcome.{Outcome}
 use Rattle.program_call.specs.Outcomes.{IsEmpty, closed_of}
 use Rattle.program_call.specs.Call.{Input}
 use Rattle.fractal_watch.specs.declared.words.Asking.{Asking}
 use Rattle.fractal_watch.specs.Answers.{OfEnd, OfStory}
 use Rattle.fractal_watch.specs.Closing.{EndCut, EndTold, EndUntold, StoryFinishes, IsClosedAs, stop_status}
+use Rattle.fractal_watch.specs.Closing.{text_of_closed}
 use Rattle.fractal_watch.specs.Given.{WatchReadsImage}
 use Rattle.fractal_watch.specs.Runs.{WatchHoldsLawfulRun, WatchHoldsRunOrNothing}
 use Rattle.fractal_watch.specs.Telling.{TellsBookOf, TellsRun, TellsRunOf}
+use Rattle.fractal_watch.specs.Texts.{end_text}
 use Rattle.fractal_watch.proofs.Found.{read_as_asked}
 use Rattle.fractal_watch.specs.Watched.{HasActs, IsWatched, lines_of_watched, plan_of, text_of_watched}
 
@@ -81,13 +82,13 @@ module _ (N : Type 0) (input : Input) (asking : Asking) (image : ImageValue) (be
     steps_is = c.holds.steps_is;
   }
 
-  -- the last line of what was closed is that of what is held
-  same_line : (status : ℕ) (told : Option End) (end : End) (o : Outcome)
+  -- what comes at the end of what was closed is that of what is held
+  same_text : (status : ℕ) (told : Option End) (end : End) (o : Outcome)
       (c : IsClosedAs image commits budget book status told o)
-      → last_line image end c.closed.steps (length c.closed.journal) c.closed.output c.closed.memory
-      ≡ last_line image end c.closed.steps (length o.journal) o.output o.memory
-  same_line status told end o c =
-      ap (λ (r : SerialRun). last_line image end c.closed.steps (length r.journal) r.output r.memory)
+      → text_of_closed asking.telling image c.closed end
+      ≡ end_text asking.telling image end c.closed.steps (length o.journal) o.output o.memory
+  same_text status told end o c =
+      ap (λ (r : SerialRun). end_text asking.telling image end c.closed.steps (length r.journal) r.output r.memory)
       (sym c.holds.run_is)
 
   -- the end that is told
@@ -95,14 +96,14 @@ module _ (N : Type 0) (input : Input) (asking : Asking) (image : ImageValue) (be
       → o.end ≡ end
   same_end status end o c = ap (λ (r : SerialRun). r.end) c.holds.run_is
 
-  -- a course that was told to its end, and the last line
+  -- a course that was told to its end, and what comes there
   pub finished_tells : (before between after : SinkState) (o : Outcome)
       → IsAllTold N (plan_of asking image script) opening book before between
-      → StoryFinishes image commits budget book between after o → TellsRun N input before after o
+      → StoryFinishes image commits budget asking.telling book between after o → TellsRun N input before after o
   finished_tells before between after o told (EndTold end c stands took) =
       let w = watched _ _ o told.moments told.story c in
-      let line = last_line image end c.closed.steps (length o.journal) o.output o.memory in
-      let last : SinkTakes between after line = subst (SinkTakes between after) (same_line _ _ end o c) took in
+      let ending = end_text asking.telling image end c.closed.steps (length o.journal) o.output o.memory in
+      let last : SinkTakes between after ending = subst (SinkTakes between after) (same_text _ _ end o c) took in
       record {
         holds = held _ _ o c;
         lawful = holds_lawful input o;
@@ -113,7 +114,7 @@ module _ (N : Type 0) (input : Input) (asking : Asking) (image : ImageValue) (be
           stands = stands;
           end_is = same_end _ _ o c;
           status_is = c.holds.status_is;
-          took = SinkTakes-trans before between after (lines_of_watched w) line told.took last;
+          took = SinkTakes-trans before between after (lines_of_watched w) ending told.took last;
         });
       }
   finished_tells before between after o told (EndUntold c same) =
@@ -133,8 +134,8 @@ module _ (N : Type 0) (input : Input) (asking : Asking) (image : ImageValue) (be
       }
   finished_tells before between after o told (EndCut end c stands took rose) =
       let w = watched _ _ o told.moments told.story c in
-      let line = last_line image end c.closed.steps (length o.journal) o.output o.memory in
-      let last : TakesFront between after line = subst (TakesFront between after) (same_line _ _ end o c) took in
+      let ending = end_text asking.telling image end c.closed.steps (length o.journal) o.output o.memory in
+      let last : TakesFront between after ending = subst (TakesFront between after) (same_text _ _ end o c) took in
       record {
         holds = held _ _ o c;
         lawful = holds_lawful input o;
@@ -143,7 +144,7 @@ module _ (N : Type 0) (input : Input) (asking : Asking) (image : ImageValue) (be
           end_is = same_end _ _ o c;
           text = text_of_watched w end;
           cut = OfEnd w end stands told.through;
-          took = TakesFront-then before between after (lines_of_watched w) line told.took last;
+          took = TakesFront-then before between after (lines_of_watched w) ending told.took last;
           failed = omega (arith, told.later, rose);
         });
       }

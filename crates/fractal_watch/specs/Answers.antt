@@ -30,7 +30,7 @@ pub record TellsFault (call : Call) (o : Outcome) : Type 0 where
   pub took : SinkTakes call.sink_before call.sink_after line
 
 -- the course was played to its end (0, 3, 4): the sink took the lines of its story and the last line, which says how
--- the run stands, and no other byte
+-- the run stands, or the memory that it leaves, and no other byte
 pub record TellsStory (N : Type 0) (call : Call) (o : Outcome) : Type 0 where
   pub watched : IsWatched N call.input o
   pub through : IsThrough (plan_of watched.asking watched.image watched.script).course watched.story.count
@@ -68,7 +68,7 @@ pub record WatchTellsSourceFault (call : Call) (o : Outcome) : Type 0 where
   pub unread : IsWatchUnread call.input
   pub untouched : call.sink_after ≡ call.sink_before
 
--- a text was to be taken: a fault's line, the lines of a story so far, or these and the last line
+-- a text was to be taken: a fault's line, the lines of a story so far, or these and what comes at the end
 pub data IsCutText (N : Type 0) (call : Call) (o : Outcome) : List ℕ → Type 0 where
   OfFault : (status : ℕ) (line : List ℕ) → IsFault call.input status line → IsEmpty o → IsCutText N call o line
   OfStory : (watched : IsWatched N call.input o) → IsCutText N call o (lines_of_watched watched)

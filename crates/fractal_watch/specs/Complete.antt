@@ -23,8 +23,8 @@ pub record WatchBeginsWithImage (words : List (List ℕ)) (bytes : List ℕ) (as
   pub image_is : image_of bytes ≡ Ok (image, size)
   pub behind_is : behind ≡ drop size bytes
 
--- the status that is due to words and to bytes that are all there is; how the run stands at the end of its course is
--- told by its last line
+-- the status that is due to words and to bytes that are all there is; how the run stands at the end of its course the
+-- outcome tells
 pub data IsWatchDue (words : List (List ℕ)) (bytes : List ℕ) : ℕ → Type 0 where
   Usage : asking_of_words words ≡ None → IsWatchDue words bytes 1
   Long : (asking : Asking) → asking_of_words words ≡ Some asking → input_limit < length bytes
