@@ -168,7 +168,8 @@ def judgements(place: Place, words: Sequence[str]) -> tuple[bool, bool]:
 
 def random_call(chance: random.Random, table: Table) -> list[str]:
     """The words of a call, of which about half are wrong."""
-    words = chance.choice(([], [], [], ["memory"], ["views", number(chance, 1, 2 ** 32 - 1)]))
+    leading: tuple[list[str], ...] = ([], [], [], ["memory"], ["views", number(chance, 1, 2 ** 32 - 1)])
+    words = list(chance.choice(leading))
     course = chance.choice(list(table.course_rows))
     words.append(course)
     if course == "lockstep":

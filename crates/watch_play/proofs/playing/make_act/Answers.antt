@@ -16,7 +16,7 @@ returns-clause-makes g c = λ at.
       held = c.ask.new.self.held;
     } in
     let leg = c.leg-leg.result.now in
-    let about = c.about_of-_about in
+    let about = c.about_of-about in
     let task = task_of about.result in
     let applied = c.make-applied in
     let effect = effect_of applied.new.book in
