@@ -22,7 +22,6 @@ use Rattle.watch_play.specs.declared.stop.StoryStop.{StoryStop}
 use Rattle.watch_play.specs.declared.stop.StoryStop.TheVariants as stops
 use Rattle.watch_play.specs.Telling.{HasStory, IsAllTold, Tells}
 use Rattle.watch_text.specs.Moments.{Moment}
-use Rattle.watch_text.specs.Views.{last_line}
 use Rattle.program_call.specs.declared.outcome.Outcome.{Outcome}
 use Rattle.program_call.specs.Outcomes.{IsEmpty, closed_of}
 use Rattle.program_call.specs.Call.{Input, call_on}
@@ -35,12 +34,13 @@ use Rattle.fractal_watch.specs.declared.words.Asking.{Asking}
 use Rattle.fractal_watch.specs.Answers as table
 use Rattle.fractal_watch.specs.Answers.{IsAnswer, IsPlayed, OfEnd, OfStory}
 use Rattle.fractal_watch.specs.Closing.{EndCut, EndTold, EndUntold, StoryFinishes, IsClosedAs, stop_status}
+use Rattle.fractal_watch.specs.Closing.{text_of_closed}
 use Rattle.fractal_watch.specs.Complete as due
 use Rattle.fractal_watch.specs.Complete.{IsDueBehind}
 use Rattle.fractal_watch.specs.Given.{HasImage, front}
 use Rattle.fractal_watch.specs.Program.{program}
 use Rattle.fractal_watch.specs.Telling.{TellsBookOf, TellsRunOf}
-use Rattle.fractal_watch.specs.Texts.{watch_status}
+use Rattle.fractal_watch.specs.Texts.{end_text, watch_status}
 use Rattle.fractal_watch.specs.Watched.{HasActs, IsWatched, lines_of_watched, plan_of, text_of_watched}
 
 module _ (N : Type 0) (input : Input) (asking : Asking) (image : ImageValue) (behind : List ℕ)
@@ -84,13 +84,13 @@ module _ (N : Type 0) (input : Input) (asking : Asking) (image : ImageValue) (be
     steps_is = c.holds.steps_is;
   }
 
-  -- the last line of what was closed is that of what is held
-  same_line : (status : ℕ) (told : Option End) (end : End) (o : Outcome)
+  -- what comes at the end of what was closed is that of what is held
+  same_text : (status : ℕ) (told : Option End) (end : End) (o : Outcome)
       (c : IsClosedAs image commits budget book status told o)
-      → last_line image end c.closed.steps (length c.closed.journal) c.closed.output c.closed.memory
-      ≡ last_line image end c.closed.steps (length o.journal) o.output o.memory
-  same_line status told end o c =
-      ap (λ (r : SerialRun). last_line image end c.closed.steps (length r.journal) r.output r.memory)
+      → text_of_closed asking.telling image c.closed end
+      ≡ end_text asking.telling image end c.closed.steps (length o.journal) o.output o.memory
+  same_text status told end o c =
+      ap (λ (r : SerialRun). end_text asking.telling image end c.closed.steps (length r.journal) r.output r.memory)
       (sym c.holds.run_is)
 
   -- the end that is told
@@ -109,22 +109,22 @@ module _ (N : Type 0) (input : Input) (asking : Asking) (image : ImageValue) (be
     complete = complete;
   }
 
-  -- a course that was told to its end, and the last line
+  -- a course that was told to its end, and what comes there
   pub finished_tells : (before between after : SinkState) (o : Outcome)
       → IsAllTold N (plan_of asking image script) opening book before between
-      → StoryFinishes image commits budget book between after o
+      → StoryFinishes image commits budget asking.telling book between after o
       → Answers (program N) (call_on input before after) o
   finished_tells before between after o told (EndTold end c stands took) =
       let w = watched _ _ o told.moments told.story c in
-      let line = last_line image end c.closed.steps (length o.journal) o.output o.memory in
-      let last : SinkTakes between after line = subst (SinkTakes between after) (same_line _ _ end o c) took in
+      let ending = end_text asking.telling image end c.closed.steps (length o.journal) o.output o.memory in
+      let last : SinkTakes between after ending = subst (SinkTakes between after) (same_text _ _ end o c) took in
       let played : IsPlayed w end = record { through = told.through; stands = stands } in
       let answer = table.Played w end played (same_end _ _ o c) in
       answer_of before after _ _ o c
       (inr (inr (inr record {
         text = text_of_watched w end;
         answer = inr (subst (λ s. IsAnswer N input o s (text_of_watched w end)) (sym c.holds.status_is) answer);
-        took = SinkTakes-trans before between after (lines_of_watched w) line told.took last;
+        took = SinkTakes-trans before between after (lines_of_watched w) ending told.took last;
       })))
       (λ bytes known well.
       let begun = begins front input bytes asking image behind known given in
@@ -141,8 +141,8 @@ module _ (N : Type 0) (input : Input) (asking : Asking) (image : ImageValue) (be
       (λ bytes known well. inl c.holds.status_is)
   finished_tells before between after o told (EndCut end c stands took rose) =
       let w = watched _ _ o told.moments told.story c in
-      let line = last_line image end c.closed.steps (length o.journal) o.output o.memory in
-      let last : TakesFront between after line = subst (TakesFront between after) (same_line _ _ end o c) took in
+      let ending = end_text asking.telling image end c.closed.steps (length o.journal) o.output o.memory in
+      let last : TakesFront between after ending = subst (TakesFront between after) (same_text _ _ end o c) took in
       let played : IsPlayed w end = record { through = told.through; stands = stands } in
       let failed : Rose before.faults after.faults = omega (arith, told.later, rose) in
       answer_of before after _ _ o c
@@ -150,7 +150,7 @@ module _ (N : Type 0) (input : Input) (asking : Asking) (image : ImageValue) (be
         status_is = c.holds.status_is;
         text = text_of_watched w end;
         is_text = inr (OfEnd w end played (same_end _ _ o c));
-        took = TakesFront-then before between after (lines_of_watched w) line told.took last;
+        took = TakesFront-then before between after (lines_of_watched w) ending told.took last;
         failed = failed;
       })))
       (λ bytes known well. absurd (well.sink failed))

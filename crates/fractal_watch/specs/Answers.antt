@@ -19,7 +19,7 @@ pub record IsPlayed {N : Type 0} {input : Input} {o : Outcome} (watched : IsWatc
   pub stands : StandsAt watched.book.view end
 
 -- the script is refused; or the course was played to its end (0, 3, 4), and the text is the lines of its story and the
--- last line, which says how the run stands
+-- last line, which says how the run stands, or the memory that it leaves
 pub data IsAnswer (N : Type 0) (input : Input) (o : Outcome) : ℕ → List ℕ → Type 0 where
   NoScript : (line : ℕ) → IsWatchNoScript input line → IsEmpty o → IsAnswer N input o 9 (script_fault_object line)
   Played : (watched : IsWatched N input o) (end : End) → IsPlayed watched end → o.end ≡ Some end
@@ -35,7 +35,7 @@ pub record IsWantOnTheWay (N : Type 0) (call : Call) (o : Outcome) : Type 0 wher
       call.sink_before call.sink_after
 
 -- a sink that failed may have taken a part of this text: the line for a script that is refused, the lines of a story so
--- far, or these and the last line; the run stopped there, and no end is told
+-- far, or these and what comes at the end; the run stopped there, and no end is told
 pub data IsCutText (N : Type 0) (input : Input) (o : Outcome) : List ℕ → Type 0 where
   OfNoScript : (line : ℕ) → IsWatchNoScript input line → IsEmpty o → IsCutText N input o (script_fault_object line)
   OfStory : (watched : IsWatched N input o) → o.end ≡ None → IsCutText N input o (lines_of_watched watched)

@@ -11,8 +11,8 @@ use Rattle.fractal_watch.specs.Given.{front}
 use Rattle.fractal_watch.specs.Texts.{watch_status}
 use Rattle.fractal_watch.specs.Watched.{HasActs}
 
--- the status that is due to words and to bytes that are all there is; how the run stands at the end of its course is
--- told by its last line
+-- the status that is due to words and to bytes that are all there is; how the run stands at the end of its course the
+-- outcome tells
 pub data IsDueBehind (words : List (List ℕ)) (bytes : List ℕ) : ℕ → Type 0 where
   NoScript : (asking : Asking) (image : ImageValue) (behind : List ℕ) (line : ℕ)
       → BeginsWithImage front words bytes asking image behind → asking.course ≡ courses.Steps

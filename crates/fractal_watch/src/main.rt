@@ -1,7 +1,7 @@
 //! Shows the inside of the speculative machine: an image is run, or a script is played on it, and each act is told by a
 //! line of JSON once it is played, with the task that it is about, what that asked for, the reply, and which tasks were
-//! taken back. The image comes from standard input, and the lines go to standard output; so does one line that says
-//! what is wrong.
+//! taken back. Or nothing is told but, at the end, the data memory that the run leaves. The image comes from standard
+//! input, and the lines or the memory go to standard output; so does one line that says what is wrong.
 //!
 //! It stands on `watch_play`, on `watch_text` for the last line, on the readers of words, images and scripts, and on
 //! the definitions of `machine_run` for what a closed book leaves. The launcher or a tool calls it. It costs what the
