@@ -17,8 +17,7 @@ NUMBER = r"([\d,_]*\d)"
 PLACES: dict[str, tuple[tuple[str, str], ...]] = {
     "bytes of an input": (
         ("crates/program_call/specs/Call.antt", "^input_limit = #$"),
-        ("crates/fractal_sim/src/deciding.rt", "INPUT_LIMIT: usize = #;"),
-        ("crates/fractal_watch/src/finding.rt", "INPUT_LIMIT: usize = #;"),
+        ("crates/program_call/src/input.rt", "INPUT_LIMIT: usize = #;"),
         (ANSWERS, "^MOST_INPUT = #$"), ("tools/yotarimu/commands/lockstep.py", "^MOST_BYTES = #$"),
         ("tools/yotarimu/web/page/live.js", "MOST_INPUT = #"), ("fractal", "the input has more than # bytes"),
         (FORMATS, "the input has more than # bytes")),

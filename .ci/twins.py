@@ -20,14 +20,8 @@ TOKEN = re.compile(r"[^\W\d]\w*(?:['-]\w+)*|\d+|\"[^\"]*\"|[^\w\s]")
 # Where names are bound: parameters and lambdas. Fields and patterns of equations are bound too.
 PARAMETERS = re.compile(r"[({]((?:[^\W\d][\w']*\s+)*[^\W\d][\w']*)\s*:")
 LAMBDA = re.compile(r"λ\s*((?:[^\W\d][\w']*\s+)*[^\W\d][\w']*)\s*\.")
-OWN_WORDS = "each program has its own words; a front that is generic over their reader isn't made"
 # The pairs that are left, by name, with the reason for which each may stand. Take out those that are gone.
 MAY_BE = {
-    ("BeginsWithImage", "WatchBeginsWithImage"): OWN_WORDS,
-    ("IsComplete", "IsWatchComplete"): OWN_WORDS,
-    ("IsNoImage", "IsWatchNoImage"): OWN_WORDS,
-    ("IsUsage", "IsWatchUsage"): OWN_WORDS,
-    ("TellsSourceFault", "WatchTellsSourceFault"): OWN_WORDS,
     ("b_type", "i_type", "s_type"): "three formats of the manual, each with its registers and its immediate",
     ("after_accesses", "after_calls"): "two lists of unlike items, each made one after another",
     ("EndIsOne", "LeastIsOne"): "two laws that something is one, of unlike things",

@@ -45,11 +45,17 @@ fault_of_words() {
 # The same of words behind `watch`.
 fault_of_watch() {
     line=watch
-    if [ "$command" = views ]; then
-        fault_of_number views "$command" "${2-}" && return
-        line="$line views $2" command=${3-}
-        shift 2
-    fi
+    case $command in
+        memory)
+            line="$line memory" command=${2-}
+            shift
+            ;;
+        views)
+            fault_of_number views "$command" "${2-}" && return
+            line="$line views $2" command=${3-}
+            shift 2
+            ;;
+    esac
     row course "$command" || { fault_of_course && return; }
     line="$line $command"
     shift

@@ -178,6 +178,7 @@ def shells_are_helped(place: Place) -> None:
                                     ("fractal run --line ''", 3, "4 8 16 32 64"), ("fractal run --line = 6", 4, "64"),
                                     ("fractal load ''", 2, "walk nest"), ("fractal load walk 7 --ti", 4, "--tiles"),
                                     ("fractal watch l", 2, "least lockstep"), ("fractal watch views 3 s", 4, "steps"),
+                                    ("fractal watch m", 2, "memory"), ("fractal watch memory s", 3, "steps"),
                                     ("fractal watch least --ti", 3, "--tiles")):
         answer = place.call("/usr/bin/env", "bash", "-c", script.format(words, place_of))
         expect(answer.output.decode().split() == wanted.split(), f"completions of {words}", answer)

@@ -6,10 +6,12 @@ import json
 import os
 import random
 import shutil
+import struct
 import subprocess
 from collections.abc import Sequence
 
 from yotarimu.courses.agreement import replies_said, replies_told
+from yotarimu.images.image import HEADER, WINDOW_WORDS
 from yotarimu.programs.examples import SCHEDULES
 from yotarimu.programs.program import SECOND_PROGRAM
 from yotarimu.programs.table import Table
@@ -27,6 +29,14 @@ REFUSED = (
     ("watch views", "behind `views` stands a number from 1 to 4294967295."),
     ("watch views 0 least", "`0`"),
     ("watch views 3", "behind `watch views 3` stands steps"),
+    ("watch memory", "behind `watch memory` stands steps, least or lockstep"),
+    ("watch memory memory least", "behind `watch memory` stands", "`memory`"),
+    ("watch memory views 3 least", "behind `watch memory` stands", "`views`"),
+    ("watch views 3 memory least", "behind `watch views 3` stands", "`memory`"),
+    ("watch least memory", "no file stands behind `least`"),
+    ("watch memory lockstep 5", "behind `watch memory lockstep 5` stands a number from 0"),
+    ("watch memory steps both", "cat IMAGE SCRIPT | ", "fractal' watch memory steps"),
+    ("watch memory least --tiles 17", "`17`", "1 to 16"),
     ("watch lockstep", "a number from 1 to 1000000"),
     ("watch lockstep 1000001 1", "`1000001`"),
     ("watch lockstep 5", "behind `watch lockstep 5` stands a number from 0"),
@@ -37,6 +47,8 @@ REFUSED = (
     ("watch least --towers 1", "`--towers`"),
 )
 RANDOM_CALLS = 4_000
+# Where the window's offset and its words stand in an image.
+WINDOW_AT = 20
 # A script at the console, what stands in its answer, and the sentences on standard error.
 TYPED = b"""dispatch 0  # begins
 # Nothing but a comment.
@@ -126,8 +138,10 @@ def watch_words_are_told(place: Place) -> None:
 def watch_hands_on(place: Place) -> None:
     """words behind `watch` go to the second program as they are, and output and status are its own"""
     place.stub(place.second_program, 'for word in "$@"; do echo "[$word]"; done\nexit 4\n')
-    answer = place.call("fractal", "watch", "views", "2", "lockstep", "5", "7", "--tiles=3")
-    expect(answer == Answer(4, b"[views]\n[2]\n[lockstep]\n[5]\n[7]\n[--tiles=3]\n", ""), "the words", answer)
+    for leading in (["views", "2"], ["memory"]):
+        words = [*leading, "lockstep", "5", "7", "--tiles=3"]
+        answer = place.call("fractal", "watch", *words)
+        expect(answer == Answer(4, "".join(f"[{word}]\n" for word in words).encode(), ""), "the words", answer)
 
 
 def random_watch_words_agree(place: Place) -> None:
@@ -154,7 +168,8 @@ def judgements(place: Place, words: Sequence[str]) -> tuple[bool, bool]:
 
 def random_call(chance: random.Random, table: Table) -> list[str]:
     """The words of a call, of which about half are wrong."""
-    words = ["views", number(chance, 1, 2 ** 32 - 1)] if chance.random() < 0.3 else []
+    leading: tuple[list[str], ...] = ([], [], [], ["memory"], ["views", number(chance, 1, 2 ** 32 - 1)])
+    words = list(chance.choice(leading))
     course = chance.choice(list(table.course_rows))
     words.append(course)
     if course == "lockstep":
@@ -217,6 +232,44 @@ def schedules_are_watched(place: Place) -> None:
     answer = place.call("/bin/sh", "-c", '"$0" watch steps < both', str(place.clone / "fractal"))
     answer.sentence("line 2 of the script", "`halt` is no act", status=9)
     expect(answer.output == b'{"fault":"script","line":2}\n', "the second program's own words", answer)
+
+
+def memories_are_told(place: Place) -> None:
+    """`memory` tells all that a schedule or a run leaves, as windows of the first program do, and nothing else"""
+    place.needs_program()
+    place.needs_second_program()
+    for name in SCHEDULES:
+        folder = place.clone / "examples" / name
+        words, image = (folder / "words").read_text().split(), (folder / "image.bin").read_bytes()
+        script = (folder / "script").read_bytes()
+        answer = place.call("fractal", "watch", "memory", *words, stdin=image + script)
+        wanted = memory_by_windows(place, words, image, script)
+        expect(answer.errors == "" and (answer.status, answer.output) == wanted, f"the memory of {name}", answer)
+    for name, *options in (["hello"], ["nested", "--commits", "2"], ["trap"], ["shortest_paths"]):
+        image = image_of(place, name)
+        answer = place.call("fractal", "watch", "memory", "least", *options, stdin=image)
+        wanted = memory_by_windows(place, ["run", *options], image)
+        expect(answer.errors == "" and (answer.status, answer.output) == wanted, f"the memory of {name}", answer)
+    for course, given, status, line in (
+            ("steps", image_of(place, "hello") + b"halt\n", 9, b'{"fault":"script","line":1}\n'),
+            ("least", b"FRAC", 2, b'{"fault":"image","number":1,"offset":4}\n')):
+        answer = place.call("fractal", "watch", "memory", course, stdin=given)
+        expect((answer.status, answer.output) == (status, line), "a fault's line", answer)
+    answer = place.by_shell('"$0" watch memory least <"$1" >/dev/full',
+                            place.clone / "examples" / "hello" / "image.bin")
+    expect(answer.status == 7, "a sink that failed", answer)
+
+
+def memory_by_windows(place: Place, words: Sequence[str], image: bytes, behind: bytes = b"") -> tuple[int, bytes]:
+    """The status of a command, and the memory that it leaves, put together of windows that go along the data."""
+    size, status, memory = HEADER.unpack_from(image)[5], 0, b""
+    for offset in range(0, size or 1, 4 * WINDOW_WORDS):
+        window = struct.pack("<2I", offset, min(WINDOW_WORDS, (size - offset) // 4))
+        given = image[:WINDOW_AT] + window + image[WINDOW_AT + len(window):] + behind
+        answer = place.call("fractal", *words, stdin=given)
+        values = [int(line[-8:], 16) for line in answer.output.splitlines() if line.startswith(b"window ")]
+        status, memory = answer.status, memory + struct.pack(f"<{len(values)}I", *values)
+    return status, memory
 
 
 # ---- the console
@@ -352,6 +405,6 @@ def consoles_are_interrupted(place: Place) -> None:
 
 TRIES = (
     watch_words_are_told, watch_hands_on, random_watch_words_agree, options_of_watch_alone_may_be_words,
-    schedules_are_watched, acts_are_typed, orders_are_told,
+    schedules_are_watched, memories_are_told, acts_are_typed, orders_are_told,
     schedules_are_typed, pages_are_opened, no_file_is_lost, console_refuses_bad_words, consoles_are_interrupted,
 )

@@ -9,7 +9,6 @@ use Rattle.sim_io.specs.Parts.{TakesFront}
 use Rattle.sim_io.specs.Streams.{SinkState}
 use Rattle.guest_image.specs.ImageValue.{ImageValue}
 use Rattle.run_journal.specs.declared.end.End.{End}
-use Rattle.run_law.proofs.Proved.{lawful}
 use Rattle.serial_machine.specs.WholeRun.{IsRunOf}
 use Rattle.serial_machine.specs.declared.whole_run.SerialRun.{SerialRun}
 use Rattle.machine_run.specs.Played.{IsPlayedRun, IsTracedRun}
@@ -23,64 +22,67 @@ use Rattle.command_line.specs.declared.request.Request.{Request}
 use Rattle.fractal_sim.specs.declared.finding.Finding.{Finding}
 use Rattle.fractal_sim.specs.declared.finding.Finding.TheVariants as finding
 use Rattle.fractal_sim.specs.declared.finding.Loading.{Loading}
-use Rattle.program_call.specs.declared.outcome.Outcome.{Outcome}
-use Rattle.program_call.specs.Call.{Call, Input, input_limit}
-use Rattle.fractal_sim.specs.Given.{HasImage, IsRead, IsGenerated, ReadsAsAsked, ReadsImage}
-use Rattle.program_call.specs.Outcomes.{IsEmpty, closed_of}
-use Rattle.program_call.proofs.Reading.{read_some}
-use Rattle.fractal_sim.specs.Runs.{HoldsRunOfInput, HoldsRunOrNothing, HoldsLawfulRun, IsReported, RunsRead, RunsToEnd, StopsAtLimit, LoadsToEnd}
-use Rattle.fractal_sim.specs.Runs.{PlaysToEnd, TracesToEnd}
-use Rattle.fractal_sim.specs.declared.finding.Saving.{Saving}
-use Rattle.fractal_sim.specs.declared.finding.Saving.TheVariants as saving
 use Rattle.guest_image.specs.Writing.{image_bytes}
 use Rattle.resume_image.specs.Saved.{saved_image}
 use Rattle.spec_state.specs.declared.pending.Pending.{Pending}
+use Rattle.program_call.specs.declared.outcome.Outcome.{Outcome}
+use Rattle.program_call.specs.Call.{Call, Input}
+use Rattle.program_call.specs.Given.{ReadsAsAsked}
+use Rattle.program_call.specs.Outcomes.{closed_of}
+use Rattle.program_call.specs.Program.{IsDue, TellsOutcome}
+use Rattle.program_call.specs.Runs.{HoldsRunOfInput, HoldsRunOrNothing}
+use Rattle.program_call.proofs.Fronts.{holds_lawful}
+use Rattle.program_call.proofs.Reading.{left_alone, read_as_asked}
+use Rattle.fractal_sim.specs.declared.finding.Saving.{Saving}
+use Rattle.fractal_sim.specs.declared.finding.Saving.TheVariants as saving
+use Rattle.fractal_sim.specs.Given.{HasImage, IsRead, IsGenerated, front}
+use Rattle.fractal_sim.specs.Runs.{IsReported, RunsRead, RunsToEnd, StopsAtLimit, LoadsToEnd, PlaysToEnd, TracesToEnd}
 use Rattle.fractal_sim.specs.Checks.{IsAcceptedReport}
-use Rattle.fractal_sim.specs.Texts.{end_status, played_status, accepted_line, tasks_line, run_text, load_text, played_text}
+use Rattle.fractal_sim.specs.Texts.{end_status, played_status, accepted_line, tasks_line, run_text, load_text}
+use Rattle.fractal_sim.specs.Texts.{played_text}
 use Rattle.fractal_sim.specs.Answers as table
-use Rattle.fractal_sim.specs.Answers.{IsAnswer, HoldsRunSoFar, TellsOutcome}
+use Rattle.fractal_sim.specs.Answers.{IsAnswer}
+use Rattle.fractal_sim.specs.Program.{AnswersAndCounts, program}
 use Rattle.fractal_sim.specs.Deciding.{run_with_end, lists_of_traced, Saves}
-use Rattle.fractal_sim.specs.Finding.{saving_status, saving_text, IsStopped}
-use Rattle.fractal_sim.specs.Finding.{IsFound, IsRan, IsLoaded, IsPlayed, IsTraced, HoldsRun, OutcomeKeeps, status_by, status_of, text_of, TakesText, TellsFinding}
-use Rattle.fractal_sim.proofs.Found.{asked_for, left_alone}
+use Rattle.fractal_sim.specs.Finding.{IsFound, IsRan, IsLoaded, IsPlayed, IsStopped, IsTraced, HoldsRun}
+use Rattle.fractal_sim.specs.Finding.{OutcomeKeeps, TakesText, TellsFinding, saving_status, saving_text, status_by}
+use Rattle.fractal_sim.specs.Finding.{status_of, text_of}
+use Rattle.fractal_sim.proofs.Completing.{is_due}
+use Rattle.fractal_sim.proofs.Counting.{steps_told}
 
 -- ---- runs that are held
 
 -- an outcome that keeps a run of the image that the words ask for holds it
 abbrev holds_kept : (input : Input) (request : Request) (image : ImageValue) (run : SerialRun) (steps : Option ℕ) (o : Outcome) → HasImage input request image
-    → IsRunOf image request.settings.commits request.settings.budget run → HoldsRun run steps o → HoldsRunOfInput input o
+    → IsRunOf image request.settings.commits request.settings.budget run → HoldsRun run steps o → HoldsRunOfInput front HasImage input o
 holds_kept input request image run steps o given is_run kept = record {
-  request = request;
+  asked = request;
   image = image;
   given = given;
   run = subst (IsRunOf image request.settings.commits request.settings.budget) (sym kept.run_is) is_run;
 }
 
-abbrev ran_held : (input : Input) (image : ImageValue) (ran : Ran) (steps : Option ℕ) (o : Outcome) → IsRan input image ran steps → HoldsRun (run_with_end ran) steps o → HoldsRunOfInput input o
+abbrev ran_held : (input : Input) (image : ImageValue) (ran : Ran) (steps : Option ℕ) (o : Outcome) → IsRan input image ran steps → HoldsRun (run_with_end ran) steps o → HoldsRunOfInput front HasImage input o
 ran_held input image ran steps o found kept = holds_kept input found.request image (run_with_end ran) steps o (IsRead found.bytes_behind found.given) found.made.run kept
 
-abbrev stopped_held : (input : Input) (ran : Ran) (steps : Option ℕ) (made : Saving) (o : Outcome) → IsStopped input ran steps made → HoldsRun (run_with_end ran) steps o → HoldsRunOfInput input o
+abbrev stopped_held : (input : Input) (ran : Ran) (steps : Option ℕ) (made : Saving) (o : Outcome) → IsStopped input ran steps made → HoldsRun (run_with_end ran) steps o → HoldsRunOfInput front HasImage input o
 stopped_held input ran steps made o found kept = holds_kept input found.request found.image (run_with_end ran) steps o (IsRead found.bytes_behind found.given) found.stopped.run.run kept
 
 abbrev loaded_held : (input : Input) (load : Loading) (image : ImageValue) (ran : Ran) (steps : Option ℕ) (o : Outcome) → IsLoaded input load image ran steps → HoldsRun (run_with_end ran) steps o
-    → HoldsRunOfInput input o
+    → HoldsRunOfInput front HasImage input o
 loaded_held input load image ran steps o found kept =
     holds_kept input found.request image (run_with_end ran) steps o (IsGenerated load.load load.seed load.size found.given) found.made.run kept
 
-abbrev played_held : (input : Input) (image : ImageValue) (p : Played) (o : Outcome) → IsPlayed input image p → HoldsRun (run_with_end p.ran) (Some p.ran.closed.steps) o → HoldsRunOfInput input o
+abbrev played_held : (input : Input) (image : ImageValue) (p : Played) (o : Outcome) → IsPlayed input image p → HoldsRun (run_with_end p.ran) (Some p.ran.closed.steps) o → HoldsRunOfInput front HasImage input o
 played_held input image p o found kept =
     holds_kept input found.request image (run_with_end p.ran) (Some p.ran.closed.steps) o (IsRead found.bytes_behind found.given) found.made.run kept
 
-abbrev traced_held : (input : Input) (t : Traced) (o : Outcome) → IsTraced input t → HoldsRun (run_with_end t.ran) (Some t.ran.closed.steps) o → HoldsRunOfInput input o
+abbrev traced_held : (input : Input) (t : Traced) (o : Outcome) → IsTraced input t → HoldsRun (run_with_end t.ran) (Some t.ran.closed.steps) o → HoldsRunOfInput front HasImage input o
 traced_held input t o found kept =
     holds_kept input found.request found.image (run_with_end t.ran) (Some t.ran.closed.steps) o (IsRead found.bytes_behind found.given) found.made.run kept
 
-pub holds : (input : Input) (f : Finding) (o : Outcome) → IsFound input f → OutcomeKeeps f o → HoldsRunOrNothing input o
-holds input finding.Usage o found kept = inl kept
+pub holds : (input : Input) (f : Finding) (o : Outcome) → IsFound input f → OutcomeKeeps f o → HoldsRunOrNothing front HasImage input o
 holds input finding.Memory o found kept = inl kept
-holds input finding.Unread o found kept = inl kept
-holds input finding.Long o found kept = inl kept
-holds input (finding.NoImage fault) o found kept = inl kept
 holds input (finding.Refused line) o found kept = inl kept
 holds input (finding.NoScript line) o found kept = inl kept
 holds input (finding.Accepted closed) o found kept = inr (holds_kept input found.request found.image closed None o (IsRead found.bytes_behind found.given) found.run kept)
@@ -89,9 +91,6 @@ holds input (finding.Stopped ran steps made) o found kept = inr (stopped_held in
 holds input (finding.Loaded load image ran steps) o found kept = inr (loaded_held input load image ran steps o found kept)
 holds input (finding.Played image p) o found kept = inr (played_held input image p o found kept)
 holds input (finding.Traced t) o found kept = inr (traced_held input t o found kept)
-
-pub holds_lawful : (input : Input) (o : Outcome) → HoldsLawfulRun input o
-holds_lawful input o = λ h. lawful h.image h.request.settings.budget o.journal h.run.state h.run.is_run
 
 -- ---- runs to an end
 
@@ -170,11 +169,7 @@ traced_to_end input t o end is found kept =
 
 -- what was found, with its status and its text, is an answer
 answers : (input : Input) (f : Finding) (o : Outcome) (text : List ℕ) → IsFound input f → OutcomeKeeps f o → text_of f ≡ Some text → IsAnswer input o (status_of f) text
-answers input finding.Usage o text found kept is = subst (IsAnswer input o 1) (same_Some _ text is) (table.Usage found kept)
 answers input finding.Memory o text found kept is = let z : ⊥ = cc in absurd z
-answers input finding.Unread o text found kept is = let z : ⊥ = cc in absurd z
-answers input finding.Long o text found kept is = subst (IsAnswer input o 10) (same_Some _ text is) (table.Long found kept)
-answers input (finding.NoImage fault) o text found kept is = subst (IsAnswer input o 2) (same_Some _ text is) (table.NoImage fault found kept)
 answers input (finding.Refused line) o text found kept is = subst (IsAnswer input o 8) (same_Some _ text is) (table.Refused line found kept)
 answers input (finding.NoScript line) o text found kept is = subst (IsAnswer input o 9) (same_Some _ text is) (table.NoScript line found kept)
 answers input (finding.Accepted closed) o text found kept is =
@@ -225,110 +220,116 @@ answers input (finding.Traced t) o text found kept is = go t.ran.end refl is whe
 -- ---- what is told
 
 -- a finding with a text that was written
-took : (call : Call) (f : Finding) (o : Outcome) (text : List ℕ) → IsFound call.input f → OutcomeKeeps f o → text_of f ≡ Some text
-    → o.status ≡ status_of f → TakesText call.sink_before call.sink_after (text_of f) → TellsOutcome call o
+took : (call : Call) (f : Finding) (o : Outcome) (text : List ℕ) → IsFound call.input f → OutcomeKeeps f o
+    → text_of f ≡ Some text → o.status ≡ status_of f → TakesText call.sink_before call.sink_after (text_of f)
+    → TellsOutcome program call o
 took call f o text found kept is status written = inr (inr (inr record {
   text = text;
-  answer = subst (λ n. IsAnswer call.input o n text) (sym status) (answers call.input f o text found kept is);
+  answer = inr (subst (λ n. IsAnswer call.input o n text) (sym status) (answers call.input f o text found kept is));
   took = subst (TakesText call.sink_before call.sink_after) is written;
 }))
 
--- what was taken where an image was read
-was_read : (input : Input) (request : Request) (image : ImageValue) (rest : List ℕ) → ReadsImage input request image rest → ReadsAsAsked input
-was_read input request image rest given =
-    asked_for input request given.read.asked given.read.reads (read_some input.source_before input.source_after input_limit given.bytes given.read.read)
-
--- want of memory, where nothing was run
-ran_out : (call : Call) (o : Outcome) → IsEmpty o → o.status ≡ 5 → ReadsAsAsked call.input
-    → call.sink_after ≡ call.sink_before → TellsOutcome call o
-ran_out call o kept status read untouched = inl record { status_is = status; end = kept.end; held = inl kept; read = read; untouched = untouched }
-
 -- a run that is told by its end; without one, memory ran out
-by_end : (call : Call) (f : Finding) (o : Outcome) (text : End → List ℕ) (status : End → ℕ) (ran : Ran) (steps : Option ℕ)
-    → text_of f ≡ option_map text ran.end → status_of f ≡ status_by status ran.end → HoldsRunSoFar call.input o → HoldsRun (run_with_end ran) steps o
-    → ReadsAsAsked call.input → IsFound call.input f → OutcomeKeeps f o
-    → o.status ≡ status_of f → TakesText call.sink_before call.sink_after (text_of f) → TellsOutcome call o
-by_end call f o text status ran steps text_is status_is held holding read found kept s w = go ran.end refl where
-  go : (e : Option End) → ran.end ≡ e → TellsOutcome call o
+by_end : (call : Call) (f : Finding) (o : Outcome) (text : End → List ℕ) (status : End → ℕ) (ran : Ran)
+    (steps : Option ℕ) → text_of f ≡ option_map text ran.end → status_of f ≡ status_by status ran.end
+    → (held : HoldsRunOfInput front HasImage call.input o) → (held.asked.command ≡ commands.Check → ⊥)
+    → HoldsRun (run_with_end ran) steps o → ReadsAsAsked front call.input → IsFound call.input f → OutcomeKeeps f o
+    → o.status ≡ status_of f → TakesText call.sink_before call.sink_after (text_of f) → TellsOutcome program call o
+by_end call f o text status ran steps text_is status_is held makes holding read found kept s w = go ran.end refl where
+  go : (e : Option End) → ran.end ≡ e → TellsOutcome program call o
   go None is = inl record {
     status_is = s ∙ status_is ∙ ap (status_by status) is;
-    end = ap (λ c. c.end) holding.run_is ∙ is;
-    held = inr held;
-    read = read;
-    untouched = subst (TakesText call.sink_before call.sink_after) (text_is ∙ ap (option_map text) is) w;
+    want = inr record {
+      end = ap (λ c. c.end) holding.run_is ∙ is;
+      held = held;
+      makes = makes;
+      read = read;
+      untouched = subst (TakesText call.sink_before call.sink_after) (text_is ∙ ap (option_map text) is) w;
+    };
   }
   go (Some end) is = took call f o (text end) found kept (text_is ∙ ap (option_map text) is) s w
 
 -- what isn't a check
-no_check : (request : Request) (command : Command) → request.command ≡ command → (command ≡ commands.Check → ⊥) → request.command ≡ commands.Check → ⊥
+no_check : (request : Request) (command : Command) → request.command ≡ command → (command ≡ commands.Check → ⊥)
+    → request.command ≡ commands.Check → ⊥
 no_check request command is other check = other (sym is ∙ check)
 
 runs_no_check : (command : Command) → RunsRead command → command ≡ commands.Check → ⊥
 runs_no_check command runs check = subst RunsRead check runs
 
 -- where the sink didn't fail
-well_told : (call : Call) (f : Finding) (o : Outcome) → IsFound call.input f → OutcomeKeeps f o → o.status ≡ status_of f → TakesText call.sink_before call.sink_after (text_of f) → TellsOutcome call o
-well_told call finding.Usage o found kept s w = took call finding.Usage o _ found kept refl s w
-well_told call finding.Memory o found kept s w = ran_out call o kept s found w
-well_told call finding.Unread o found kept s w = inr (inl record { status_is = s; empty = kept; unread = found; untouched = w })
-well_told call finding.Long o found kept s w = took call finding.Long o _ found kept refl s w
-well_told call (finding.NoImage fault) o found kept s w = took call (finding.NoImage fault) o _ found kept refl s w
+well_told : (call : Call) (f : Finding) (o : Outcome) → IsFound call.input f → OutcomeKeeps f o
+    → o.status ≡ status_of f → TakesText call.sink_before call.sink_after (text_of f) → TellsOutcome program call o
+well_told call finding.Memory o found kept s w =
+    inl record { status_is = s; want = inl record { empty = kept; read = found; untouched = w } }
 well_told call (finding.Refused line) o found kept s w = took call (finding.Refused line) o _ found kept refl s w
 well_told call (finding.NoScript line) o found kept s w = took call (finding.NoScript line) o _ found kept refl s w
 well_told call (finding.Accepted closed) o found kept s w = took call (finding.Accepted closed) o _ found kept refl s w
 well_told call (finding.Ran image ran steps) o found kept s w =
-    let held : HoldsRunSoFar call.input o = record {
-      held = ran_held call.input image ran steps o found kept;
-      makes = runs_no_check found.request.command found.command;
-    } in
-    let read = was_read call.input found.request image found.bytes_behind found.given in
-    by_end call (finding.Ran image ran steps) o (run_text image (run_with_end ran)) end_status ran steps refl refl held kept read found kept s w
-well_told call (finding.Stopped ran steps made) o found kept s w = took call (finding.Stopped ran steps made) o _ found kept refl s w
+    let held = ran_held call.input image ran steps o found kept in
+    let read = read_as_asked front call.input found.request found.given.bytes found.given.read in
+    by_end call (finding.Ran image ran steps) o (run_text image (run_with_end ran)) end_status ran steps refl refl held
+    (runs_no_check found.request.command found.command) kept read found kept s w
+well_told call (finding.Stopped ran steps made) o found kept s w =
+    took call (finding.Stopped ran steps made) o _ found kept refl s w
 well_told call (finding.Loaded load image ran steps) o found kept s w =
-    let held : HoldsRunSoFar call.input o = record {
-      held = loaded_held call.input load image ran steps o found kept;
-      makes = no_check found.request (commands.Load load.load load.seed load.size) found.given.command (λ clash. cc);
-    } in
-    let read = left_alone call.input found.given.untouched in
-    by_end call (finding.Loaded load image ran steps) o (load_text load.load load.seed load.size image (run_with_end ran)) end_status ran steps refl refl held kept read found kept s w
+    let held = loaded_held call.input load image ran steps o found kept in
+    let read = left_alone front call.input found.given.untouched in
+    by_end call (finding.Loaded load image ran steps) o
+    (load_text load.load load.seed load.size image (run_with_end ran)) end_status ran steps refl refl held
+    (no_check found.request (commands.Load load.load load.seed load.size) found.given.command (λ clash. cc))
+    kept read found kept s w
 well_told call (finding.Played image p) o found kept s w =
-    let held : HoldsRunSoFar call.input o = record {
-      held = played_held call.input image p o found kept;
-      makes = no_check found.request commands.Steps found.command (λ clash. cc);
-    } in
-    let read = was_read call.input found.request image found.bytes_behind found.given in
-    by_end call (finding.Played image p) o (played_text p.said.items image (run_with_end p.ran)) played_status p.ran (Some p.ran.closed.steps) refl refl held kept read found kept s w
+    let held = played_held call.input image p o found kept in
+    let read = read_as_asked front call.input found.request found.given.bytes found.given.read in
+    by_end call (finding.Played image p) o (played_text p.said.items image (run_with_end p.ran)) played_status p.ran
+    (Some p.ran.closed.steps) refl refl held (no_check found.request commands.Steps found.command (λ clash. cc))
+    kept read found kept s w
 well_told call (finding.Traced t) o found kept s w =
-    let held : HoldsRunSoFar call.input o = record {
-      held = traced_held call.input t o found kept;
-      makes = no_check found.request commands.Trace found.command (λ clash. cc);
-    } in
-    let read = was_read call.input found.request found.image found.bytes_behind found.given in
-    by_end call (finding.Traced t) o (λ end. trace_text (lists_of_traced t)) (λ end. 0) t.ran (Some t.ran.closed.steps) refl refl held kept read found kept s w
+    let held = traced_held call.input t o found kept in
+    let read = read_as_asked front call.input found.request found.given.bytes found.given.read in
+    by_end call (finding.Traced t) o (λ end. trace_text (lists_of_traced t)) (λ end. 0) t.ran (Some t.ran.closed.steps)
+    refl refl held (no_check found.request commands.Trace found.command (λ clash. cc)) kept read found kept s w
 
 -- there is a text, of which the sink took a front
 record HasFront (old new : SinkState) (text : Option (List ℕ)) : Type 0 where
   whole_text : List ℕ
   is : text ≡ Some whole_text
-  front : TakesFront old new whole_text
+  taken : TakesFront old new whole_text
 
 front_of : (old new : SinkState) (text : Option (List ℕ)) → IsSomeAnd text (TakesFront old new) → HasFront old new text
 front_of old new None h = absurd h
-front_of old new (Some whole_text) h = record { whole_text = whole_text; is = refl; front = h }
+front_of old new (Some whole_text) h = record { whole_text = whole_text; is = refl; taken = h }
 
 -- what was found is told
-pub told : (call : Call) (f : Finding) (o : Outcome) → IsFound call.input f → TellsFinding f call.sink_before call.sink_after o → TellsOutcome call o
+told : (call : Call) (f : Finding) (o : Outcome) → IsFound call.input f
+    → TellsFinding f call.sink_before call.sink_after o → TellsOutcome program call o
 told call f o found tells = go (cases_eq o.status 7) where
-  go : (o.status ≡ 7) ⊎ (o.status ≢ 7) → TellsOutcome call o
+  go : (o.status ≡ 7) ⊎ (o.status ≢ 7) → TellsOutcome program call o
   go (inl seven) =
       let failed = tells.failed seven in
       let text = front_of call.sink_before call.sink_after (text_of f) failed.1 in
       inr (inr (inl record {
         status_is = seven;
-        status = status_of f;
         text = text.whole_text;
-        answer = answers call.input f o text.whole_text found tells.kept text.is;
-        took = text.front;
+        is_text = inr (status_of f, answers call.input f o text.whole_text found tells.kept text.is);
+        took = text.taken;
         failed = failed.0;
       }))
   go (inr other) = let well = tells.told other in well_told call f o found tells.kept well.0 well.1
+
+-- what was found and is told is an answer
+pub finding_answers : (call : Call) (f : Finding) (o : Outcome) → IsFound call.input f
+    → TellsFinding f call.sink_before call.sink_after o → AnswersAndCounts call o
+finding_answers call f o found tells = record {
+  answers = record {
+    run = holds call.input f o found tells.kept;
+    laws = holds_lawful program call.input o;
+    told = told call f o found tells;
+    complete = λ bytes known well.
+        let status : o.status ≡ status_of f = (tells.told (λ seven. well.sink (tells.failed seven).0)).0 in
+        subst (λ n. (n ≡ 5) ⊎ IsDue program call.input.words bytes n) (sym status)
+        (is_due call.input bytes f known found);
+  };
+  steps = steps_told call.input f o found tells.kept;
+}

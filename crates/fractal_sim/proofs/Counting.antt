@@ -38,7 +38,7 @@ counts_same : (words : List (List ℕ)) (a b : Request) → request_of_words wor
 counts_same words a b ha hb = subst (λ (r : Request). Counts r.settings.workers r.command) (sym (same_request words a b ha hb))
 
 -- an outcome without a run tells no count, and is empty
-none_told : (input : Input) (o : Outcome) → IsEmpty o → CountsEvents input o
+pub none_told : (input : Input) (o : Outcome) → IsEmpty o → CountsEvents input o
 none_told input o empty = record {
   made = subst (λ s. IfSome s (λ events. MakesRun input events (closed_of o))) (sym empty.steps) tt;
   told = λ request asked counts none. empty;
@@ -104,30 +104,26 @@ read_counts workers (commands.Load load seed size) runs counts = absurd runs
 
 -- what was found tells the events of its run
 pub steps_told : (input : Input) (f : Finding) (o : Outcome) → IsFound input f → OutcomeKeeps f o → CountsEvents input o
-steps_told input finding.Usage o found kept = none_told input o kept
 steps_told input finding.Memory o found kept = none_told input o kept
-steps_told input finding.Unread o found kept = none_told input o kept
-steps_told input finding.Long o found kept = none_told input o kept
-steps_told input (finding.NoImage fault) o found kept = none_told input o kept
 steps_told input (finding.Refused line) o found kept = none_told input o kept
 steps_told input (finding.NoScript line) o found kept = none_told input o kept
 steps_told input (finding.Accepted closed) o found kept = record {
   made = subst (λ s. IfSome s (λ events. MakesRun input events (closed_of o))) (sym kept.steps_is) tt;
   told = λ request asked counts none.
-      absurd (subst (Counts found.request.settings.workers) found.command (counts_same input.words found.request request found.given.read.asked asked counts));
+      absurd (subst (Counts found.request.settings.workers) found.command (counts_same input.words found.request request found.given.read.asks asked counts));
 }
 steps_told input (finding.Ran image ran steps) o found kept =
-    run_told input o found.request image ran steps found.given.read.asked (read_runs found.request.command found.command)
+    run_told input o found.request image ran steps found.given.read.asks (read_runs found.request.command found.command)
     (read_counts found.request.settings.workers found.request.command found.command) (IsRead found.bytes_behind found.given) found.made kept
 steps_told input (finding.Stopped ran steps made) o found kept =
-    run_told input o found.request found.image ran steps found.given.read.asked (subst RunsImage (sym found.command) tt)
+    run_told input o found.request found.image ran steps found.given.read.asks (subst RunsImage (sym found.command) tt)
     (subst (Counts found.request.settings.workers) found.command)
     (IsRead found.bytes_behind found.given) found.stopped.run kept
 steps_told input (finding.Loaded load image ran steps) o found kept =
     run_told input o found.request image ran steps found.given.asked (subst RunsImage (sym found.given.command) tt)
     (subst (Counts found.request.settings.workers) found.given.command) (IsGenerated load.load load.seed load.size found.given) found.made kept
 steps_told input (finding.Played image p) o found kept =
-    script_told input o found.request image (run_with_end p.ran) p.ran.closed.steps found.given.read.asked kept (go p.ran.end refl found.made.played) where
+    script_told input o found.request image (run_with_end p.ran) p.ran.closed.steps found.given.read.asks kept (go p.ran.end refl found.made.played) where
       plays : PlaysScript found.request.command
       plays = subst PlaysScript (sym found.command) tt
 
@@ -137,7 +133,7 @@ steps_told input (finding.Played image p) o found kept =
       go None is h = runs.ByPart found.bytes_behind found.made.script plays found.given found.made.script_is (found.made.part is)
       go (Some end) is h = runs.ByScript found.bytes_behind found.made.script p.said.items end plays found.given found.made.script_is h
 steps_told input (finding.Traced t) o found kept =
-    script_told input o found.request found.image (run_with_end t.ran) t.ran.closed.steps found.given.read.asked kept (go t.ran.end refl found.made.traced) where
+    script_told input o found.request found.image (run_with_end t.ran) t.ran.closed.steps found.given.read.asks kept (go t.ran.end refl found.made.traced) where
       plays : PlaysScript found.request.command
       plays = subst PlaysScript (sym found.command) tt
 

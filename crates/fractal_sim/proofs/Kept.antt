@@ -98,11 +98,7 @@ module _ (image : ImageValue) (settings : Settings) (placers : List Policy) (tap
       subst (λ (r : Ran). IsStoppedSo image settings placers taps r told made) (sym kept.0)
       (subst (λ t. IsStoppedSo image settings placers taps (record { closed = frozen.closed; end = Some ends.Limit })
       t made) (sym kept.1) (stopped_so made kept.2))
-  kept_is_saved finding.Usage kept = absurd kept
   kept_is_saved finding.Memory kept = absurd kept
-  kept_is_saved finding.Unread kept = absurd kept
-  kept_is_saved finding.Long kept = absurd kept
-  kept_is_saved (finding.NoImage fault) kept = absurd kept
   kept_is_saved (finding.Refused line) kept = absurd kept
   kept_is_saved (finding.NoScript line) kept = absurd kept
   kept_is_saved (finding.Accepted closed) kept = absurd kept
@@ -117,11 +113,7 @@ kept_is_writable image frozen steps (finding.Ran image' ran told) sized kept =
     subst (λ (r : Ran). length r.closed.memory ≡ image'.data_size) (sym kept.1)
     (subst (λ (i : ImageValue). length frozen.closed.memory ≡ i.data_size) (sym kept.0) sized)
 kept_is_writable image frozen steps (finding.Stopped ran told made) sized kept = tt
-kept_is_writable image frozen steps finding.Usage sized kept = tt
 kept_is_writable image frozen steps finding.Memory sized kept = tt
-kept_is_writable image frozen steps finding.Unread sized kept = tt
-kept_is_writable image frozen steps finding.Long sized kept = tt
-kept_is_writable image frozen steps (finding.NoImage fault) sized kept = tt
 kept_is_writable image frozen steps (finding.Refused line) sized kept = tt
 kept_is_writable image frozen steps (finding.NoScript line) sized kept = tt
 kept_is_writable image frozen steps (finding.Accepted closed) sized kept = tt

@@ -1,5 +1,5 @@
 -- A call of the program that plays a script and ends well.
-use Rattle.std.proofs.Common.{◌≡◌, inr, refl, [], ◌∷◌, codes, arith, Some, None, Err}
+use Rattle.std.proofs.Common.{◌≡◌, inl, inr, refl, [], ◌∷◌, codes, arith, Some, None, Err}
 use Rattle.guest_image.specs.Reading.{image_of}
 use Rattle.guest_image.specs.declared.fault.ImageFault.{ImageFault}
 use Rattle.guest_image.specs.declared.fault.ImageFault.TheVariants as faults
@@ -7,9 +7,10 @@ use Rattle.command_line.specs.declared.request.Command.TheVariants as commands
 use Rattle.command_line.specs.declared.request.Request.{Request}
 use Rattle.command_line.specs.Requests.{request_of_words, request_by, command_by, settings_by}
 use Rattle.program_call.specs.declared.outcome.Outcome.{Outcome}
-use Rattle.fractal_sim.specs.Answers as table
+use Rattle.program_call.specs.Answers as table
 use Rattle.program_call.specs.Call.{Call, Input}
-use Rattle.fractal_sim.specs.Given.{IsNoImage}
+use Rattle.program_call.specs.Given.{IsNoImage}
+use Rattle.fractal_sim.specs.Given.{front}
 use Rattle.program_call.specs.Outcomes.{IsEmpty}
 use Rattle.fractal_sim.specs.Texts.{image_fault_line}
 use Rattle.fractal_sim.specs.Twice.{ScriptCallsEndWell}
@@ -63,12 +64,12 @@ call = record {
 abbrev outcome : Outcome
 outcome = record { status = 2; journal = []; memory = []; output = []; end = None; steps = None }
 
-is_no_image : IsNoImage input fault
+is_no_image : IsNoImage front input fault
 is_no_image = record {
-  request = asked_for;
+  asked = asked_for;
   bytes = [];
   read = record {
-    asked = asks;
+    asks = asks;
     reads = tt;
     read = record { taken = refl; ended = refl; within = omega arith };
   };
@@ -87,7 +88,7 @@ script_calls_end_well = (
     same = record { words = refl; placers = refl; taps = refl; bytes = []; has = refl; other_has = refl };
     tells = inr (inr (inr record {
       text = image_fault_line fault;
-      answer = table.NoImage fault is_no_image is_empty;
+      answer = inl (is_empty, table.NoImage fault is_no_image);
       took = refl;
     }));
     well = record {

@@ -22,15 +22,19 @@ use Rattle.command_line.specs.Requests.{request_of_words}
 use Rattle.script_text.specs.Traces.{trace_text}
 use Rattle.program_call.specs.declared.outcome.Outcome.{Outcome}
 use Rattle.fractal_sim.specs.Answers as table
-use Rattle.fractal_sim.specs.Answers.{IsAnswer, TellsAnswer, TellsOutcome}
+use Rattle.fractal_sim.specs.Answers.{IsAnswer}
+use Rattle.program_call.specs.Answers as refusals
+use Rattle.program_call.specs.Answers.{IsRefused}
 use Rattle.program_call.specs.Call.{Call, Input, input_limit}
+use Rattle.program_call.specs.Program.{IsToldBy, TellsAnswer, TellsOutcome}
+use Rattle.fractal_sim.specs.Given.{front}
+use Rattle.fractal_sim.specs.Program.{program}
 use Rattle.fractal_sim.specs.Checks.{IsNoScriptAt}
 use Rattle.program_call.specs.Outcomes.{IsEmpty, closed_of}
-use Rattle.program_call.proofs.Reading.{past_all}
+use Rattle.program_call.proofs.Reading.{asks_all, begins, past_all}
 use Rattle.fractal_sim.specs.Runs.{IsReported, IsScript, PlaysScript}
 use Rattle.fractal_sim.specs.Texts.{image_fault_line, script_fault_line, played_status, played_text}
 use Rattle.fractal_sim.specs.Twice.{EndsWell, ScriptCallsAreOne}
-use Rattle.fractal_sim.proofs.Completing.{asks_all, begins}
 use Rattle.fractal_sim.proofs.Counting.{same_request}
 
 -- ---- what the bytes are
@@ -183,54 +187,58 @@ module _ (input : Input) (bytes : List ℕ) (request : Request) (o : Outcome)
   asks_so r command asks is = subst PlaysScript
       (ap (λ (q : Request). q.command) (sym (same_request input.words r request asks asked)) ∙ is) plays
 
-  -- what an answer says of the bytes
-  says : {n : ℕ} {text : List ℕ} → IsAnswer input o n text → Says input bytes request o n text
-  says (table.Usage usage empty) = absurd (let both : Some request ≡ None = sym asked ∙ usage.refused in cc (both))
-  says (table.Long long empty) = record {
+  -- what a refusal says of the bytes
+  refusal_says : {n : ℕ} {text : List ℕ} → IsEmpty o → IsRefused front input n text → Says input bytes request o n text
+  refusal_says empty (refusals.Usage usage) =
+      absurd (let both : Some request ≡ None = sym asked ∙ usage.refused in cc (both))
+  refusal_says empty (refusals.Long long) = record {
     verdict = TooLong;
     is_of = past_all bytes input.source_before input.source_after input_limit has long.past;
     tells = record { empty = empty; status_is = refl; text_is = refl };
   }
-  says (table.NoImage fault is empty) =
-      let all = asks_all input bytes is.bytes is.request (inl has) is.read in
+  refusal_says empty (refusals.NoImage fault is) =
+      let all = asks_all front input bytes is.bytes is.asked (inl has) is.read in
       record {
         verdict = NoImageThere fault;
         is_of = (all.within, ap image_of (sym all.same) ∙ is.fault_is);
         tells = record { empty = empty; status_is = refl; text_is = refl };
       }
-  says (table.Refused line is empty) = absurd (asks_so is.request commands.Check is.given.read.asked is.command)
+
+  -- what an answer says of the bytes
+  says : {n : ℕ} {text : List ℕ} → IsAnswer input o n text → Says input bytes request o n text
+  says (table.Refused line is empty) = absurd (asks_so is.request commands.Check is.given.read.asks is.command)
   says (table.NoScript line is empty) =
-      let begun = begins input bytes is.request is.image is.bytes_behind (inl has) is.given in
+      let begun = begins front input bytes is.request is.image is.bytes_behind (inl has) is.given in
       let rest = drop begun.size bytes in
       let behind : IsNoScriptAt is.request rest line =
-      subst (λ rest. IsNoScriptAt is.request rest line) begun.rest_is is.wrong in
-      let wrong = subst (λ r. IsNoScriptAt r rest line) (same_request input.words is.request request begun.asked asked)
+      subst (λ rest. IsNoScriptAt is.request rest line) begun.behind_is is.wrong in
+      let wrong = subst (λ r. IsNoScriptAt r rest line) (same_request input.words is.request request begun.asks asked)
       behind in
       record {
         verdict = NoScriptThere line;
         is_of = (begun.within, is.image, begun.size, begun.image_is, wrong);
         tells = record { empty = empty; status_is = refl; text_is = refl };
       }
-  says (table.Accepted is) = absurd (asks_so is.request commands.Check is.given.read.asked is.command)
+  says (table.Accepted is) = absurd (asks_so is.request commands.Check is.given.read.asks is.command)
   says (table.Ended image end is) =
       let command = is.request.command in
-      absurd (not_reported command end (asks_so is.request command is.given.read.asked refl) is.told)
+      absurd (not_reported command end (asks_so is.request command is.given.read.asks refl) is.told)
   says (table.Saved image pendings is rooted few) =
-      absurd (asks_so is.request commands.Save is.given.read.asked is.command)
+      absurd (asks_so is.request commands.Save is.given.read.asks is.command)
   says (table.Nested image pendings depth is deep over) =
-      absurd (asks_so is.request commands.Save is.given.read.asked is.command)
+      absurd (asks_so is.request commands.Save is.given.read.asks is.command)
   says (table.TooMany image pendings is rooted many) =
-      absurd (asks_so is.request commands.Save is.given.read.asked is.command)
+      absurd (asks_so is.request commands.Save is.given.read.asks is.command)
   says (table.Loaded load seed size image end is) =
       absurd (asks_so is.request (commands.Load load seed size) is.given.asked is.given.command)
   says (table.Played image said end is) =
-      let begun = begins input bytes is.request image is.bytes_behind (inl has) is.given in
-      let one = same_request input.words is.request request begun.asked asked in
+      let begun = begins front input bytes is.request image is.bytes_behind (inl has) is.given in
+      let one = same_request input.words is.request request begun.asks asked in
       let rest = drop begun.size bytes in
       let behind : IsScript is.request rest is.script =
-      subst (λ rest. IsScript is.request rest is.script) begun.rest_is is.script_is in
+      subst (λ rest. IsScript is.request rest is.script) begun.behind_is is.script_is in
       let script_is = subst (λ r. IsScript r rest is.script) one behind in
-      let valid = subst (λ (r : Request). IsValid r.settings) one is.given.limits.settings in
+      let valid = subst (λ (r : Request). IsValid r.settings) one is.given.within.settings in
       record {
         verdict = ScriptThere image is.script;
         is_of = (begun.within, begun.size, begun.image_is, script_is);
@@ -251,13 +259,13 @@ module _ (input : Input) (bytes : List ℕ) (request : Request) (o : Outcome)
         );
       }
   says (table.Traced image lists end is) =
-      let begun = begins input bytes is.request image is.bytes_behind (inl has) is.given in
-      let one = same_request input.words is.request request begun.asked asked in
+      let begun = begins front input bytes is.request image is.bytes_behind (inl has) is.given in
+      let one = same_request input.words is.request request begun.asks asked in
       let rest = drop begun.size bytes in
       let behind : IsScript is.request rest is.script =
-      subst (λ rest. IsScript is.request rest is.script) begun.rest_is is.script_is in
+      subst (λ rest. IsScript is.request rest is.script) begun.behind_is is.script_is in
       let script_is = subst (λ r. IsScript r rest is.script) one behind in
-      let valid = subst (λ (r : Request). IsValid r.settings) one is.given.limits.settings in
+      let valid = subst (λ (r : Request). IsValid r.settings) one is.given.within.settings in
       record {
         verdict = ScriptThere image is.script;
         is_of = (begun.within, begun.size, begun.image_is, script_is);
@@ -277,6 +285,11 @@ module _ (input : Input) (bytes : List ℕ) (request : Request) (o : Outcome)
           },
         );
       }
+
+  -- what is found says something of the bytes
+  found_says : {n : ℕ} {text : List ℕ} → IsToldBy program input o n text → Says input bytes request o n text
+  found_says (inl refused) = refusal_says refused.0 refused.1
+  found_says (inr answer) = says answer
 
 -- ---- what is told is one thing
 
@@ -362,7 +375,7 @@ module _ (o other : Outcome) (n m : ℕ) (text other_text : List ℕ) where
 -- ---- calls
 
 -- a call that ended well has an answer
-answered : (call : Call) (o : Outcome) → EndsWell o → TellsOutcome call o → TellsAnswer call o
+answered : (call : Call) (o : Outcome) → EndsWell o → TellsOutcome program call o → TellsAnswer program call o
 answered call o well (inl want) = absurd (well.memory want.status_is)
 answered call o well (inr (inl fault)) = absurd (well.source fault.status_is)
 answered call o well (inr (inr (inl fault))) = absurd (well.sink fault.status_is)
@@ -376,8 +389,8 @@ script_calls_are_one call other o other_o asks given tells other_tells well othe
     let request = asks.request in
     let input = call.input in
     let asked = ap request_of_words given.words ∙ asks.asked in
-    let one = says input bytes request o given.has asks.asked asks.plays first.answer in
-    let two = says other.input bytes request other_o given.other_has asked asks.plays second.answer in
+    let one = found_says input bytes request o given.has asks.asked asks.plays first.answer in
+    let two = found_says other.input bytes request other_o given.other_has asked asks.plays second.answer in
     let same_verdict : two.verdict ≡ one.verdict =
     verdict_one request bytes one.verdict two.verdict one.is_of two.is_of in
     let by_placers =

@@ -1,10 +1,7 @@
--- The table of answers: which status and which text tell an outcome, and why.
-use Rattle.std.specs.Prelude.{◌≡◌, ◌<◌, ◌≤◌, ◌⊎◌, ◌-◌, ◌^◌, ℕ, List, length, min, codes, None}
-use Rattle.sim_io.specs.Causes.{Rose}
-use Rattle.sim_io.specs.Parts.{SinkTakes, TakesFront}
+-- The table of answers: which status and which text tell what was found with an image, and why.
+use Rattle.std.specs.Prelude.{◌≡◌, ◌<◌, ◌≤◌, ◌-◌, ◌^◌, ℕ, List, length, min, None}
 use Rattle.guest_image.specs.ImageValue.{ImageValue}
 use Rattle.guest_image.specs.Writing.{image_bytes}
-use Rattle.guest_image.specs.declared.fault.ImageFault.{ImageFault}
 use Rattle.guest_image.specs.declared.limits.TheConstants.{MAX_TASKS}
 use Rattle.run_journal.specs.declared.end.End.{End}
 use Rattle.resume_image.specs.Pendings.{AreOfRoot, IsGreatestDepth}
@@ -16,19 +13,16 @@ use Rattle.command_line.specs.declared.request.Command.TheVariants.{Check}
 use Rattle.script_text.specs.Traces.{trace_text}
 use Rattle.program_call.specs.declared.outcome.Outcome.{Outcome}
 use Rattle.program_call.specs.Call.{Call, Input}
-use Rattle.fractal_sim.specs.Given.{ReadsAsAsked, IsUsage, IsUnread, IsLong, IsNoImage}
-use Rattle.fractal_sim.specs.Checks.{IsAcceptedReport, IsRefusedReport, IsNoScript}
+use Rattle.program_call.specs.Given.{ReadsAsAsked}
 use Rattle.program_call.specs.Outcomes.{IsEmpty, closed_of}
-use Rattle.fractal_sim.specs.Runs.{HoldsRunOfInput, RunsToEnd, StopsAtLimit, LoadsToEnd, PlaysToEnd}
-use Rattle.fractal_sim.specs.Runs.{TracesToEnd}
-use Rattle.fractal_sim.specs.Texts.{end_status, played_status, image_fault_line, journal_fault_line, script_fault_line}
-use Rattle.fractal_sim.specs.Texts.{accepted_line, nested_line, tasks_line, run_text, load_text, played_text}
+use Rattle.program_call.specs.Runs.{HoldsRunOfInput}
+use Rattle.fractal_sim.specs.Given.{HasImage, front}
+use Rattle.fractal_sim.specs.Checks.{IsAcceptedReport, IsRefusedReport, IsNoScript}
+use Rattle.fractal_sim.specs.Runs.{RunsToEnd, StopsAtLimit, LoadsToEnd, PlaysToEnd, TracesToEnd}
+use Rattle.fractal_sim.specs.Texts.{end_status, played_status, journal_fault_line, script_fault_line, accepted_line}
+use Rattle.fractal_sim.specs.Texts.{nested_line, tasks_line, run_text, load_text, played_text}
 
 pub data IsAnswer (input : Input) (o : Outcome) : ℕ → List ℕ → Type 0 where
-  Usage : IsUsage input → IsEmpty o → IsAnswer input o 1 (codes "fault usage\n")
-  Long : IsLong input → IsEmpty o → IsAnswer input o 10 (codes "fault long\n")
-  NoImage : (fault : ImageFault) → IsNoImage input fault → IsEmpty o
-      → IsAnswer input o 2 (image_fault_line fault)
   Refused : (line : ℕ) → IsRefusedReport input line → IsEmpty o → IsAnswer input o 8 (journal_fault_line line)
   NoScript : (line : ℕ) → IsNoScript input line → IsEmpty o → IsAnswer input o 9 (script_fault_line line)
   Accepted : IsAcceptedReport input (closed_of o) → IsAnswer input o 0 (accepted_line (length o.journal))
@@ -51,42 +45,15 @@ pub data IsAnswer (input : Input) (o : Outcome) : ℕ → List ℕ → Type 0 wh
   Traced : (image : ImageValue) (lists : List (List ℕ)) (end : End) → TracesToEnd input image lists end o
       → IsAnswer input o 0 (trace_text lists)
 
--- the status tells what was found, and the sink took the text that tells it and no other byte
-pub record TellsAnswer (call : Call) (o : Outcome) : Type 0 where
-  pub text : List ℕ
-  pub answer : IsAnswer call.input o o.status text
-  pub took : SinkTakes call.sink_before call.sink_after text
+-- the sink may have taken a part of a text that tells what was found
+abbrev pub IsCutAnswer : Input → Outcome → List ℕ → Type 0
+IsCutAnswer input o text = (status : ℕ) × IsAnswer input o status text
 
--- the sink failed (7): it took the first bytes of the text that tells what was found, and no other byte
-pub record TellsSinkFault (call : Call) (o : Outcome) : Type 0 where
-  pub status_is : o.status ≡ 7
-  pub status : ℕ
-  pub text : List ℕ
-  pub answer : IsAnswer call.input o status text
-  pub took : TakesFront call.sink_before call.sink_after text
-  pub failed : Rose call.sink_before.faults call.sink_after.faults
-
--- the source failed (6): the outcome is empty, and the sink was left alone
-pub record TellsSourceFault (call : Call) (o : Outcome) : Type 0 where
-  pub status_is : o.status ≡ 6
-  pub empty : IsEmpty o
-  pub unread : IsUnread call.input
-  pub untouched : call.sink_after ≡ call.sink_before
-
--- the outcome holds what a command that makes a run had run so far
-pub record HoldsRunSoFar (input : Input) (o : Outcome) : Type 0 where
-  pub held : HoldsRunOfInput input o
-  pub makes : held.request.command ≡ Check → ⊥
-
--- memory ran out (5): nothing more was read than the words ask for, nothing is held but a run so far, which has no end,
--- and the sink was left alone
-pub record TellsWant (call : Call) (o : Outcome) : Type 0 where
-  pub status_is : o.status ≡ 5
+-- memory ran out behind the beginning of a run: the outcome holds what a command that makes a run had run so far, which
+-- has no end, no more was read than the words ask for, and the sink was left alone
+pub record HoldsRunSoFar (call : Call) (o : Outcome) : Type 0 where
   pub end : o.end ≡ None
-  pub held : IsEmpty o ⊎ HoldsRunSoFar call.input o
-  pub read : ReadsAsAsked call.input
+  pub held : HoldsRunOfInput front HasImage call.input o
+  pub makes : held.asked.command ≡ Check → ⊥
+  pub read : ReadsAsAsked front call.input
   pub untouched : call.sink_after ≡ call.sink_before
-
--- what the status of an outcome says of the call
-abbrev pub TellsOutcome : Call → Outcome → Type 0
-TellsOutcome call o = TellsWant call o ⊎ TellsSourceFault call o ⊎ TellsSinkFault call o ⊎ TellsAnswer call o

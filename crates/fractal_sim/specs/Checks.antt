@@ -13,7 +13,8 @@ use Rattle.step_script.specs.Grammar.{acts_of}
 use Rattle.command_line.specs.declared.request.Command.TheVariants.{Check}
 use Rattle.command_line.specs.declared.request.Request.{Request}
 use Rattle.program_call.specs.Call.{Input}
-use Rattle.fractal_sim.specs.Given.{ReadsImage}
+use Rattle.program_call.specs.Given.{ReadsImage}
+use Rattle.fractal_sim.specs.Given.{front}
 use Rattle.fractal_sim.specs.Runs.{PlaysScript}
 
 -- the first wrong line of a report behind the image: the first outside the grammar, or else the first that isn't the
@@ -30,7 +31,7 @@ pub record IsAcceptedReport (input : Input) (closed : SerialRun) : Type 0 where
   pub image : ImageValue
   pub bytes_behind : List ℕ
   pub report : Report
-  pub given : ReadsImage input request image bytes_behind
+  pub given : ReadsImage front input request image bytes_behind
   pub command : request.command ≡ Check
   pub report_is : report_of bytes_behind ≡ Ok report
   pub accepted : IsReportOf image request.settings.commits request.settings.budget report
@@ -43,7 +44,7 @@ pub record IsRefusedReport (input : Input) (line : ℕ) : Type 0 where
   pub request : Request
   pub image : ImageValue
   pub bytes_behind : List ℕ
-  pub given : ReadsImage input request image bytes_behind
+  pub given : ReadsImage front input request image bytes_behind
   pub command : request.command ≡ Check
   pub wrong : IsWrongLine image request bytes_behind line
 
@@ -57,6 +58,6 @@ pub record IsNoScript (input : Input) (line : ℕ) : Type 0 where
   pub request : Request
   pub image : ImageValue
   pub bytes_behind : List ℕ
-  pub given : ReadsImage input request image bytes_behind
+  pub given : ReadsImage front input request image bytes_behind
   pub command : PlaysScript request.command
   pub wrong : IsNoScriptAt request bytes_behind line

@@ -1,5 +1,5 @@
 -- What is found before anything is written, and how it is told.
-use Rattle.std.specs.Prelude.{◌≡◌, ◌≢◌, ℕ, List, codes, length, Some, None, IfSome, IsSomeAnd, option_map}
+use Rattle.std.specs.Prelude.{◌≡◌, ◌≢◌, ℕ, List, length, Some, None, IfSome, IsSomeAnd, MatchResult, Result, option_map}
 use Rattle.std.specs.declared.option.Option.{Option}
 use Rattle.sim_io.specs.Causes.{Rose}
 use Rattle.sim_io.specs.Parts.{SinkTakes, TakesFront}
@@ -20,11 +20,13 @@ use Rattle.fractal_sim.specs.declared.finding.Saving.TheVariants as saving
 use Rattle.fractal_sim.specs.declared.finding.Finding.TheVariants as finding
 use Rattle.program_call.specs.declared.outcome.Outcome.{Outcome}
 use Rattle.program_call.specs.Call.{Input}
-use Rattle.fractal_sim.specs.Given.{ReadsImage, ReadsAsAsked, Generates, IsUsage, IsUnread, IsLong, IsNoImage}
+use Rattle.program_call.specs.declared.input.FrontFault.{FrontFault}
+use Rattle.program_call.specs.Given.{IsFrontFault, ReadsImage, ReadsAsAsked}
 use Rattle.program_call.specs.Outcomes.{IsEmpty, closed_of}
+use Rattle.fractal_sim.specs.Given.{Generates, front}
 use Rattle.fractal_sim.specs.Runs.{IsReported, RunsRead}
 use Rattle.fractal_sim.specs.Checks.{IsAcceptedReport, IsRefusedReport, IsNoScript}
-use Rattle.fractal_sim.specs.Texts.{end_status, played_status, image_fault_line, journal_fault_line, script_fault_line}
+use Rattle.fractal_sim.specs.Texts.{end_status, played_status, journal_fault_line, script_fault_line}
 use Rattle.fractal_sim.specs.Texts.{accepted_line, nested_line, tasks_line, run_text, load_text, played_text}
 use Rattle.fractal_sim.specs.Deciding.{run_with_end, lists_of_traced, IsRunSo, IsStoppedSo, IsPlayedSo, IsTracedSo}
 
@@ -34,7 +36,7 @@ use Rattle.fractal_sim.specs.Deciding.{run_with_end, lists_of_traced, IsRunSo, I
 pub record IsRan (input : Input) (image : ImageValue) (ran : Ran) (steps : Option ℕ) : Type 0 where
   pub request : Request
   pub bytes_behind : List ℕ
-  pub given : ReadsImage input request image bytes_behind
+  pub given : ReadsImage front input request image bytes_behind
   pub command : RunsRead request.command
   pub made : IsRunSo image request.settings input.placers input.taps ran steps
   pub told : IfSome ran.end (IsReported request.command)
@@ -44,7 +46,7 @@ pub record IsStopped (input : Input) (ran : Ran) (steps : Option ℕ) (made : Sa
   pub request : Request
   pub image : ImageValue
   pub bytes_behind : List ℕ
-  pub given : ReadsImage input request image bytes_behind
+  pub given : ReadsImage front input request image bytes_behind
   pub command : request.command ≡ Save
   pub stopped : IsStoppedSo image request.settings input.placers input.taps ran steps made
 
@@ -58,7 +60,7 @@ pub record IsLoaded (input : Input) (load : Loading) (image : ImageValue) (ran :
 pub record IsPlayed (input : Input) (image : ImageValue) (played : Played) : Type 0 where
   pub request : Request
   pub bytes_behind : List ℕ
-  pub given : ReadsImage input request image bytes_behind
+  pub given : ReadsImage front input request image bytes_behind
   pub command : request.command ≡ Steps
   pub made : IsPlayedSo request image bytes_behind input.placers input.taps played
 
@@ -67,17 +69,13 @@ pub record IsTraced (input : Input) (traced : Traced) : Type 0 where
   pub request : Request
   pub image : ImageValue
   pub bytes_behind : List ℕ
-  pub given : ReadsImage input request image bytes_behind
+  pub given : ReadsImage front input request image bytes_behind
   pub command : request.command ≡ Trace
   pub made : IsTracedSo request image bytes_behind input.placers input.taps traced
 
 -- why something was found
 abbrev pub IsFound : Input → Finding → Type 0
-IsFound input finding.Usage = IsUsage input
-IsFound input finding.Memory = ReadsAsAsked input
-IsFound input finding.Unread = IsUnread input
-IsFound input finding.Long = IsLong input
-IsFound input (finding.NoImage fault) = IsNoImage input fault
+IsFound input finding.Memory = ReadsAsAsked front input
 IsFound input (finding.Refused line) = IsRefusedReport input line
 IsFound input (finding.NoScript line) = IsNoScript input line
 IsFound input (finding.Accepted closed) = IsAcceptedReport input closed
@@ -86,6 +84,10 @@ IsFound input (finding.Stopped ran steps made) = IsStopped input ran steps made
 IsFound input (finding.Loaded load image ran steps) = IsLoaded input load image ran steps
 IsFound input (finding.Played image played) = IsPlayed input image played
 IsFound input (finding.Traced traced) = IsTraced input traced
+
+-- why it was, or why the call comes to no image
+abbrev pub IsFoundOrFault : Input → Result Finding FrontFault → Type 0
+IsFoundOrFault input found = MatchResult found (IsFound input) (IsFrontFault front input)
 
 -- ---- how it is told
 
@@ -108,11 +110,7 @@ saving_text (saving.TooMany count) = tasks_line count
 
 -- the status that tells what was found
 abbrev pub status_of : Finding → ℕ
-status_of finding.Usage = 1
 status_of finding.Memory = 5
-status_of finding.Unread = 6
-status_of finding.Long = 10
-status_of (finding.NoImage fault) = 2
 status_of (finding.Refused line) = 8
 status_of (finding.NoScript line) = 9
 status_of (finding.Accepted closed) = 0
@@ -122,13 +120,9 @@ status_of (finding.Loaded load image ran steps) = status_by end_status ran.end
 status_of (finding.Played image played) = status_by played_status played.ran.end
 status_of (finding.Traced traced) = status_by (λ end. 0) traced.ran.end
 
--- the text that tells what was found; none where memory ran out or the source failed
+-- the text that tells what was found; none where memory ran out
 abbrev pub text_of : Finding → Option (List ℕ)
-text_of finding.Usage = Some (codes "fault usage\n")
 text_of finding.Memory = None
-text_of finding.Unread = None
-text_of finding.Long = Some (codes "fault long\n")
-text_of (finding.NoImage fault) = Some (image_fault_line fault)
 text_of (finding.Refused line) = Some (journal_fault_line line)
 text_of (finding.NoScript line) = Some (script_fault_line line)
 text_of (finding.Accepted closed) = Some (accepted_line (length closed.journal))

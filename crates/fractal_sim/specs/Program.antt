@@ -1,16 +1,24 @@
--- What an answer of the program says of its call.
+-- What an answer of the program says of its call: what that of either program does, and what made the run.
 use Rattle.program_call.specs.declared.outcome.Outcome.{Outcome}
 use Rattle.program_call.specs.Call.{Call}
-use Rattle.fractal_sim.specs.Runs.{HoldsRunOrNothing, HoldsLawfulRun, CountsEvents}
-use Rattle.fractal_sim.specs.Answers.{TellsOutcome}
-use Rattle.fractal_sim.specs.Complete.{IsComplete}
+use Rattle.program_call.specs.Program.{Answers, Program}
+use Rattle.fractal_sim.specs.Answers.{HoldsRunSoFar, IsAnswer, IsCutAnswer}
+use Rattle.fractal_sim.specs.Complete.{IsDueBehind}
+use Rattle.fractal_sim.specs.Given.{HasImage, front}
+use Rattle.fractal_sim.specs.Runs.{CountsEvents}
 
--- a call is answered by an outcome: it is empty or holds a run, which meets the laws of runs; its count (`steps`)
--- is of the events that made this run; its status tells what was found, and the sink took the text that tells it,
--- or it tells what failed; and where no device failed the status is one that is due, or 5 for want of memory
-pub record Answers (call : Call) (o : Outcome) : Type 0 where
-  pub run : HoldsRunOrNothing call.input o
-  pub laws : HoldsLawfulRun call.input o
+-- the program: what it does with an image
+abbrev pub program : Program
+program = record {
+  front = front;
+  HasImage = HasImage;
+  IsAnswer = IsAnswer;
+  IsWantOnTheWay = HoldsRunSoFar;
+  IsCutText = IsCutAnswer;
+  IsDueBehind = IsDueBehind;
+}
+
+-- a call is answered as this program does, and the count (`steps`) is of the events that made the run
+pub record AnswersAndCounts (call : Call) (o : Outcome) : Type 0 where
+  pub answers : Answers program call o
   pub steps : CountsEvents call.input o
-  pub told : TellsOutcome call o
-  pub complete : IsComplete call o

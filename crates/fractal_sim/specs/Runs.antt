@@ -1,12 +1,11 @@
 -- Which run an outcome holds, and which events made it. `Brand` is the naming under which the program's runs are made.
-use Rattle.std.specs.Prelude.{◌≡◌, ◌≢◌, ◌⊎◌, ℕ, List, [], Some, None, Ok, IfSome}
+use Rattle.std.specs.Prelude.{◌≡◌, ◌≢◌, ℕ, List, Some, None, Ok, IfSome}
 use Rattle.std.specs.declared.marker.Brand.{Brand}
 use Rattle.guest_image.specs.ImageValue.{ImageValue}
 use Rattle.run_journal.specs.declared.end.End.{End}
 use Rattle.run_journal.specs.declared.end.End.TheVariants as ends
 use Rattle.serial_machine.specs.WholeRun.{IsRunOf}
 use Rattle.serial_machine.specs.declared.whole_run.SerialRun.{SerialRun}
-use Rattle.run_law.specs.Laws.{AreLawful}
 use Rattle.load_gen.specs.declared.making.Load.{Load}
 use Rattle.step_script.specs.declared.act.Act.{Act}
 use Rattle.step_script.specs.declared.saying.Said.{Said}
@@ -21,24 +20,9 @@ use Rattle.spec_state.specs.declared.pending.Pending.{Pending}
 use Rattle.spec_state.specs.Pendings.{RunLeaves}
 use Rattle.program_call.specs.declared.outcome.Outcome.{Outcome}
 use Rattle.program_call.specs.Call.{Input}
+use Rattle.program_call.specs.Given.{ReadsImage}
 use Rattle.program_call.specs.Outcomes.{IsEmpty, closed_of}
-use Rattle.fractal_sim.specs.Given.{ReadsImage, Generates, HasImage}
-
--- the outcome holds a run of the image that the words ask for, with their limits
-pub record HoldsRunOfInput (input : Input) (o : Outcome) : Type 0 where
-  pub request : Request
-  pub image : ImageValue
-  pub given : HasImage input request image
-  pub run : IsRunOf image request.settings.commits request.settings.budget (closed_of o)
-
--- the outcome is empty, or holds a run of the image that the words ask for
-abbrev pub HoldsRunOrNothing : Input → Outcome → Type 0
-HoldsRunOrNothing input o = IsEmpty o ⊎ HoldsRunOfInput input o
-
--- whatever run the outcome holds, it meets the laws of runs
-abbrev pub HoldsLawfulRun : Input → Outcome → Type 0
-HoldsLawfulRun input o =
-    (h : HoldsRunOfInput input o) → AreLawful h.image h.request.settings.budget o.journal h.run.state
+use Rattle.fractal_sim.specs.Given.{Generates, HasImage, front}
 
 -- ---- commands
 
@@ -82,7 +66,7 @@ IsReported other end = ⊥
 pub record RunsToEnd (input : Input) (image : ImageValue) (end : End) (run : SerialRun) : Type 0 where
   pub request : Request
   pub bytes_behind : List ℕ
-  pub given : ReadsImage input request image bytes_behind
+  pub given : ReadsImage front input request image bytes_behind
   pub told : IsReported request.command end
   pub is_run : IsRunOf image request.settings.commits request.settings.budget run
   pub end_is : run.end ≡ Some end
@@ -92,7 +76,7 @@ pub record RunsToEnd (input : Input) (image : ImageValue) (end : End) (run : Ser
 pub record StopsAtLimit (input : Input) (image : ImageValue) (pendings : List Pending) (run : SerialRun) : Type 0 where
   pub request : Request
   pub bytes_behind : List ℕ
-  pub given : ReadsImage input request image bytes_behind
+  pub given : ReadsImage front input request image bytes_behind
   pub command : request.command ≡ commands.Save
   pub is_run : IsRunOf image request.settings.commits request.settings.budget run
   pub end_is : run.end ≡ Some ends.Limit
@@ -115,7 +99,7 @@ IsScript request rest script = acts_of rest request.settings.tiles request.setti
 pub record PlaysToEnd (input : Input) (image : ImageValue) (said : List Said) (end : End) (o : Outcome) : Type 0 where
   pub request : Request
   pub bytes_behind : List ℕ
-  pub given : ReadsImage input request image bytes_behind
+  pub given : ReadsImage front input request image bytes_behind
   pub command : request.command ≡ commands.Steps
   pub script : List Act
   pub script_is : IsScript request bytes_behind script
@@ -130,7 +114,7 @@ pub record TracesToEnd (input : Input) (image : ImageValue) (lists : List (List 
     : Type 0 where
   pub request : Request
   pub bytes_behind : List ℕ
-  pub given : ReadsImage input request image bytes_behind
+  pub given : ReadsImage front input request image bytes_behind
   pub command : request.command ≡ commands.Trace
   pub script : List Act
   pub script_is : IsScript request bytes_behind script
@@ -149,11 +133,11 @@ pub data IsRunMadeBy (input : Input) (request : Request) (image : ImageValue) (e
       → IsLeastRun Brand image request.settings input.placers input.taps events run
       → IsRunMadeBy input request image events run
   ByScript : (bytes_behind : List ℕ) (script : List Act) (said : List Said) (end : End) → PlaysScript request.command
-      → ReadsImage input request image bytes_behind → IsScript request bytes_behind script
+      → ReadsImage front input request image bytes_behind → IsScript request bytes_behind script
       → IsPlayedRun Brand image request.settings script input.placers input.taps said events end run
       → IsRunMadeBy input request image events run
   ByPart : (bytes_behind : List ℕ) (script : List Act) → PlaysScript request.command
-      → ReadsImage input request image bytes_behind → IsScript request bytes_behind script
+      → ReadsImage front input request image bytes_behind → IsScript request bytes_behind script
       → IsPlayedInPart Brand image request.settings script input.placers input.taps events run
       → IsRunMadeBy input request image events run
 

@@ -4,8 +4,9 @@ use Rattle.sim_io.specs.Parts.{SinkTakes}
 use Rattle.command_line.specs.declared.request.Request.{Request}
 use Rattle.command_line.specs.Requests.{request_of_words}
 use Rattle.program_call.specs.declared.outcome.Outcome.{Outcome}
-use Rattle.fractal_sim.specs.Answers.{TellsOutcome}
 use Rattle.program_call.specs.Call.{Call}
+use Rattle.program_call.specs.Program.{TellsOutcome}
+use Rattle.fractal_sim.specs.Program.{program}
 use Rattle.fractal_sim.specs.Runs.{PlaysScript}
 
 -- the other call has the same words, placers and taps, and sources of the same bytes, which both tell
@@ -40,14 +41,14 @@ pub record AskForScript (words : List (List ℕ)) : Type 0 where
 -- the same
 abbrev pub ScriptCallsAreOne : Type 0
 ScriptCallsAreOne = (call other : Call) (o other_o : Outcome) → AskForScript call.input.words → AreGivenSame call other
-    → TellsOutcome call o → TellsOutcome other other_o → EndsWell o → EndsWell other_o
+    → TellsOutcome program call o → TellsOutcome program other other_o → EndsWell o → EndsWell other_o
     → AnswerSame call other o other_o
 
 -- a call that plays a script and ends well, of which the program tells this, and which was given the same as itself
 pub record EndsWellOnce (call : Call) (o : Outcome) : Type 0 where
   pub asks : AskForScript call.input.words
   pub same : AreGivenSame call call
-  pub tells : TellsOutcome call o
+  pub tells : TellsOutcome program call o
   pub well : EndsWell o
 
 -- there are calls that meet all premises of the law

@@ -1,11 +1,10 @@
 //! What the words and the input lead to, before anything is written.
 
-ghost use Rattle.std.specs.Prelude.{◌≡◌, ◌≤◌, ◌<◌, ◌-◌, ◌^◌, length, map, true};
-ghost use Rattle.guest_image.specs.Reading.{image_of};
+ghost use Rattle.std.specs.Prelude.{◌≡◌, ◌≤◌, ◌<◌, ◌-◌, ◌^◌, IfOk, length, map, true};
 ghost use Rattle.command_line.specs.Requests.{IsLimited};
 ghost use Rattle.program_call.specs.Call.{input_of};
 ghost use Rattle.fractal_sim.specs.Deciding.{IsFoundBehind};
-ghost use Rattle.fractal_sim.specs.Finding.{IsFound, IsWritable};
+ghost use Rattle.fractal_sim.specs.Finding.{IsFoundOrFault, IsWritable};
 ghost use Rattle.program_call.specs.Call.{input_limit};
 ghost use Rattle.fractal_sim.specs.Given.{Reads};
 
@@ -15,17 +14,15 @@ use crate::playing::{play_behind, trace_behind};
 use crate::running::{run_finding, run_image, run_load};
 use crate::saving::save_image;
 use command_line::{Command, Refusal, Request, read_words};
-use guest_image::{Image, ImageFault, read_image};
+use guest_image::Image;
 use place_policy::Placer;
-use sim_io::{ReadEnd, Source, read_all};
+use program_call::{FrontFault, Opened, read_input};
+use sim_io::Source;
 use std::alloc::Global;
 use std::sync::Wait;
 use std::thread::Threads;
 use tile_worker::Gate;
 use trace_tap::Tap;
-
-/// How many bytes an input has at most: 64 MiB.
-const INPUT_LIMIT: usize = 67_108_864;
 
 /// Reads the words and the input, and does what they ask for.
 pub(crate) fn find<
@@ -42,34 +39,28 @@ pub(crate) fn find<
     gate: &G,
     placers: Vec<P>,
     taps: Vec<T>,
-) -> Finding
+) -> Result<Finding, FrontFault>
     ensures found { let serving = map P.policy placers.items in
         let noting = map T.notes taps.items in
-        IsFound (input_of words.now serving noting (S.state source.old) (S.state source.new)) result }
-    ensures writable { IsWritable result }
+        IsFoundOrFault (input_of words.now serving noting (S.state source.old) (S.state source.new)) result }
+    ensures writable { IfOk result IsWritable }
 {
     let request = match read_words(alloc, words) {
         Ok(request) => request,
-        Err(Refusal::Usage) => return Finding::Usage,
-        Err(Refusal::Memory) => return Finding::Memory,
+        Err(Refusal::Usage) => return Err(FrontFault::Usage),
+        Err(Refusal::Memory) => return Err(FrontFault::Memory),
     };
     if let Command::Load { load, seed, size } = request.command {
         let load = Loading { load, seed, size };
-        return run_load(rt, alloc, load, request.settings, gate, placers, taps);
+        return Ok(run_load(rt, alloc, load, request.settings, gate, placers, taps));
     }
-    let bytes = match read_all(alloc, source, INPUT_LIMIT) {
-        Ok(bytes) => bytes,
-        Err(ReadEnd::Failed) => return Finding::Unread,
-        Err(ReadEnd::Long) => return Finding::Long,
-        Err(ReadEnd::Memory) => return Finding::Memory,
+    let opened = match read_input(alloc, source) {
+        Ok(opened) => opened,
+        Err(fault) => return Err(fault),
     };
-    let (image, size) = match read_image(alloc, &bytes) {
-        Ok(read) => read,
-        Err(ImageFault::Memory) => return Finding::Memory,
-        Err(fault) => return Finding::NoImage(fault),
-    };
+    let Opened { bytes, image, size } = opened;
     let (_, rest) = bytes.split_at(size);
-    find_behind(rt, alloc, request, image, rest, gate, placers, taps)
+    Ok(find_behind(rt, alloc, request, image, rest, gate, placers, taps))
 }
 
 /// Does what is asked for with an image and the bytes behind it.

@@ -1,6 +1,6 @@
-//! What is found before anything is written.
+//! What is found with an image before anything is written.
 
-use guest_image::{Image, ImageFault};
+use guest_image::Image;
 use load_gen::Load;
 use machine_run::{Played, Ran, Traced};
 use serial_machine::SerialRun;
@@ -27,19 +27,11 @@ pub(crate) enum Saving {
     TooMany(u32),
 }
 
-/// What is found before anything is written. No memory is taken from then on. As with a run, which it may have, it is
-/// handed on or taken apart.
+/// What is found with an image before anything is written. No memory is taken from then on. As with a run, which it may
+/// have, it is handed on or taken apart.
 pub(crate) enum Finding {
-    /// The words are refused.
-    Usage,
     /// Memory ran out before a run was made, or before a report was accepted or refused.
     Memory,
-    /// The source failed.
-    Unread,
-    /// The input is longer than what is read.
-    Long,
-    /// The input begins with no image.
-    NoImage(ImageFault),
     /// The report is refused at this line.
     Refused(u32),
     /// The script is refused at this line.

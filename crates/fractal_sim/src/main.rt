@@ -25,11 +25,11 @@ mod tests;
 
 use place_policy::{ByHint, LeastLoaded, Placer, RoundRobin};
 use program::top;
-use program_call::NO_MEMORY;
+use program_call::{exit_code, process_words, texts_of};
 use sim_io::{StdSink, StdSource};
 use std::alloc::{AllocError, Global};
-use std::env;
-use std::io::{ErrorKind, Read};
+use std::env::Env;
+use std::io::Read;
 use std::process::ExitCode;
 use std::sync::Wait;
 use std::thread::Threads;
@@ -40,42 +40,17 @@ use trace_tap::{LastN, LineProfile, Tap};
 const KEPT: u32 = 16;
 
 fn main(rt: HostRuntime) -> ExitCode {
-    let alloc = rt.alloc();
-    let mut args = match env::args(&rt) {
-        Ok(args) => args,
-        Err(error) if error.kind() == ErrorKind::OutOfMemory => return ExitCode::from(NO_MEMORY),
-        // A word that is no UTF-8 is refused as one that is not known.
-        Err(_) => return status(answer(&rt, &[])),
-    };
-    let _ = args.next();
-    let mut owned = Vec::new(alloc);
-    for arg in args {
-        if owned.push(arg).is_err() {
-            return ExitCode::from(NO_MEMORY);
-        }
-    }
-    let mut words = Vec::new(alloc);
-    for word in &owned {
-        if words.push(word.as_str()).is_err() {
-            return ExitCode::from(NO_MEMORY);
-        }
-    }
-    status(answer(&rt, &words))
+    exit_code(answer(&rt))
 }
 
-fn status(answered: Result<u8, AllocError>) -> ExitCode {
-    match answered {
-        Ok(status) => ExitCode::from(status),
-        Err(_) => ExitCode::from(NO_MEMORY),
-    }
-}
-
-/// Does what the words ask for, on the standard streams, and tells the exit status.
-fn answer<I: Read + Drop, R: Threads + Wait + Sync + Alloc<A = Global> + Input<Reader = I> + Print>(
-    rt: &R,
-    words: &[&str],
-) -> Result<u8, AllocError> {
+/// Does what the words of the process ask for, on the standard streams, and tells the exit status.
+fn answer<
+    I: Read + Drop,
+    R: Threads + Wait + Sync + Env + Alloc<A = Global> + Input<Reader = I> + Print,
+>(rt: &R) -> Result<u8, AllocError> {
     let alloc = rt.alloc();
+    let owned = process_words(rt)?;
+    let words = texts_of(alloc, &owned)?;
     let mut placers: Vec<Box<dyn Placer + Send>> = Vec::new(alloc);
     placers.push(Box::new(alloc, ByHint::new())?)?;
     placers.push(Box::new(alloc, LeastLoaded::new())?)?;
@@ -88,7 +63,7 @@ fn answer<I: Read + Drop, R: Threads + Wait + Sync + Alloc<A = Global> + Input<R
     let outcome = top(
         rt,
         alloc,
-        words,
+        &words,
         &mut source,
         &mut sink,
         &OpenGate,

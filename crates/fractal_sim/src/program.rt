@@ -2,10 +2,10 @@
 
 ghost use Rattle.std.specs.Prelude.{map};
 ghost use Rattle.program_call.specs.Call.{call_on, input_of};
-ghost use Rattle.fractal_sim.specs.Program.{Answers};
+ghost use Rattle.fractal_sim.specs.Program.{AnswersAndCounts};
 
 use crate::deciding::find;
-use crate::telling::tell;
+use crate::telling::{tell, tell_fault};
 use place_policy::Placer;
 use program_call::Outcome;
 use sim_io::{Sink, Source};
@@ -44,8 +44,10 @@ pub fn top<R: Threads + Wait + Sync, S: Source, K: Sink, G: Gate + Sync>(
     ensures answers { let serving = map ⟦<Box<dyn Placer + Send> as Placer>⟧.policy placers.items in
         let noting = map ⟦<Box<dyn Tap + Send> as Tap>⟧.notes taps.items in
         let input = input_of words.now serving noting (S.state source.old) (S.state source.new) in
-        Answers (call_on input (K.state sink.old) (K.state sink.new)) result }
+        AnswersAndCounts (call_on input (K.state sink.old) (K.state sink.new)) result }
 {
-    let found = find(rt, alloc, words, source, gate, placers, taps);
-    tell(alloc, sink, found)
+    match find(rt, alloc, words, source, gate, placers, taps) {
+        Ok(found) => tell(alloc, sink, found),
+        Err(fault) => tell_fault(alloc, sink, fault),
+    }
 }

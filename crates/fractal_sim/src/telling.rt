@@ -1,7 +1,11 @@
 //! What was found is written, and told by a status. Nothing here takes memory.
 
 ghost use Rattle.std.specs.Prelude.{◌≡◌, ◌≢◌, ◌<◌, ◌-◌, ◌^◌};
+ghost use Rattle.program_call.specs.Answers.{TellsFrontFault};
+ghost use Rattle.program_call.specs.Outcomes.{TellsLine};
 ghost use Rattle.fractal_sim.specs.Finding.{IsWritable, TellsFinding};
+ghost use Rattle.fractal_sim.specs.Given.{front};
+ghost use Rattle.fractal_sim.specs.Texts.{image_fault_line};
 
 use crate::finding::Finding;
 use crate::lines::{image_line, journal_line, script_line};
@@ -10,8 +14,8 @@ use crate::publishing::{
 };
 use guest_image::ImageFault;
 use program_call::{
-    IMAGE_FAULT, LONG, NO_MEMORY, Outcome, REPORT_FAULT, SCRIPT_FAULT, SOURCE_FAULT, USAGE,
-    tell_line,
+    FrontFault, IMAGE_FAULT, LONG, NO_MEMORY, Outcome, REPORT_FAULT, SCRIPT_FAULT, SOURCE_FAULT,
+    USAGE, tell_line,
 };
 use sim_io::Sink;
 use std::alloc::Global;
@@ -22,11 +26,7 @@ pub(crate) fn tell<K: Sink>(alloc: Global, sink: &mut K, found: Finding) -> Outc
     ensures { TellsFinding found (K.state sink.old) (K.state sink.new) result }
 {
     match found {
-        Finding::Usage => tell_line(alloc, sink, USAGE, b"fault usage\n"),
         Finding::Memory => Outcome::empty(alloc, NO_MEMORY),
-        Finding::Unread => Outcome::empty(alloc, SOURCE_FAULT),
-        Finding::Long => tell_line(alloc, sink, LONG, b"fault long\n"),
-        Finding::NoImage(fault) => tell_image_fault(alloc, sink, fault),
         Finding::Refused(line) => tell_journal_fault(alloc, sink, line),
         Finding::NoScript(line) => tell_script_fault(alloc, sink, line),
         Finding::Accepted(closed) => accept(sink, closed),
@@ -38,8 +38,21 @@ pub(crate) fn tell<K: Sink>(alloc: Global, sink: &mut K, found: Finding) -> Outc
     }
 }
 
+/// Writes why a call comes to no image. The status is 7 where the sink fails.
+pub(crate) fn tell_fault<K: Sink>(alloc: Global, sink: &mut K, fault: FrontFault) -> Outcome
+    ensures { TellsFrontFault front fault (K.state sink.old) (K.state sink.new) result }
+{
+    match fault {
+        FrontFault::Usage => tell_line(alloc, sink, USAGE, b"fault usage\n"),
+        FrontFault::Memory => Outcome::empty(alloc, NO_MEMORY),
+        FrontFault::Unread => Outcome::empty(alloc, SOURCE_FAULT),
+        FrontFault::Long => tell_line(alloc, sink, LONG, b"fault long\n"),
+        FrontFault::NoImage(fault) => tell_image_fault(alloc, sink, fault),
+    }
+}
+
 fn tell_image_fault<K: Sink>(alloc: Global, sink: &mut K, fault: ImageFault) -> Outcome
-    ensures { TellsFinding (Finding.NoImage fault) (K.state sink.old) (K.state sink.new) result }
+    ensures { TellsLine IMAGE_FAULT (image_fault_line fault) (K.state sink.old) (K.state sink.new) result }
 {
     let line = image_line(fault);
     tell_line(alloc, sink, IMAGE_FAULT, line.as_slice())

@@ -1,5 +1,5 @@
 -- A course behind its opening.
-use Rattle.std.proofs.Common.{◌≡◌, inl, List, [], length, refl, sym, subst, append-nil, Err}
+use Rattle.std.proofs.Common.{◌≡◌, inl, List, [], length, refl, sym, subst, Err}
 use Rattle.sim_io.specs.Parts.{TakesFront}
 use Rattle.sim_io.specs.Streams.{SinkState}
 use Rattle.spec_state.specs.declared.settings.Settings.{Settings}
@@ -10,7 +10,7 @@ use Rattle.watch_play.specs.declared.stop.StoryStop.TheVariants as stops
 use Rattle.watch_play.specs.Courses.{course_word, first_stage}
 use Rattle.watch_play.specs.Stories.{begun}
 use Rattle.watch_play.specs.Telling.{HasStory, Plan, Tells, TellsOpening}
-use Rattle.watch_play.specs.Texts.{opening_lines}
+use Rattle.watch_play.proofs.Tellings.{lines_begin}
 use Rattle.watch_text.specs.declared.head.CourseWord.{CourseWord}
 use Rattle.watch_text.specs.declared.head.CourseWord.TheVariants as courses
 use Rattle.fractal_watch.specs.Watched.{course_of}
@@ -38,11 +38,9 @@ module _ (N : Type 0) (plan : Plan) (opening : BookView) where
       → TellsOpening plan opening before after (Err stop) → Tells N plan opening book before after (Err stop)
   opening_stopped book before after stops.Memory same told =
       record { moments = []; story = nothing_yet book same; took = inl (refl, told) }
-  opening_stopped book before after stops.Sink same told =
-      let lines = opening_lines plan.course plan.settings plan.image opening.view in
-      record {
-        moments = [];
-        story = nothing_yet book same;
-        took = subst (TakesFront before after) (sym (append-nil lines)) told.0;
-        rose = told.1;
-      }
+  opening_stopped book before after stops.Sink same told = record {
+    moments = [];
+    story = nothing_yet book same;
+    took = subst (TakesFront before after) (sym (lines_begin N plan opening)) told.0;
+    rose = told.1;
+  }

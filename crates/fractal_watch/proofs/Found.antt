@@ -1,4 +1,4 @@
--- What was taken where a call read its input, and that a script has no more acts than bytes.
+-- A script has no more acts than bytes.
 use Rattle.std.specs.Prelude.{IfOk}
 use Rattle.std.proofs.Common.{◌≡◌, ℕ, ◌+◌, ◌^◌, ◌<◌, ◌≤◌, ◌==◌, List, [], ◌∷◌, length, ap, arith}
 use Rattle.std.proofs.Common.{Result, Ok, Err, Bool, true, false, if◌then◌else◌, Some, None}
@@ -6,22 +6,7 @@ use Rattle.std.specs.declared.option.Option.{Option}
 use Rattle.step_script.specs.declared.act.Act.{Act}
 use Rattle.step_script.specs.Grammar.{act_in, acts_at, acts_of, after_act}
 use Rattle.text_lines.specs.Lines.{lines_of, onto}
-use Rattle.program_call.specs.Call.{Input, input_limit}
-use Rattle.program_call.proofs.Reading.{read_some}
-use Rattle.fractal_watch.specs.declared.words.Asking.{Asking}
-use Rattle.fractal_watch.specs.Given.{WatchReadsAsAsked, WatchReadsInput}
-
--- ---- reading
-
--- what was taken where the words ask for a course
-pub read_as_asked : (input : Input) (asking : Asking) (bytes : List ℕ) → WatchReadsInput input asking bytes
-    → WatchReadsAsAsked input
-read_as_asked input asking bytes h = record {
-  read = read_some input.source_before input.source_after input_limit bytes h.read;
-  untouched = λ none. absurd (cc (none, h.asked));
-}
-
--- ---- how many acts a script has
+use Rattle.program_call.specs.Call.{input_limit}
 
 onto_few : (x : ℕ) (ls : List (List ℕ)) → length (onto x ls) ≤ length ls + 1
 onto_few x [] = omega arith

@@ -1,5 +1,4 @@
 pub mod Answering
-pub mod Completing
 pub mod Coursed
 pub mod Ended
 pub mod Found

@@ -5,9 +5,9 @@ use Rattle.std.specs.declared.option.Option.{Option}
 use Rattle.guest_image.specs.ImageValue.{ImageValue}
 use Rattle.place_policy.specs.Policy.{Policy}
 use Rattle.run_journal.specs.declared.end.End.{End}
-use Rattle.run_law.proofs.Proved.{lawful}
 use Rattle.serial_machine.specs.WholeRun.{IsRunOf}
 use Rattle.serial_machine.specs.declared.whole_run.SerialRun.{SerialRun}
+use Rattle.sim_io.specs.Causes.{Rose}
 use Rattle.sim_io.specs.Parts.{SinkTakes, TakesFront}
 use Rattle.sim_io.specs.Streams.{SinkState}
 use Rattle.sim_io.proofs.Fronts.{SinkTakes-trans, TakesFront-then}
@@ -22,40 +22,43 @@ use Rattle.watch_play.specs.declared.stop.StoryStop.{StoryStop}
 use Rattle.watch_play.specs.declared.stop.StoryStop.TheVariants as stops
 use Rattle.watch_play.specs.Telling.{HasStory, IsAllTold, Tells}
 use Rattle.watch_text.specs.Moments.{Moment}
-use Rattle.watch_text.specs.Views.{last_line}
 use Rattle.program_call.specs.declared.outcome.Outcome.{Outcome}
 use Rattle.program_call.specs.Outcomes.{IsEmpty, closed_of}
-use Rattle.program_call.specs.Call.{Input}
+use Rattle.program_call.specs.Call.{Input, call_on}
+use Rattle.program_call.specs.Given.{ReadsImage}
+use Rattle.program_call.specs.Program.{Answers, IsComplete, TellsOutcome}
+use Rattle.program_call.specs.Runs.{HoldsRunOrNothing}
+use Rattle.program_call.proofs.Fronts.{holds_lawful, want_answers}
+use Rattle.program_call.proofs.Reading.{begins, read_as_asked}
 use Rattle.fractal_watch.specs.declared.words.Asking.{Asking}
-use Rattle.fractal_watch.specs.Answers.{OfEnd, OfStory}
+use Rattle.fractal_watch.specs.Answers as table
+use Rattle.fractal_watch.specs.Answers.{IsAnswer, IsPlayed, OfEnd, OfStory}
 use Rattle.fractal_watch.specs.Closing.{EndCut, EndTold, EndUntold, StoryFinishes, IsClosedAs, stop_status}
-use Rattle.fractal_watch.specs.Given.{WatchReadsImage}
-use Rattle.fractal_watch.specs.Runs.{WatchHoldsLawfulRun, WatchHoldsRunOrNothing}
-use Rattle.fractal_watch.specs.Telling.{TellsBookOf, TellsRun, TellsRunOf}
-use Rattle.fractal_watch.proofs.Found.{read_as_asked}
+use Rattle.fractal_watch.specs.Closing.{text_of_closed}
+use Rattle.fractal_watch.specs.Complete as due
+use Rattle.fractal_watch.specs.Complete.{IsDueBehind}
+use Rattle.fractal_watch.specs.Given.{HasImage, front}
+use Rattle.fractal_watch.specs.Program.{program}
+use Rattle.fractal_watch.specs.Telling.{TellsBookOf, TellsRunOf}
+use Rattle.fractal_watch.specs.Texts.{end_text, watch_status}
 use Rattle.fractal_watch.specs.Watched.{HasActs, IsWatched, lines_of_watched, plan_of, text_of_watched}
 
--- whatever run an outcome holds is lawful
-pub holds_lawful : (input : Input) (o : Outcome) → WatchHoldsLawfulRun input o
-holds_lawful input o = λ h. lawful h.image h.asking.request.settings.budget o.journal h.run.state h.run.is_run
-
 module _ (N : Type 0) (input : Input) (asking : Asking) (image : ImageValue) (behind : List ℕ)
-    (given : WatchReadsImage input asking image behind) (script : List Act)
+    (given : ReadsImage front input asking image behind) (script : List Act)
     (script_is : HasActs asking.course asking behind script) (opening : BookView)
     (is_opening : IsOpening image asking.request.settings input.placers [] opening) (book : BookView)
     (commits budget : ℕ) (same_commits : asking.request.settings.commits ≡ commits)
     (same_budget : asking.request.settings.budget ≡ budget) where
   -- the run that was closed is held
   held : (status : ℕ) (end : Option End) (o : Outcome) → IsClosedAs image commits budget book status end o
-      → WatchHoldsRunOrNothing input o
+      → HoldsRunOrNothing front HasImage input o
   held status end o c =
       let run : IsRunOf image commits budget (closed_of o) =
       subst (IsRunOf image commits budget) (sym c.holds.run_is) c.run in
       inr record {
-        asking = asking;
+        asked = asking;
         image = image;
-        behind = behind;
-        given = given;
+        given = (behind, given);
         run = subst (λ most. IsRunOf image most asking.request.settings.budget (closed_of o)) (sym same_commits)
             (subst (λ most. IsRunOf image commits most (closed_of o)) (sym same_budget) run);
       }
@@ -81,13 +84,13 @@ module _ (N : Type 0) (input : Input) (asking : Asking) (image : ImageValue) (be
     steps_is = c.holds.steps_is;
   }
 
-  -- the last line of what was closed is that of what is held
-  same_line : (status : ℕ) (told : Option End) (end : End) (o : Outcome)
+  -- what comes at the end of what was closed is that of what is held
+  same_text : (status : ℕ) (told : Option End) (end : End) (o : Outcome)
       (c : IsClosedAs image commits budget book status told o)
-      → last_line image end c.closed.steps (length c.closed.journal) c.closed.output c.closed.memory
-      ≡ last_line image end c.closed.steps (length o.journal) o.output o.memory
-  same_line status told end o c =
-      ap (λ (r : SerialRun). last_line image end c.closed.steps (length r.journal) r.output r.memory)
+      → text_of_closed asking.telling image c.closed end
+      ≡ end_text asking.telling image end c.closed.steps (length o.journal) o.output o.memory
+  same_text status told end o c =
+      ap (λ (r : SerialRun). end_text asking.telling image end c.closed.steps (length r.journal) r.output r.memory)
       (sym c.holds.run_is)
 
   -- the end that is told
@@ -95,87 +98,87 @@ module _ (N : Type 0) (input : Input) (asking : Asking) (image : ImageValue) (be
       → o.end ≡ end
   same_end status end o c = ap (λ (r : SerialRun). r.end) c.holds.run_is
 
-  -- a course that was told to its end, and the last line
+  -- an outcome that holds a run which was closed answers
+  answer_of : (before after : SinkState) (status : ℕ) (end : Option End) (o : Outcome)
+      → IsClosedAs image commits budget book status end o → TellsOutcome (program N) (call_on input before after) o
+      → IsComplete (program N) (call_on input before after) o → Answers (program N) (call_on input before after) o
+  answer_of before after status end o c told complete = record {
+    run = held status end o c;
+    laws = holds_lawful (program N) input o;
+    told = told;
+    complete = complete;
+  }
+
+  -- a course that was told to its end, and what comes there
   pub finished_tells : (before between after : SinkState) (o : Outcome)
       → IsAllTold N (plan_of asking image script) opening book before between
-      → StoryFinishes image commits budget book between after o → TellsRun N input before after o
+      → StoryFinishes image commits budget asking.telling book between after o
+      → Answers (program N) (call_on input before after) o
   finished_tells before between after o told (EndTold end c stands took) =
       let w = watched _ _ o told.moments told.story c in
-      let line = last_line image end c.closed.steps (length o.journal) o.output o.memory in
-      let last : SinkTakes between after line = subst (SinkTakes between after) (same_line _ _ end o c) took in
-      record {
-        holds = held _ _ o c;
-        lawful = holds_lawful input o;
-        tells = inr (inr record {
-          watched = w;
-          through = told.through;
-          end = end;
-          stands = stands;
-          end_is = same_end _ _ o c;
-          status_is = c.holds.status_is;
-          took = SinkTakes-trans before between after (lines_of_watched w) line told.took last;
-        });
-      }
+      let ending = end_text asking.telling image end c.closed.steps (length o.journal) o.output o.memory in
+      let last : SinkTakes between after ending = subst (SinkTakes between after) (same_text _ _ end o c) took in
+      let played : IsPlayed w end = record { through = told.through; stands = stands } in
+      let answer = table.Played w end played (same_end _ _ o c) in
+      answer_of before after _ _ o c
+      (inr (inr (inr record {
+        text = text_of_watched w end;
+        answer = inr (subst (λ s. IsAnswer N input o s (text_of_watched w end)) (sym c.holds.status_is) answer);
+        took = SinkTakes-trans before between after (lines_of_watched w) ending told.took last;
+      })))
+      (λ bytes known well.
+      let begun = begins front input bytes asking image behind known given in
+      inr (inr (subst (IsDueBehind input.words bytes) (sym c.holds.status_is)
+      (due.Played asking image behind script end begun script_is))))
   finished_tells before between after o told (EndUntold c same) =
-      let took = subst (λ s. SinkTakes before s (lines_of_watched (watched _ _ o told.moments told.story c))) (sym same)
-      told.took in
-      record {
-        holds = held _ _ o c;
-        lawful = holds_lawful input o;
-        tells = inl record {
-          status_is = c.holds.status_is;
-          want = inr record {
-            watched = watched _ _ o told.moments told.story c;
-            end_is = same_end _ _ o c;
-            took = inr (inl took);
-          };
-        };
-      }
+      let w = watched _ _ o told.moments told.story c in
+      let took = subst (λ s. SinkTakes before s (lines_of_watched w)) (sym same) told.took in
+      answer_of before after _ _ o c
+      (inl record {
+        status_is = c.holds.status_is;
+        want = inr record { watched = w; end_is = same_end _ _ o c; took = inr (inl took) };
+      })
+      (λ bytes known well. inl c.holds.status_is)
   finished_tells before between after o told (EndCut end c stands took rose) =
       let w = watched _ _ o told.moments told.story c in
-      let line = last_line image end c.closed.steps (length o.journal) o.output o.memory in
-      let last : TakesFront between after line = subst (TakesFront between after) (same_line _ _ end o c) took in
-      record {
-        holds = held _ _ o c;
-        lawful = holds_lawful input o;
-        tells = inr (inl record {
-          status_is = c.holds.status_is;
-          end_is = same_end _ _ o c;
-          text = text_of_watched w end;
-          cut = OfEnd w end stands told.through;
-          took = TakesFront-then before between after (lines_of_watched w) line told.took last;
-          failed = omega (arith, told.later, rose);
-        });
-      }
+      let ending = end_text asking.telling image end c.closed.steps (length o.journal) o.output o.memory in
+      let last : TakesFront between after ending = subst (TakesFront between after) (same_text _ _ end o c) took in
+      let played : IsPlayed w end = record { through = told.through; stands = stands } in
+      let failed : Rose before.faults after.faults = omega (arith, told.later, rose) in
+      answer_of before after _ _ o c
+      (inr (inr (inl record {
+        status_is = c.holds.status_is;
+        text = text_of_watched w end;
+        is_text = inr (OfEnd w end played (same_end _ _ o c));
+        took = TakesFront-then before between after (lines_of_watched w) ending told.took last;
+        failed = failed;
+      })))
+      (λ bytes known well. absurd (well.sink failed))
 
   -- a course that was told in part
   pub stopped_tells : (before after : SinkState) (stop : StoryStop) (o : Outcome)
       → Tells N (plan_of asking image script) opening book before after (Err stop)
-      → IsClosedAs image commits budget book (stop_status stop) None o → TellsRun N input before after o
-  stopped_tells before after stops.Memory o told c = record {
-    holds = held _ _ o c;
-    lawful = holds_lawful input o;
-    tells = inl record {
-      status_is = c.holds.status_is;
-      want = inr record {
-        watched = watched _ _ o told.moments told.story c;
-        end_is = same_end _ _ o c;
+      → IsClosedAs image commits budget book (stop_status stop) None o
+      → Answers (program N) (call_on input before after) o
+  stopped_tells before after stops.Memory o told c =
+      let w = watched _ _ o told.moments told.story c in
+      answer_of before after _ _ o c
+      (inl record {
+        status_is = c.holds.status_is;
+        want = inr record { watched = w; end_is = same_end _ _ o c; took = told.took };
+      })
+      (λ bytes known well. inl c.holds.status_is)
+  stopped_tells before after stops.Sink o told c =
+      let w = watched _ _ o told.moments told.story c in
+      answer_of before after _ _ o c
+      (inr (inr (inl record {
+        status_is = c.holds.status_is;
+        text = lines_of_watched w;
+        is_text = inr (OfStory w (same_end _ _ o c));
         took = told.took;
-      };
-    };
-  }
-  stopped_tells before after stops.Sink o told c = record {
-    holds = held _ _ o c;
-    lawful = holds_lawful input o;
-    tells = inr (inl record {
-      status_is = c.holds.status_is;
-      end_is = same_end _ _ o c;
-      text = lines_of_watched (watched _ _ o told.moments told.story c);
-      cut = OfStory (watched _ _ o told.moments told.story c);
-      took = told.took;
-      failed = told.rose;
-    });
-  }
+        failed = told.rose;
+      })))
+      (λ bytes known well. absurd (well.sink told.rose))
 
 -- ---- an image that is to be watched
 
@@ -194,22 +197,12 @@ pub book_tells : (N : Type 0) (image named : ImageValue) (asking : Asking) (scri
     → TellsRunOf N image asking script placers before after o
 book_tells N image named asking script placers opening before after o same is_opening tells =
     λ input behind same_placers given script_is.
-    tells input behind (subst (λ i. WatchReadsImage input asking i behind) same given) script_is
+    tells input behind (subst (λ i. ReadsImage front input asking i behind) same given) script_is
     (subst (λ p. IsOpening named asking.request.settings p [] opening) (sym same_placers) is_opening)
 
 -- or memory ran out for one
 pub want_tells : (N : Type 0) (image : ImageValue) (asking : Asking) (script : List Act) (placers : List Policy)
     (sink : SinkState) (o : Outcome) → o.status ≡ 5 → IsEmpty o
     → TellsRunOf N image asking script placers sink sink o
-want_tells N image asking script placers sink o is empty = λ input behind same_placers given script_is. record {
-  holds = inl empty;
-  lawful = holds_lawful input o;
-  tells = inl record {
-    status_is = is;
-    want = inl record {
-      empty = empty;
-      read = read_as_asked input asking given.bytes given.read;
-      untouched = refl;
-    };
-  };
-}
+want_tells N image asking script placers sink o is empty = λ input behind same_placers given script_is.
+    want_answers (program N) input sink sink o is empty (read_as_asked front input asking given.bytes given.read) refl

@@ -1,5 +1,5 @@
--- A watched run is closed, and its last line is told.
-use Rattle.std.specs.Prelude.{◌≡◌, ℕ, List, length, None, Some, Result, Ok, Err}
+-- A watched run is closed, and its last line is told, or the memory that it leaves.
+use Rattle.std.specs.Prelude.{◌≡◌, ℕ, List, length, None, Some}
 use Rattle.std.specs.declared.option.Option.{Option}
 use Rattle.guest_image.specs.ImageValue.{ImageValue}
 use Rattle.run_journal.specs.declared.closed.Closed.{Closed}
@@ -14,10 +14,10 @@ use Rattle.machine_run.specs.Least.{run_of_closed}
 use Rattle.machine_run.specs.Played.{StandsAt}
 use Rattle.watch_play.specs.declared.stop.StoryStop.{StoryStop}
 use Rattle.watch_play.specs.declared.stop.StoryStop.TheVariants as stops
-use Rattle.watch_text.specs.Views.{last_line}
+use Rattle.watch_play.specs.declared.telling.Telling.{Telling}
 use Rattle.program_call.specs.declared.outcome.Outcome.{Outcome}
 use Rattle.program_call.specs.Outcomes.{closed_of}
-use Rattle.fractal_watch.specs.Texts.{watch_status}
+use Rattle.fractal_watch.specs.Texts.{end_text, watch_status}
 
 -- the status of a story that ended before its course did
 abbrev pub stop_status : StoryStop → ℕ
@@ -38,21 +38,20 @@ pub record IsClosedAs (image : ImageValue) (commits budget : ℕ) (book : BookVi
   pub run : IsRunOf image commits budget (run_of_closed closed end)
   pub holds : HoldsClosed closed status end o
 
--- the last line was told, or not, by what is answered
-abbrev pub TellsEnd : List ℕ → SinkState → SinkState → Result (Unit {0}) StoryStop → Type 0
-TellsEnd text before after (Ok done) = SinkTakes before after text
-TellsEnd text before after (Err stops.Memory) = after ≡ before
-TellsEnd text before after (Err stops.Sink) = TakesFront before after text × Rose before.faults after.faults
+-- what comes at the end of a run that was closed so
+abbrev pub text_of_closed : Telling → ImageValue → Closed → End → List ℕ
+text_of_closed telling image closed end =
+    end_text telling image end closed.steps (length closed.journal) closed.output closed.memory
 
--- a book whose story was told is closed, and its last line is told; or memory runs out for that, or the sink fails
-pub data StoryFinishes (image : ImageValue) (commits budget : ℕ) (book : BookView) (before after : SinkState)
-    (o : Outcome)
-    : Type 0 where
+-- a book whose story was told is closed, and what comes at its end is told; or memory runs out for that, or the sink
+-- fails
+pub data StoryFinishes (image : ImageValue) (commits budget : ℕ) (telling : Telling) (book : BookView)
+    (before after : SinkState) (o : Outcome) : Type 0 where
   EndTold : (end : End) (c : IsClosedAs image commits budget book (watch_status end) (Some end) o)
-      → StandsAt book.view end → SinkTakes before after (last_line image end c.closed.steps (length c.closed.journal)
-      c.closed.output c.closed.memory) → StoryFinishes image commits budget book before after o
+      → StandsAt book.view end → SinkTakes before after (text_of_closed telling image c.closed end)
+      → StoryFinishes image commits budget telling book before after o
   EndUntold : IsClosedAs image commits budget book 5 None o → after ≡ before
-      → StoryFinishes image commits budget book before after o
+      → StoryFinishes image commits budget telling book before after o
   EndCut : (end : End) (c : IsClosedAs image commits budget book 7 None o) → StandsAt book.view end
-      → TakesFront before after (last_line image end c.closed.steps (length c.closed.journal) c.closed.output
-      c.closed.memory) → Rose before.faults after.faults → StoryFinishes image commits budget book before after o
+      → TakesFront before after (text_of_closed telling image c.closed end) → Rose before.faults after.faults
+      → StoryFinishes image commits budget telling book before after o

@@ -2,7 +2,6 @@
 pub mod Words
 pub mod Given
 pub mod Texts
-pub mod Runs
 pub mod Watched
 pub mod Answers
 pub mod Complete

@@ -1,16 +1,16 @@
--- What an answer of the program says of its call.
-use Rattle.std.specs.declared.marker.Brand.{Brand}
-use Rattle.program_call.specs.declared.outcome.Outcome.{Outcome}
-use Rattle.program_call.specs.Call.{Call}
-use Rattle.fractal_watch.specs.Runs.{WatchHoldsLawfulRun, WatchHoldsRunOrNothing}
-use Rattle.fractal_watch.specs.Answers.{WatchTellsOutcome}
-use Rattle.fractal_watch.specs.Complete.{IsWatchComplete}
+-- The program: what it does with an image. What an answer says of its call is said of both programs.
+use Rattle.program_call.specs.Program.{Program}
+use Rattle.fractal_watch.specs.Answers.{IsAnswer, IsCutText, IsWantOnTheWay}
+use Rattle.fractal_watch.specs.Complete.{IsDueBehind}
+use Rattle.fractal_watch.specs.Given.{HasImage, front}
 
--- a call is answered by an outcome: it is empty or holds a run, which meets the laws of runs; its status tells what was
--- found, and the sink took the text that tells it, of a course its story's lines and how the run stands, or it tells
--- what failed; and where no device failed the status is one that is due, or 5 for want of memory
-pub record WatchAnswers (call : Call) (o : Outcome) : Type 0 where
-  pub run : WatchHoldsRunOrNothing call.input o
-  pub laws : WatchHoldsLawfulRun call.input o
-  pub told : WatchTellsOutcome Brand call o
-  pub complete : IsWatchComplete call o
+-- the program, whose runs are made under a naming
+abbrev pub program : Type 0 → Program
+program N = record {
+  front = front;
+  HasImage = HasImage;
+  IsAnswer = IsAnswer N;
+  IsWantOnTheWay = IsWantOnTheWay N;
+  IsCutText = IsCutText N;
+  IsDueBehind = IsDueBehind;
+}

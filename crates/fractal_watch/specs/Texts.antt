@@ -1,9 +1,13 @@
 -- The texts and the statuses that tell what was found.
 use Rattle.std.specs.Prelude.{ℕ, List, ◌++◌, codes, decimal}
 use Rattle.guest_image.specs.Fault.{fault_number, fault_offset}
+use Rattle.guest_image.specs.ImageValue.{ImageValue}
 use Rattle.guest_image.specs.declared.fault.ImageFault.{ImageFault}
 use Rattle.run_journal.specs.declared.end.End.{End}
 use Rattle.run_journal.specs.declared.end.End.TheVariants as ends
+use Rattle.watch_play.specs.declared.telling.Telling.{Telling}
+use Rattle.watch_play.specs.declared.telling.Telling.TheVariants as tellings
+use Rattle.watch_text.specs.Views.{last_line}
 
 -- the status of a course that was played to its end: it may leave a run that isn't over
 abbrev pub watch_status : End → ℕ
@@ -11,6 +15,11 @@ watch_status ends.Normal = 0
 watch_status (ends.Trap name cause pc) = 3
 watch_status ends.Limit = 4
 watch_status ends.Unfinished = 0
+
+-- what comes at the end of a run that stands so: where its memory is told, that and nothing else, else the last line
+abbrev pub end_text : Telling → ImageValue → End → (events commits : ℕ) → (output memory : List ℕ) → List ℕ
+end_text tellings.Memory image end events commits output memory = memory
+end_text other image end events commits output memory = last_line image end events commits output memory
 
 abbrev pub usage_line : List ℕ
 usage_line = codes "{\"fault\":\"usage\"}\n"

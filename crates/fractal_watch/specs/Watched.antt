@@ -9,7 +9,6 @@ use Rattle.step_script.specs.declared.act.Act.{Act}
 use Rattle.watch_text.specs.declared.head.CourseWord.{CourseWord}
 use Rattle.watch_text.specs.declared.head.CourseWord.TheVariants as courses
 use Rattle.watch_text.specs.Moments.{Moment}
-use Rattle.watch_text.specs.Views.{last_line}
 use Rattle.watch_play.specs.Courses.{Course, OfLeast, OfRounds, OfScript}
 use Rattle.watch_play.specs.Telling.{HasStory, Plan, lines_by}
 use Rattle.spec_state.specs.declared.settings.Settings.{Settings}
@@ -17,7 +16,9 @@ use Rattle.program_call.specs.declared.outcome.Outcome.{Outcome}
 use Rattle.program_call.specs.Outcomes.{closed_of}
 use Rattle.program_call.specs.Call.{Input}
 use Rattle.fractal_watch.specs.declared.words.Asking.{Asking}
-use Rattle.fractal_watch.specs.Given.{IsWatchScript, WatchReadsImage}
+use Rattle.program_call.specs.Given.{ReadsImage}
+use Rattle.fractal_watch.specs.Given.{IsWatchScript, front}
+use Rattle.fractal_watch.specs.Texts.{end_text}
 
 -- the course of a word, with the acts of its script
 abbrev pub course_of : CourseWord → Settings → List Act → Course
@@ -31,7 +32,7 @@ plan_of asking image script = record {
   course = course_of asking.course asking.request.settings script;
   settings = asking.request.settings;
   image = image;
-  each = asking.each;
+  telling = asking.telling;
 }
 
 -- the acts of the script behind the image; none where the course has no script
@@ -45,7 +46,7 @@ pub record IsWatched (N : Type 0) (input : Input) (o : Outcome) : Type 0 where
   pub asking : Asking
   pub image : ImageValue
   pub behind : List ℕ
-  pub given : WatchReadsImage input asking image behind
+  pub given : ReadsImage front input asking image behind
   pub script : List Act
   pub script_is : HasActs asking.course asking behind script
   pub opening : BookView
@@ -61,7 +62,8 @@ pub record IsWatched (N : Type 0) (input : Input) (o : Outcome) : Type 0 where
 abbrev pub lines_of_watched : {N : Type 0} {input : Input} {o : Outcome} → IsWatched N input o → List ℕ
 lines_of_watched w = lines_by (plan_of w.asking w.image w.script) w.opening w.moments
 
--- and the last line, where the run stands so
+-- and what comes at the end, where the run stands so: where its memory is told, the text is the memory that the outcome
+-- holds
 abbrev pub text_of_watched : {N : Type 0} {input : Input} {o : Outcome} → IsWatched N input o → End → List ℕ
 text_of_watched {N} {input} {o} w end =
-    lines_of_watched w ++ last_line w.image end w.events (length o.journal) o.output o.memory
+    lines_of_watched w ++ end_text w.asking.telling w.image end w.events (length o.journal) o.output o.memory

@@ -1,6 +1,6 @@
 -- What the words ask for.
 use denote.Ref.{Bor}
-use Rattle.std.specs.Prelude.{ℕ, ◌^◌, ◌-◌, ◌≤◌, List, [], ◌∷◌, codes, map, IfSome, Some, None, if◌then◌else◌}
+use Rattle.std.specs.Prelude.{ℕ, ◌^◌, ◌-◌, ◌≤◌, List, [], ◌∷◌, codes, map, Some, None, if◌then◌else◌}
 use Rattle.std.specs.declared.option.Option.{Option}
 use Rattle.std.specs.Str.{bytes_eq}
 use Rattle.command_line.specs.Requests.{number_in, request_of_words}
@@ -8,25 +8,31 @@ use Rattle.text_lines.specs.Lines.{◌>>=◌}
 use Rattle.command_line.specs.Settings.{between}
 use Rattle.watch_text.specs.declared.head.CourseWord.{CourseWord}
 use Rattle.watch_text.specs.declared.head.CourseWord.TheVariants as courses
+use Rattle.watch_play.specs.declared.telling.Telling.{Telling}
+use Rattle.watch_play.specs.declared.telling.Telling.TheVariants as tellings
+use Rattle.watch_play.specs.Texts.{IsTellable}
 use Rattle.fractal_watch.specs.declared.words.Asking.{Asking}
 use Rattle.fractal_watch.specs.declared.words.TheConstants.{BARREN_ROUNDS}
 
--- behind each so many moments the view is told, or never; and the words behind that
-pub record WordsBehindViews : Type 0 where
-  pub each : Option ℕ
+-- what is told, and the words behind those that say it
+pub record WordsBehindTelling : Type 0 where
+  pub telling : Telling
   pub behind : List (List ℕ)
 
 -- `views K`, of which these are the words behind the first
-abbrev pub views_number : List (List ℕ) → Option WordsBehindViews
+abbrev pub views_number : List (List ℕ) → Option WordsBehindTelling
 views_number [] = None
 views_number (each ∷ behind) =
-    number_in (between 1 (2 ^ 32 - 1)) each >>= λ number. Some (record { each = Some number; behind = behind })
+    number_in (between 1 (2 ^ 32 - 1)) each >>= λ number.
+    Some (record { telling = tellings.Views number; behind = behind })
 
--- `views K` in front of other words, where it stands there
-abbrev pub views_in : List (List ℕ) → Option WordsBehindViews
-views_in [] = None
-views_in (word ∷ words) =
-    if bytes_eq word (codes "views") then views_number words else Some (record { each = None; behind = word ∷ words })
+-- `memory` or `views K` in front of other words, or neither
+abbrev pub telling_in : List (List ℕ) → Option WordsBehindTelling
+telling_in [] = None
+telling_in (word ∷ words) =
+    if bytes_eq word (codes "memory") then Some (record { telling = tellings.Memory; behind = words })
+    else if bytes_eq word (codes "views") then views_number words
+    else Some (record { telling = tellings.Lines; behind = word ∷ words })
 
 -- a course, and the words that ask the first program for its options
 pub record WordsOfCourse : Type 0 where
@@ -76,8 +82,8 @@ course_in (word ∷ behind) =
 -- what the words ask for; none where they are refused
 unfoldable pub asking_of_words : List (List ℕ) → Option Asking
 asking_of_words words =
-    views_in words >>= λ views. course_in views.behind >>= λ leading. request_of_words leading.words >>= λ request.
-    Some (record { course = leading.course; each = views.each; request = request })
+    telling_in words >>= λ told. course_in told.behind >>= λ leading. request_of_words leading.words >>= λ request.
+    Some (record { course = leading.course; telling = told.telling; request = request })
 
 -- the numbers of rounds are in their ranges
 abbrev pub HasRounds : CourseWord → Type 0
@@ -86,5 +92,5 @@ HasRounds other = Unit {0}
 
 -- so are the numbers that the words give: of rounds, and of moments between views
 pub record IsInRanges (asking : Asking) : Type 0 where
-  pub each : IfSome asking.each (λ number. 1 ≤ number)
+  pub telling : IsTellable asking.telling
   pub rounds : HasRounds asking.course

@@ -1,4 +1,4 @@
-//! A watched run is closed, and its last line is told.
+//! A watched run is closed, and its last line is told, or the memory that it leaves.
 
 ghost use Rattle.std.specs.Prelude.{◌≡◌, IfSome, None, Option, length};
 ghost use Rattle.guest_image.specs.ImageValue.{IsImage};
@@ -7,8 +7,9 @@ ghost use Rattle.event_def.specs.Closing.{Closes};
 ghost use Rattle.conflict_book.specs.BookViews.{machine_view, view_of};
 ghost use Rattle.machine_run.specs.Least.{run_of_closed};
 ghost use Rattle.machine_run.specs.Played.{StandsAt};
+ghost use Rattle.watch_play.specs.Telling.{TellsText};
 ghost use Rattle.watch_text.specs.Views.{last_line};
-ghost use Rattle.fractal_watch.specs.Closing.{StoryFinishes, HoldsClosed, IsClosedAs, TellsEnd, stop_status};
+ghost use Rattle.fractal_watch.specs.Closing.{StoryFinishes, HoldsClosed, IsClosedAs, stop_status, text_of_closed};
 ghost use Rattle.fractal_watch.specs.Texts.{watch_status};
 
 use conflict_book::Book;
@@ -17,10 +18,10 @@ use place_policy::Placer;
 use program_call::{DONE, LIMIT, NO_MEMORY, Outcome, SINK_FAULT, TRAP};
 use run_journal::{Closed, End};
 use rv_core::Naming;
-use sim_io::{Sink, write_all};
+use sim_io::Sink;
 use std::alloc::AllocError;
 use trace_tap::Tap;
-use watch_play::StoryStop;
+use watch_play::{StoryStop, Telling, tell_text};
 use watch_text::put_end;
 
 /// How the run of a book stands: its end, or unfinished where it isn't over.
@@ -78,7 +79,7 @@ fn close_book<N: Naming, P: Placer, T: Tap>(book: Book<N, P, T>) -> Closed
 }
 
 /// Tells the last line of a run that was closed.
-fn tell_end<K: Sink>(
+fn tell_last_line<K: Sink>(
     sink: &mut K,
     line: &mut String,
     image: &Image,
@@ -88,15 +89,33 @@ fn tell_end<K: Sink>(
     requires { length closed.now.memory ≡ image.now.data_size }
     ensures { let text = last_line image.now end closed.now.steps (length closed.now.journal) closed.now.output
         closed.now.memory in
-        TellsEnd text (K.state sink.old) (K.state sink.new) result }
+        TellsText text (K.state sink.old) (K.state sink.new) result }
 {
     line.clear();
     if put_end(line, image, closed, end).is_err() {
         return Err(StoryStop::Memory);
     }
-    match write_all(sink, line.as_bytes()) {
-        Ok(()) => Ok(()),
-        Err(_) => Err(StoryStop::Sink),
+    tell_text(sink, line.as_bytes())
+}
+
+/// Tells what comes at the end of a run that was closed: its last line, or the memory that it leaves, as it stands
+/// there.
+fn tell_end<K: Sink>(
+    sink: &mut K,
+    telling: Telling,
+    line: &mut String,
+    image: &Image,
+    closed: &Closed,
+    end: End,
+) -> Result<(), StoryStop>
+    requires { length closed.now.memory ≡ image.now.data_size }
+    ensures { TellsText (text_of_closed telling image.now closed.now end) (K.state sink.old) (K.state sink.new)
+        result }
+{
+    match telling {
+        Telling::Lines => tell_last_line(sink, line, image, closed, end),
+        Telling::Views(_) => tell_last_line(sink, line, image, closed, end),
+        Telling::Memory => tell_text(sink, closed.memory.as_slice()),
     }
 }
 
@@ -110,22 +129,23 @@ fn stop_status(stop: StoryStop) -> u8
     }
 }
 
-/// Closes a book whose story was told up to its last line, and tells that.
+/// Closes a book whose story was told up to its end, and tells what comes there.
 pub(crate) fn finish<N: Naming, P: Placer, T: Tap, K: Sink>(
     sink: &mut K,
+    telling: Telling,
     image: &Image,
     book: Book<N, P, T>,
     line: String,
 ) -> Outcome
     requires fits { IsImage N.image }
     requires image { image.now ≡ N.image }
-    ensures { StoryFinishes N.image N.commits N.budget (view_of P.policy T.notes book) (K.state sink.old)
+    ensures { StoryFinishes N.image N.commits N.budget telling (view_of P.policy T.notes book) (K.state sink.old)
         (K.state sink.new) result }
 {
     let mut line = line;
     let end = stand(&book);
     let closed = close_book(book);
-    match tell_end(sink, &mut line, image, &closed, end) {
+    match tell_end(sink, telling, &mut line, image, &closed, end) {
         Ok(()) => hold(closed, status_of(end), Some(end)),
         Err(stop) => hold(closed, stop_status(stop), None),
     }

@@ -3,14 +3,15 @@
 ghost use Rattle.std.specs.Prelude.{◌≡◌, ◌≢◌, IfOk, List, ℕ};
 ghost use Rattle.std.specs.String.{string_bytes};
 ghost use Rattle.program_call.specs.declared.statuses.TheConstants.{SINK_FAULT};
-ghost use Rattle.program_call.specs.Outcomes.{TellsLine};
-ghost use Rattle.fractal_watch.specs.Telling.{TellsMadeLine};
-ghost use Rattle.fractal_watch.specs.Texts.{image_fault_object, image_fault_text, long_line, script_fault_object};
-ghost use Rattle.fractal_watch.specs.Texts.{usage_line};
+ghost use Rattle.program_call.specs.Answers.{TellsFrontFault};
+ghost use Rattle.program_call.specs.Outcomes.{TellsMadeLine};
+ghost use Rattle.fractal_watch.specs.Given.{front};
+ghost use Rattle.fractal_watch.specs.Texts.{image_fault_object, image_fault_text, script_fault_object};
 
 use guest_image::ImageFault;
 use program_call::{
-    IMAGE_FAULT, LONG, NO_MEMORY, Outcome, SCRIPT_FAULT, SINK_FAULT, USAGE, tell_line,
+    FrontFault, IMAGE_FAULT, LONG, NO_MEMORY, Outcome, SCRIPT_FAULT, SINK_FAULT, SOURCE_FAULT,
+    USAGE, tell_line,
 };
 use sim_io::Sink;
 use std::alloc::{AllocError, Global};
@@ -53,22 +54,20 @@ fn tell_made<K: Sink>(
     }
 }
 
-/// The words are refused.
-pub(crate) fn tell_usage<K: Sink>(alloc: Global, sink: &mut K) -> Outcome
-    ensures { TellsLine USAGE usage_line (K.state sink.old) (K.state sink.new) result }
+/// Tells why a call comes to no image.
+pub(crate) fn tell_fault<K: Sink>(alloc: Global, sink: &mut K, fault: FrontFault) -> Outcome
+    ensures { TellsFrontFault front fault (K.state sink.old) (K.state sink.new) result }
 {
-    tell_line(alloc, sink, USAGE, b"{\"fault\":\"usage\"}\n")
+    match fault {
+        FrontFault::Usage => tell_line(alloc, sink, USAGE, b"{\"fault\":\"usage\"}\n"),
+        FrontFault::Memory => Outcome::empty(alloc, NO_MEMORY),
+        FrontFault::Unread => Outcome::empty(alloc, SOURCE_FAULT),
+        FrontFault::Long => tell_line(alloc, sink, LONG, b"{\"fault\":\"long\"}\n"),
+        FrontFault::NoImage(fault) => tell_image_fault(alloc, sink, fault),
+    }
 }
 
-/// The input is longer than what is read.
-pub(crate) fn tell_long<K: Sink>(alloc: Global, sink: &mut K) -> Outcome
-    ensures { TellsLine LONG long_line (K.state sink.old) (K.state sink.new) result }
-{
-    tell_line(alloc, sink, LONG, b"{\"fault\":\"long\"}\n")
-}
-
-/// The input begins with no image.
-pub(crate) fn tell_image_fault<K: Sink>(alloc: Global, sink: &mut K, fault: ImageFault) -> Outcome
+fn tell_image_fault<K: Sink>(alloc: Global, sink: &mut K, fault: ImageFault) -> Outcome
     ensures { TellsMadeLine IMAGE_FAULT (image_fault_object fault) (K.state sink.old) (K.state sink.new) result }
 {
     tell_made(alloc, sink, IMAGE_FAULT, image_line(alloc, fault))

@@ -1,42 +1,28 @@
 //! What is found before anything is told.
 
 ghost use Rattle.std.specs.Prelude.{◌≡◌, ◌≤◌, ◌<◌, ◌^◌, [], All, Err, IfErr, IfOk, List, length};
-ghost use Rattle.guest_image.specs.ImageValue.{ImageValue};
 ghost use Rattle.place_policy.specs.Policy.{Policy};
 ghost use Rattle.step_script.specs.Grammar.{IsFaultOf, acts_of};
 ghost use Rattle.step_script.specs.Ranges.{ActIsInRange};
-ghost use Rattle.command_line.specs.Requests.{IsLimited};
 ghost use Rattle.watch_text.specs.declared.head.CourseWord.TheVariants as courses;
 ghost use Rattle.program_call.specs.Call.{Input, input_limit, input_of};
-ghost use Rattle.fractal_watch.specs.Finding.{IsWatchFound, IsPlayable};
-ghost use Rattle.fractal_watch.specs.Given.{WatchReadsInput};
+ghost use Rattle.program_call.specs.Given.{ReadsImage};
+ghost use Rattle.fractal_watch.specs.Finding.{IsFoundOrFault, IsPlayable};
+ghost use Rattle.fractal_watch.specs.Given.{front};
 ghost use Rattle.fractal_watch.specs.Watched.{HasActs};
-ghost use Rattle.fractal_watch.specs.Words.{IsInRanges};
 
 use crate::words::{Asking, read_asking};
 use command_line::Refusal;
-use guest_image::{Image, ImageFault, read_image};
-use sim_io::{ReadEnd, Source, read_all};
+use guest_image::Image;
+use program_call::{FrontFault, Opened, read_input};
+use sim_io::Source;
 use std::alloc::Global;
 use step_script::{Act, ScriptFault, read_script};
 use watch_text::CourseWord;
 
-/// How many bytes an input has at most: 64 MiB.
-const INPUT_LIMIT: usize = 67_108_864;
-
 /// What is found before anything is told.
 #[derive(Drop)]
 pub(crate) enum Finding {
-    /// The words are refused.
-    Usage,
-    /// Out of memory.
-    Memory,
-    /// The source failed.
-    Unread,
-    /// The input is longer than what is read.
-    Long,
-    /// The input begins with no image.
-    NoImage(ImageFault),
     /// The script is refused at this line.
     NoScript(u32),
     /// What is to be watched: an image, and the acts of its script, which are none where the course has none.
@@ -62,43 +48,44 @@ fn read_acts(alloc: Global, asking: &Asking, behind: &[u8]) -> Result<Vec<Act>, 
     }
 }
 
-/// What is found in the bytes that were read.
-fn find_in(alloc: Global, asking: Asking, bytes: &[u8]) -> Finding
-    requires limits { IsLimited asking.request }
-    requires ranges { IsInRanges asking }
-    requires short { length bytes.now ≤ input_limit }
-    ensures found { (input : Input) → WatchReadsInput input asking bytes.now → IsWatchFound input result }
-    ensures playable { IsPlayable result }
+/// What is found behind the image that was read.
+fn find_behind(
+    alloc: Global,
+    asking: Asking,
+    image: Image,
+    behind: &[u8],
+) -> Result<Finding, FrontFault>
+    requires { length behind.now ≤ input_limit }
+    ensures found { (input : Input) → ReadsImage front input asking image behind.now → IsFoundOrFault input result }
+    ensures playable { IfOk result IsPlayable }
 {
-    let (image, size) = match read_image(alloc, bytes) {
-        Ok(read) => read,
-        Err(ImageFault::Memory) => return Finding::Memory,
-        Err(fault) => return Finding::NoImage(fault),
-    };
-    let (_, behind) = bytes.split_at(size);
     match read_acts(alloc, &asking, behind) {
-        Ok(acts) => Finding::Ready(asking, image, acts),
-        Err(ScriptFault::Line { line }) => Finding::NoScript(line),
-        Err(ScriptFault::Memory) => Finding::Memory,
+        Ok(acts) => Ok(Finding::Ready(asking, image, acts)),
+        Err(ScriptFault::Line { line }) => Ok(Finding::NoScript(line)),
+        Err(ScriptFault::Memory) => Err(FrontFault::Memory),
     }
 }
 
 /// Reads the words and the input.
-pub(crate) fn find<S: Source>(alloc: Global, words: &[&str], source: &mut S) -> Finding
+pub(crate) fn find<S: Source>(
+    alloc: Global,
+    words: &[&str],
+    source: &mut S,
+) -> Result<Finding, FrontFault>
     ensures found { (placers : List Policy)
-        → IsWatchFound (input_of words.now placers [] (S.state source.old) (S.state source.new)) result }
-    ensures playable { IsPlayable result }
+        → IsFoundOrFault (input_of words.now placers [] (S.state source.old) (S.state source.new)) result }
+    ensures playable { IfOk result IsPlayable }
 {
     let asking = match read_asking(alloc, words) {
         Ok(asking) => asking,
-        Err(Refusal::Usage) => return Finding::Usage,
-        Err(Refusal::Memory) => return Finding::Memory,
+        Err(Refusal::Usage) => return Err(FrontFault::Usage),
+        Err(Refusal::Memory) => return Err(FrontFault::Memory),
     };
-    let bytes = match read_all(alloc, source, INPUT_LIMIT) {
-        Ok(bytes) => bytes,
-        Err(ReadEnd::Failed) => return Finding::Unread,
-        Err(ReadEnd::Long) => return Finding::Long,
-        Err(ReadEnd::Memory) => return Finding::Memory,
+    let opened = match read_input(alloc, source) {
+        Ok(opened) => opened,
+        Err(fault) => return Err(fault),
     };
-    find_in(alloc, asking, &bytes)
+    let Opened { bytes, image, size } = opened;
+    let (_, behind) = bytes.split_at(size);
+    find_behind(alloc, asking, image, behind)
 }

@@ -1,7 +1,7 @@
 //! Shows the inside of the speculative machine: an image is run, or a script is played on it, and each act is told by a
 //! line of JSON once it is played, with the task that it is about, what that asked for, the reply, and which tasks were
-//! taken back. The image comes from standard input, and the lines go to standard output; so does one line that says
-//! what is wrong.
+//! taken back. Or nothing is told but, at the end, the data memory that the run leaves. The image comes from standard
+//! input, and the lines or the memory go to standard output; so does one line that says what is wrong.
 //!
 //! It stands on `watch_play`, on `watch_text` for the last line, on the readers of words, images and scripts, and on
 //! the definitions of `machine_run` for what a closed book leaves. The launcher or a tool calls it. It costs what the
@@ -17,56 +17,30 @@ mod words;
 
 use place_policy::{ByHint, LeastLoaded, Placer, RoundRobin};
 use program::top;
-use program_call::NO_MEMORY;
+use program_call::{exit_code, process_words, texts_of};
 use sim_io::{StdSink, StdSource};
 use std::alloc::{AllocError, Global};
-use std::env;
-use std::io::{ErrorKind, Read};
+use std::env::Env;
+use std::io::Read;
 use std::process::ExitCode;
 
 fn main(rt: HostRuntime) -> ExitCode {
-    let alloc = rt.alloc();
-    let mut args = match env::args(&rt) {
-        Ok(args) => args,
-        Err(error) if error.kind() == ErrorKind::OutOfMemory => return ExitCode::from(NO_MEMORY),
-        // A word that is no UTF-8 is refused as one that is not known.
-        Err(_) => return status(answer(&rt, &[])),
-    };
-    let _ = args.next();
-    let mut owned = Vec::new(alloc);
-    for arg in args {
-        if owned.push(arg).is_err() {
-            return ExitCode::from(NO_MEMORY);
-        }
-    }
-    let mut words = Vec::new(alloc);
-    for word in &owned {
-        if words.push(word.as_str()).is_err() {
-            return ExitCode::from(NO_MEMORY);
-        }
-    }
-    status(answer(&rt, &words))
+    exit_code(answer(&rt))
 }
 
-fn status(answered: Result<u8, AllocError>) -> ExitCode {
-    match answered {
-        Ok(status) => ExitCode::from(status),
-        Err(_) => ExitCode::from(NO_MEMORY),
-    }
-}
-
-/// Does what the words ask for, on the standard streams, and tells the exit status.
-fn answer<I: Read + Drop, R: Alloc<A = Global> + Input<Reader = I> + Print>(
+/// Does what the words of the process ask for, on the standard streams, and tells the exit status.
+fn answer<I: Read + Drop, R: Env + Alloc<A = Global> + Input<Reader = I> + Print>(
     rt: &R,
-    words: &[&str],
 ) -> Result<u8, AllocError> {
     let alloc = rt.alloc();
+    let owned = process_words(rt)?;
+    let words = texts_of(alloc, &owned)?;
     let mut placers: Vec<Box<dyn Placer + Send>> = Vec::new(alloc);
     placers.push(Box::new(alloc, ByHint::new())?)?;
     placers.push(Box::new(alloc, LeastLoaded::new())?)?;
     placers.push(Box::new(alloc, RoundRobin::new())?)?;
     let mut source = StdSource::new(rt);
     let mut sink = StdSink::new(rt);
-    let outcome = top(alloc, words, &mut source, &mut sink, placers);
+    let outcome = top(alloc, &words, &mut source, &mut sink, placers);
     Ok(outcome.status)
 }

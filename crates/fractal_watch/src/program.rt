@@ -2,23 +2,25 @@
 
 ghost use Rattle.std.specs.Prelude.{[], map};
 ghost use Rattle.program_call.specs.Call.{call_on, input_of};
-ghost use Rattle.fractal_watch.specs.Program.{WatchAnswers};
+ghost use Rattle.program_call.specs.Program.{Answers};
+ghost use Rattle.fractal_watch.specs.Program.{program};
 
-use crate::faults::{tell_image_fault, tell_long, tell_script_fault, tell_usage};
+use crate::faults::{tell_fault, tell_script_fault};
 use crate::finding::{Finding, find};
 use crate::watching::watch_image;
 use place_policy::Placer;
-use program_call::{NO_MEMORY, Outcome, SOURCE_FAULT};
+use program_call::Outcome;
 use sim_io::{Sink, Source};
 use std::alloc::Global;
 use std::marker::Brand;
 
 /// Does what the words ask for, on the bytes of the source, and tells what comes of it to the sink.
 ///
-/// The words are those behind the program's name: `views K` or not, a course, and the options of the first program. The
-/// head is told, the tasks of the image where they were placed, each act that is asked for, the view behind each K of
-/// these, and how the run stands at the end. The line of an act tells what it came to, as the machine stood before and
-/// behind it.
+/// The words are those behind the program's name: `memory`, `views K` or neither, a course, and the options of the first
+/// program. The head is told, the tasks of the image where they were placed, each act that is asked for, the view behind
+/// each K of these, and how the run stands at the end. The line of an act tells what it came to, as the machine stood
+/// before and behind it. With `memory` none of this is told, but the data memory that the run leaves, of which no copy
+/// is made.
 ///
 /// The outcome holds nothing, or the run of the serial machine from the image that was read, which the events left. The
 /// status tells what was found. Where the sink failed it took a front of the text, and the run stopped there; where
@@ -34,17 +36,13 @@ pub fn top<S: Source, K: Sink>(
 ) -> Outcome
     ensures answers { let serving = map ⟦<Box<dyn Placer + Send> as Placer>⟧.policy placers.items in
         let input = input_of words.now serving [] (S.state source.old) (S.state source.new) in
-        WatchAnswers (call_on input (K.state sink.old) (K.state sink.new)) result }
+        Answers (program Brand) (call_on input (K.state sink.old) (K.state sink.new)) result }
 {
     match find(alloc, words, source) {
-        Finding::Usage => tell_usage(alloc, sink),
-        Finding::Memory => Outcome::empty(alloc, NO_MEMORY),
-        Finding::Unread => Outcome::empty(alloc, SOURCE_FAULT),
-        Finding::Long => tell_long(alloc, sink),
-        Finding::NoImage(fault) => tell_image_fault(alloc, sink, fault),
-        Finding::NoScript(line) => tell_script_fault(alloc, sink, line),
-        Finding::Ready(asking, image, script) => {
+        Ok(Finding::NoScript(line)) => tell_script_fault(alloc, sink, line),
+        Ok(Finding::Ready(asking, image, script)) => {
             watch_image::<Brand, _, K>(alloc, sink, &image, &asking, &script, placers)
         }
+        Err(fault) => tell_fault(alloc, sink, fault),
     }
 }

@@ -1,12 +1,13 @@
-//! An image is watched from the opening to the last line.
+//! An image is watched from the opening to what comes at the end.
 
-ghost use Rattle.std.specs.Prelude.{◌≡◌, ◌≤◌, ◌<◌, ◌^◌, All, IfSome, length, map, []};
+ghost use Rattle.std.specs.Prelude.{◌≡◌, ◌<◌, ◌^◌, All, length, map, []};
 ghost use Rattle.guest_image.specs.ImageValue.{IsImage};
 ghost use Rattle.spec_state.specs.Settings.{IsNamed};
 ghost use Rattle.conflict_book.specs.BookViews.{machine_view, view_of};
 ghost use Rattle.command_line.specs.Requests.{IsLimited};
 ghost use Rattle.step_script.specs.Ranges.{ActIsInRange};
 ghost use Rattle.watch_play.specs.Telling.{Plan, Tells};
+ghost use Rattle.watch_play.specs.Texts.{IsTellable};
 ghost use Rattle.fractal_watch.specs.Telling.{TellsBookOf, TellsRunOf};
 ghost use Rattle.fractal_watch.specs.Watched.{course_of};
 ghost use Rattle.fractal_watch.specs.Words.{HasRounds, IsInRanges};
@@ -35,7 +36,7 @@ fn tell_course<N: Naming, P: Placer, T: Tap, K: Sink>(
 ) -> Result<(), StoryStop>
     requires image { image.now ≡ N.image }
     requires few { length script.now < 2 ^ 32 }
-    requires each { IfSome watch.old.each (λ number. 1 ≤ number) }
+    requires telling { IsTellable watch.old.telling }
     requires count { watch.old.count ≡ 0 }
     requires held { watch.old.player.held ≡ [] }
     requires rounds { HasRounds course }
@@ -43,7 +44,7 @@ fn tell_course<N: Naming, P: Placer, T: Tap, K: Sink>(
         All (ActIsInRange settings.tiles settings.cores) script.now }
     ensures { let opening = view_of P.policy T.notes watch.old.book in
         (plan : Plan) → plan.image ≡ image.now → plan.settings ≡ opening.view.settings
-        → plan.each ≡ watch.old.each → plan.course ≡ course_of course plan.settings script.now
+        → plan.telling ≡ watch.old.telling → plan.course ≡ course_of course plan.settings script.now
         → Tells N plan opening (view_of P.policy T.notes watch.new.book) (K.state sink.old) (K.state sink.new) result }
 {
     tell_opening(watch, sink, image, course)?;
@@ -78,17 +79,17 @@ fn tell_book<N: Naming, P: Placer, T: Tap, K: Sink>(
     ensures { TellsBookOf N N.image asking.now script.now (view_of P.policy T.notes book) (K.state sink.old)
         (K.state sink.new) result }
 {
-    let mut watch = Watch::new(alloc, image, book, asking.each);
+    let mut watch = Watch::new(alloc, image, book, asking.telling);
     let told = tell_course(&mut watch, sink, image, asking.course, script);
     let Watch {
         book,
         player: _,
         line,
-        each: _,
+        telling: _,
         count: _,
     } = watch;
     match told {
-        Ok(()) => finish(sink, image, book, line),
+        Ok(()) => finish(sink, asking.telling, image, book, line),
         Err(stop) => break_off(book, stop),
     }
 }

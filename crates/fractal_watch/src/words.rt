@@ -2,11 +2,13 @@
 
 ghost use Rattle.std.specs.Prelude.{◌≡◌, ◌≤◌, ◌∷◌, IfOk, IfSome, Err, None, Some, map, option_map};
 ghost use Rattle.command_line.specs.Requests.{IsLimited};
-ghost use Rattle.fractal_watch.specs.Words.{IsInRanges, asking_of_words, barren_in, course_in, lockstep_in, views_in};
+ghost use Rattle.watch_play.specs.Texts.{IsTellable};
+ghost use Rattle.fractal_watch.specs.Words.{IsInRanges, asking_of_words, barren_in, course_in, lockstep_in, telling_in};
 ghost use Rattle.fractal_watch.specs.Words.{HasRounds, words_of};
 
 use command_line::{Refusal, Request, number_between, read_words};
 use std::alloc::{AllocError, Global};
+use watch_play::Telling;
 use watch_text::CourseWord;
 
 /// After how many rounds without a commit the least task is brought on in lockstep, unless the words say otherwise:
@@ -18,16 +20,16 @@ pub const BARREN_ROUNDS: u32 = 16;
 pub struct Asking {
     /// Which course is played.
     pub course: CourseWord,
-    /// Behind each so many moments, at least 1, the view is told; None where it never is.
-    pub each: Option<u32>,
+    /// What is told of it.
+    pub telling: Telling,
     /// The settings, among what the same options would ask of the first program.
     pub request: Request,
 }
 
-/// `views K` in front of other words: K, where it stands there, and the words behind it.
+/// What is told, as the words in front of a course say, and the words behind them.
 #[derive(Clone, Copy)]
-struct Views<'a> {
-    each: Option<u32>,
+struct Told<'a> {
+    telling: Telling,
     behind: &'a [&'a str],
 }
 
@@ -46,24 +48,31 @@ struct Leading<'a> {
     behind: &'a [&'a str],
 }
 
-fn views_of<'a>(words: &'a [&'a str]) -> Option<Views<'a>>
-    ensures value { option_map (λ v. record { each = v.each; behind = map (λ w. w.now) v.behind.now }) result
-        ≡ views_in (map (λ w. w.now) words.now) }
-    ensures each { IfSome result (λ v. IfSome v.each (λ number. 1 ≤ number)) }
+/// `memory` or `views K` in front of other words, or neither.
+fn telling_of<'a>(words: &'a [&'a str]) -> Option<Told<'a>>
+    ensures value { option_map (λ t. record { telling = t.telling; behind = map (λ w. w.now) t.behind.now }) result
+        ≡ telling_in (map (λ w. w.now) words.now) }
+    ensures telling { IfSome result (λ t. IsTellable t.telling) }
 {
     let Some((word, behind)) = words.split_first() else {
         return None;
     };
+    if word.as_bytes() == b"memory".as_slice() {
+        return Some(Told {
+            telling: Telling::Memory,
+            behind,
+        });
+    }
     if word.as_bytes() != b"views".as_slice() {
-        return Some(Views {
-            each: None,
+        return Some(Told {
+            telling: Telling::Lines,
             behind: words,
         });
     }
     let (each, behind) = behind.split_first()?;
     let each = number_between(1, u32::MAX, each)?;
-    Some(Views {
-        each: Some(each),
+    Some(Told {
+        telling: Telling::Views(each),
         behind,
     })
 }
@@ -152,8 +161,9 @@ fn in_front<'a>(
     Ok(words)
 }
 
-/// What the words, without the program's name, ask for. `Usage` where they are outside the grammar: `views K` or not,
-/// then `steps`, `least`, or `lockstep ROUNDS SEED`, with `barren K` or not, and then the options of the first program.
+/// What the words, without the program's name, ask for. `Usage` where they are outside the grammar: `memory`, `views K`
+/// or neither, then `steps`, `least`, or `lockstep ROUNDS SEED`, with `barren K` or not, and then the options of the
+/// first program.
 #[tactic(auto, unfolding(crate::specs::Words::asking_of_words))]
 pub(crate) fn read_asking(alloc: Global, words: &[&str]) -> Result<Asking, Refusal>
     ensures value { IfOk result (λ asking. asking_of_words (map (λ w. w.now) words.now) ≡ Some asking) }
@@ -161,10 +171,10 @@ pub(crate) fn read_asking(alloc: Global, words: &[&str]) -> Result<Asking, Refus
     ensures limits { IfOk result (λ asking. IsLimited asking.request) }
     ensures ranges { IfOk result IsInRanges }
 {
-    let Some(views) = views_of(words) else {
+    let Some(told) = telling_of(words) else {
         return Err(Refusal::Usage);
     };
-    let Some(leading) = leading_of(views.behind) else {
+    let Some(leading) = leading_of(told.behind) else {
         return Err(Refusal::Usage);
     };
     let Ok(words) = in_front(alloc, leading.command, leading.behind) else {
@@ -173,7 +183,7 @@ pub(crate) fn read_asking(alloc: Global, words: &[&str]) -> Result<Asking, Refus
     match read_words(alloc, &words) {
         Ok(request) => Ok(Asking {
             course: leading.course,
-            each: views.each,
+            telling: told.telling,
             request,
         }),
         Err(refusal) => Err(refusal),

@@ -23,3 +23,8 @@ pub record TellsLine (status : ℕ) (line : List ℕ) (old new : SinkState) (o :
   pub empty : IsEmpty o
   pub told : o.status ≢ 7 → (o.status ≡ status) × SinkTakes old new line
   pub failed : o.status ≡ 7 → Rose old.faults new.faults × TakesFront old new line
+
+-- the line was told so, or memory ran out for the line (5) and the sink was left alone; the outcome is empty
+pub data TellsMadeLine (status : ℕ) (line : List ℕ) (old new : SinkState) (o : Outcome) : Type 0 where
+  IsMade : TellsLine status line old new o → TellsMadeLine status line old new o
+  IsWant : o.status ≡ 5 → IsEmpty o → new ≡ old → TellsMadeLine status line old new o

@@ -1,16 +1,22 @@
 //! What both programs are called with and what they answer: words, placers, taps, a source and a sink; an outcome with
-//! its status and the run that it holds; and how a line is told where there is no run.
+//! its status and the run that it holds. Their front door is here: how the words of a process and the input are read,
+//! up to the image, and how it is told that a call comes to none. So is what an answer of either says of its call.
 //!
-//! Contracts of both programs are stated over one `Call`. It stands on the serial machine, whose run an outcome holds,
-//! on streams, and on placers and taps; `fractal_sim` and `fractal_watch` call it. It costs nothing but the line that
-//! it writes.
+//! Contracts of both programs are stated over one `Call`, and over what a program does with an image (`Program`). It
+//! stands on images, on the serial machine, whose run an outcome holds, and on its laws, on streams, and on placers and
+//! taps; `fractal_sim` and `fractal_watch` call it. It costs a look at each byte of the input, and the line that it
+//! writes.
 #![tactic(auto)]
 
+mod input;
 mod outcome;
+mod process;
 mod statuses;
 mod telling;
 
+pub use input::{FrontFault, INPUT_LIMIT, Opened, read_input};
 pub use outcome::Outcome;
+pub use process::{exit_code, process_words, texts_of};
 pub use statuses::{
     DONE, IMAGE_FAULT, LIMIT, LONG, NESTED, NO_MEMORY, REPORT_FAULT, SCRIPT_FAULT, SINK_FAULT,
     SOURCE_FAULT, TOO_MANY, TRAP, USAGE,

@@ -1,5 +1,6 @@
 -- An act that is a moment, and its line.
-use Rattle.std.proofs.Common.{◌≡◌, ◌≢◌, ◌++◌, ℕ, List, [], length, refl, sym, ap, subst, ◌∙◌}
+use Rattle.std.proofs.Common.{◌≡◌, ◌≢◌, ◌++◌, ℕ, List, [], length, refl, sym, ap, subst, ◌∙◌, Bool, true}
+use Rattle.std.proofs.Common.{if◌then◌else◌}
 use Rattle.std.specs.declared.option.Option.{Option}
 use Rattle.guest_image.specs.ImageValue.{ImageValue}
 use Rattle.rv_core.specs.LegValue.{LegValue}
@@ -16,8 +17,14 @@ use Rattle.step_script.proofs.Does.{comes_of}
 use Rattle.watch_text.specs.Lines.{line_of, rest_text}
 use Rattle.watch_text.specs.Moments.{IsAbout, IsAskedFor, Moment}
 use Rattle.watch_text.specs.Requests.{front_text}
+use Rattle.watch_play.specs.declared.telling.Telling.{Telling}
 use Rattle.watch_play.specs.Playing.{IsMomentAt}
-use Rattle.watch_play.specs.Texts.{moment_lines, view_text}
+use Rattle.watch_play.specs.Texts.{has_lines, moment_lines, view_text}
+
+-- a text that is told where lines are, by whether they are
+pub where_lines : (telling : Telling) (text : List ℕ) (lines : Bool) → has_lines telling ≡ lines
+    → (if has_lines telling then text else []) ≡ (if lines then text else [])
+where_lines telling text lines is = ap (λ (b : Bool). if b then text else []) is
 
 module _ (N : Type 0) (image : ImageValue) (at number : ℕ) (act : Act) (old new : PlayState) (asks : Attempt N)
     (task : Option ℕ) (request : Option Request) (answer : Reply) (aborted : ℕ) (effect : EffectValue) where
@@ -70,17 +77,18 @@ module _ (N : Type 0) (image : ImageValue) (at number : ℕ) (act : Act) (old ne
       there came told)
 
   -- its line, and the view behind it
-  pub line_is : (each : Option ℕ) (cleared front line : List ℕ) (output : ℕ) → cleared ≡ []
-      → front ≡ cleared ++ front_text at act asks task request → output ≡ length old.book.view.output
+  pub line_is : (telling : Telling) (cleared front line : List ℕ) (output : ℕ) → has_lines telling ≡ true
+      → cleared ≡ [] → front ≡ cleared ++ front_text at act asks task request → output ≡ length old.book.view.output
       → line ≡ front ++ rest_text effect output new.book.view asks task request answer aborted new.book.steps
-      ++ view_text each number new.book.view new.book.steps → line ≡ moment_lines each made
+      ++ view_text telling number new.book.view new.book.steps → line ≡ moment_lines telling made
   unfolding line_of
-  line_is each cleared front line output none begun output_is is =
+  line_is telling cleared front line output lines none begun output_is is =
       let first : front ≡ front_text at act asks task request =
       begun ∙ ap (λ l. l ++ front_text at act asks task request) none in
       let text = λ (n : ℕ). rest_text effect n new.book.view asks task request answer aborted new.book.steps in
-      let behind = view_text each number new.book.view new.book.steps in
+      let behind = view_text telling number new.book.view new.book.steps in
       is ∙ (λ i. (first i ++ text (output_is i)) ++ behind)
+      ∙ sym (where_lines telling (line_of made ++ behind) true lines)
 
 -- the same by the leg that stands ready, of which another reader tells
 module _ (N : Type 0) (image : ImageValue) (at number : ℕ) (act : Act) (old new : PlayState) (asked : Asked)

@@ -1,6 +1,5 @@
 -- What is made of an act, and what is told behind it.
 use Rattle.std.specs.Prelude.{◌≡◌, ◌⊎◌, ℕ, Result, Ok, Err}
-use Rattle.std.specs.declared.option.Option.{Option}
 use Rattle.guest_image.specs.ImageValue.{ImageValue}
 use Rattle.place_policy.specs.Policy.{Policy}
 use Rattle.sim_io.specs.Parts.{Writes}
@@ -12,6 +11,7 @@ use Rattle.step_script.specs.Playing.{PlayState}
 use Rattle.watch_text.specs.Moments.{Moment}
 use Rattle.watch_play.specs.declared.stop.StoryStop.{StoryStop}
 use Rattle.watch_play.specs.declared.stop.StoryStop.TheVariants as stops
+use Rattle.watch_play.specs.declared.telling.Telling.{Telling}
 use Rattle.watch_play.specs.declared.watch.Watch.{Watch}
 use Rattle.watch_play.specs.Playing.{IsMomentAt}
 use Rattle.watch_play.specs.Texts.{moment_lines}
@@ -20,14 +20,15 @@ use Rattle.watch_play.specs.Texts.{moment_lines}
 abbrev pub play_of : {N P T : Type 0} → (P → Policy) → (T → TapValue) → Watch N P T → PlayState
 play_of policy notes watch = record { book = view_of policy notes watch.book; held = watch.player.held }
 
--- an act is played and told: it is a moment, whose lines the sink took, or a front of them, or nothing; or it is none
-abbrev pub TellsAct : Type 0 → ImageValue → Option ℕ → (at number : ℕ) → Act → PlayState → PlayState → SinkState
+-- an act is played, and told where lines are: it is a moment, whose lines the sink took, or a front of them, or
+-- nothing; or it is none
+abbrev pub TellsAct : Type 0 → ImageValue → Telling → (at number : ℕ) → Act → PlayState → PlayState → SinkState
     → SinkState → Result (Unit {0}) StoryStop → Type 0
-TellsAct N image each at number act old new before after (Ok done) =
+TellsAct N image telling at number act old new before after (Ok done) =
     (m : Moment N) × IsMomentAt image at number act m old new
-    × Writes {E = StoryStop} before after (Ok done) (moment_lines each m)
-TellsAct N image each at number act old new before after (Err stops.Memory) =
+    × Writes {E = StoryStop} before after (Ok done) (moment_lines telling m)
+TellsAct N image telling at number act old new before after (Err stops.Memory) =
     (((m : Moment N) × IsMomentAt image at number act m old new) ⊎ (new.book ≡ old.book)) × (after ≡ before)
-TellsAct N image each at number act old new before after (Err stops.Sink) =
+TellsAct N image telling at number act old new before after (Err stops.Sink) =
     (m : Moment N) × IsMomentAt image at number act m old new
-    × Writes {E = StoryStop} before after (Err stops.Sink) (moment_lines each m)
+    × Writes {E = StoryStop} before after (Err stops.Sink) (moment_lines telling m)

@@ -1,6 +1,5 @@
 -- How far a story was told.
 use Rattle.std.specs.Prelude.{◌≡◌, ◌⊎◌, ◌+◌, ◌<◌, ◌≤◌, ◌++◌, ◌∷◌, ℕ, List, [], Result, Ok, Err, Some, length}
-use Rattle.std.specs.declared.option.Option.{Option}
 use Rattle.guest_image.specs.ImageValue.{ImageValue}
 use Rattle.sim_io.specs.Causes.{Rose}
 use Rattle.sim_io.specs.Parts.{SinkTakes, TakesFront}
@@ -13,23 +12,24 @@ use Rattle.step_script.specs.Playing.{PlayState}
 use Rattle.watch_text.specs.Moments.{Moment}
 use Rattle.watch_play.specs.declared.stop.StoryStop.{StoryStop}
 use Rattle.watch_play.specs.declared.stop.StoryStop.TheVariants as stops
+use Rattle.watch_play.specs.declared.telling.Telling.{Telling}
 use Rattle.watch_play.specs.Courses.{Course, IsThrough, OfRounds, Order, Stage, at_round, course_act, forced_stage}
 use Rattle.watch_play.specs.Courses.{next_order, next_round, next_stage, stage_after}
 use Rattle.watch_play.specs.declared.lockstep.SoFar.{SoFar}
 use Rattle.watch_play.specs.Stories.{StoryLeads, begun, commits_of}
 use Rattle.watch_play.specs.Texts.{opening_lines, story_lines}
 
--- what is told: a course on a machine of these settings, of this image, with a view behind each so many moments
+-- what is told of a course on a machine of these settings, of this image
 pub record Plan : Type 0 where
   pub course : Course
   pub settings : Settings
   pub image : ImageValue
-  pub each : Option ℕ
+  pub telling : Telling
 
 -- the lines of a story by this plan
 abbrev pub lines_by : {N : Type 0} → Plan → BookView → List (Moment N) → List ℕ
 lines_by plan opening moments =
-    story_lines plan.course plan.settings plan.image opening.view plan.each moments
+    story_lines plan.course plan.settings plan.image opening.view plan.telling moments
 
 -- so many acts of the course led here, through these moments
 pub record HasStory {N : Type 0} (plan : Plan) (opening : BookView) (moments : List (Moment N)) (book : BookView)
@@ -101,24 +101,24 @@ GoesOn N plan opening count stage told new before after (Err stop) =
 
 -- whatever story of a course in rounds led to the act of this number, it leads on, to the next stage, or the story ends
 -- there
-abbrev pub ActGoesOn : (N : Type 0) → ImageValue → Option ℕ → (number : ℕ) → Act → (told new_told : ℕ)
+abbrev pub ActGoesOn : (N : Type 0) → ImageValue → Telling → (number : ℕ) → Act → (told new_told : ℕ)
     → (old new : PlayState) → (now after : SinkState) → Result (Unit {0}) StoryStop → Type 0
-ActGoesOn N image each number act told new_told old new now after result =
+ActGoesOn N image telling number act told new_told old new now after result =
     (rounds seed barren : ℕ) (settings : Settings) (stage : Stage) (plan : Plan) (opening : BookView)
     (start : SinkState)
-    → plan.image ≡ image → plan.each ≡ each → plan.course ≡ OfRounds rounds seed barren settings
+    → plan.image ≡ image → plan.telling ≡ telling → plan.course ≡ OfRounds rounds seed barren settings
     → course_act plan.course number stage ≡ Some act → GoesSoFar N plan opening number stage told old start now
     → GoesOn N plan opening (number + 1) (next_stage plan.course stage (commits_of new)) new_told new start after
     result
 
 -- whatever story of such a course led to a round in this order, the acts of the round lead on, to the next round, or
 -- the story ends on the way
-abbrev pub RoundGoesOn : (N : Type 0) → ImageValue → Option ℕ → (number : ℕ) → List Act → (told new_told : ℕ)
+abbrev pub RoundGoesOn : (N : Type 0) → ImageValue → Telling → (number : ℕ) → List Act → (told new_told : ℕ)
     → (old new : PlayState) → (now after : SinkState) → Result (Unit {0}) StoryStop → Type 0
-RoundGoesOn N image each number acts told new_told old new now after result =
+RoundGoesOn N image telling number acts told new_told old new now after result =
     (rounds seed barren : ℕ) (settings : Settings) (drawn round so_barren : ℕ) (plan : Plan) (opening : BookView)
     (start : SinkState)
-    → plan.image ≡ image → plan.each ≡ each → plan.course ≡ OfRounds rounds seed barren settings → round < rounds
+    → plan.image ≡ image → plan.telling ≡ telling → plan.course ≡ OfRounds rounds seed barren settings → round < rounds
     → (let stage = at_round (record { drawn = drawn; acts = acts }) round (commits_of old) so_barren in
     GoesSoFar N plan opening number stage told old start now
     → GoesOn N plan opening (number + length acts) (next_round seed barren stage (commits_of new)) new_told new start
@@ -132,12 +132,12 @@ LeadsOn N plan opening stage told new before after (Ok count) =
 LeadsOn N plan opening stage told new before after (Err stop) = Tells N plan opening new.book before after (Err stop)
 
 -- whatever story of such a course led to where the least task is brought on, that leads on, or the story ends there
-abbrev pub ForcedGoesOn : (N : Type 0) → ImageValue → Option ℕ → (number told new_told : ℕ) → (old new : PlayState)
+abbrev pub ForcedGoesOn : (N : Type 0) → ImageValue → Telling → (number told new_told : ℕ) → (old new : PlayState)
     → (now after : SinkState) → Result ℕ StoryStop → Type 0
-ForcedGoesOn N image each number told new_told old new now after result =
+ForcedGoesOn N image telling number told new_told old new now after result =
     (rounds seed barren : ℕ) (settings : Settings) (order : Order) (round : ℕ) (plan : Plan) (opening : BookView)
     (start : SinkState)
-    → plan.image ≡ image → plan.each ≡ each → plan.course ≡ OfRounds rounds seed barren settings
+    → plan.image ≡ image → plan.telling ≡ telling → plan.course ≡ OfRounds rounds seed barren settings
     → (let stage = forced_stage order round (commits_of old) in
     GoesSoFar N plan opening number stage told old start now
     → LeadsOn N plan opening (stage_after seed barren stage (commits_of new)) new_told new start after result)
@@ -158,36 +158,37 @@ LeadsThrough N plan opening seed acts round told new before after (Err stop) =
 
 -- whatever story of such a course led to the next round, that round, and what brings the least task on behind it, lead
 -- on, or the story ends on the way
-abbrev pub NextGoesOn : (N : Type 0) → ImageValue → Option ℕ → (seed barren : ℕ) → SoFar → (acts new_acts : List Act)
+abbrev pub NextGoesOn : (N : Type 0) → ImageValue → Telling → (seed barren : ℕ) → SoFar → (acts new_acts : List Act)
     → (told new_told : ℕ) → (old new : PlayState) → (now after : SinkState) → Result SoFar StoryStop → Type 0
-NextGoesOn N image each seed barren so_far acts new_acts told new_told old new now after result =
+NextGoesOn N image telling seed barren so_far acts new_acts told new_told old new now after result =
     (rounds round : ℕ) (settings : Settings) (plan : Plan) (opening : BookView) (start : SinkState)
-    → plan.image ≡ image → plan.each ≡ each → plan.course ≡ OfRounds rounds seed barren settings → round < rounds
+    → plan.image ≡ image → plan.telling ≡ telling → plan.course ≡ OfRounds rounds seed barren settings → round < rounds
     → GoesSoFar N plan opening so_far.acts (next_at seed acts so_far round (commits_of old)) told old start now
     → LeadsThrough N plan opening seed new_acts (round + 1) new_told new start after result
 
 -- ---- the opening
 
--- the lines before the first act were told, or not, by what is answered
+-- a text was told, or not, by what is answered
+abbrev pub TellsText : List ℕ → SinkState → SinkState → Result (Unit {0}) StoryStop → Type 0
+TellsText text before after (Ok done) = SinkTakes before after text × (before.faults ≤ after.faults)
+TellsText text before after (Err stops.Memory) = after ≡ before
+TellsText text before after (Err stops.Sink) = TakesFront before after text × Rose before.faults after.faults
+
+-- the lines before the first act were
 abbrev pub TellsOpening : Plan → BookView → SinkState → SinkState → Result (Unit {0}) StoryStop → Type 0
-TellsOpening plan opening before after (Ok done) =
-    SinkTakes before after (opening_lines plan.course plan.settings plan.image opening.view)
-    × (before.faults ≤ after.faults)
-TellsOpening plan opening before after (Err stops.Memory) = after ≡ before
-TellsOpening plan opening before after (Err stops.Sink) =
-    TakesFront before after (opening_lines plan.course plan.settings plan.image opening.view)
-    × Rose before.faults after.faults
+TellsOpening plan opening before after result =
+    TellsText (opening_lines plan.course plan.settings plan.image opening.view plan.telling) before after result
 
 -- a book at its opening, for which no leg is held, and the lines before its first act were told
 pub record IsOpened (plan : Plan) (opening : BookView) (play : PlayState) (before now : SinkState) : Type 0 where
   pub play_is : play ≡ begun opening
-  pub took : SinkTakes before now (opening_lines plan.course plan.settings plan.image opening.view)
+  pub took : SinkTakes before now (opening_lines plan.course plan.settings plan.image opening.view plan.telling)
   pub later : before.faults ≤ now.faults
 
 -- whatever this is the opening of, the course behind it is told so
-abbrev pub TellsCourse : Type 0 → ImageValue → Option ℕ → Course → PlayState → BookView → SinkState → SinkState
+abbrev pub TellsCourse : Type 0 → ImageValue → Telling → Course → PlayState → BookView → SinkState → SinkState
     → Result (Unit {0}) StoryStop → Type 0
-TellsCourse N image each course old new now after result =
+TellsCourse N image telling course old new now after result =
     (plan : Plan) (opening : BookView) (before : SinkState)
-    → plan.image ≡ image → plan.each ≡ each → plan.course ≡ course
+    → plan.image ≡ image → plan.telling ≡ telling → plan.course ≡ course
     → IsOpened plan opening old before now → Tells N plan opening new before after result

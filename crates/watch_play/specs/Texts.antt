@@ -1,6 +1,5 @@
 -- The text of a story.
-use Rattle.std.specs.Prelude.{◌%◌, ◌==◌, ℕ, Bool, false, List, [], ◌++◌, Some, None, if◌then◌else◌}
-use Rattle.std.specs.declared.option.Option.{Option}
+use Rattle.std.specs.Prelude.{◌%◌, ◌≤◌, ◌==◌, ℕ, Bool, true, false, List, [], ◌++◌, if◌then◌else◌}
 use Rattle.std.specs.List.{flat_map}
 use Rattle.guest_image.specs.ImageValue.{ImageValue}
 use Rattle.spec_state.specs.declared.settings.Settings.{Settings}
@@ -9,25 +8,40 @@ use Rattle.watch_text.specs.Lines.{line_of}
 use Rattle.watch_text.specs.Moments.{Moment}
 use Rattle.watch_text.specs.Opening.{head_line, placed_lines}
 use Rattle.watch_text.specs.Views.{view_line}
+use Rattle.watch_play.specs.declared.telling.Telling.{Telling}
+use Rattle.watch_play.specs.declared.telling.Telling.TheVariants as tellings
 use Rattle.watch_play.specs.Courses.{Course, course_word}
 
+-- views are told behind each so many moments, at least 1
+abbrev pub IsTellable : Telling → Type 0
+IsTellable (tellings.Views each) = 1 ≤ each
+IsTellable other = Unit {0}
+
+-- lines are told
+abbrev pub has_lines : Telling → Bool
+has_lines tellings.Memory = false
+has_lines other = true
+
 -- the view is told behind the last of so many moments
-abbrev pub is_due : Option ℕ → ℕ → Bool
-is_due None number = false
-is_due (Some each) number = number % each == 0
+abbrev pub is_due : Telling → ℕ → Bool
+is_due (tellings.Views each) number = number % each == 0
+is_due other number = false
 
-abbrev pub view_text : Option ℕ → ℕ → View → ℕ → List ℕ
-view_text each number view events = if is_due each number then view_line view events else []
+abbrev pub view_text : Telling → ℕ → View → ℕ → List ℕ
+view_text telling number view events = if is_due telling number then view_line view events else []
 
--- the lines of a moment: its own, and the view behind each so many of them
-abbrev pub moment_lines : {N : Type 0} → Option ℕ → Moment N → List ℕ
-moment_lines each m = line_of m ++ view_text each m.number m.new.view m.new.steps
+-- the lines of a moment, where lines are told: its own, and the view behind each so many of them
+abbrev pub moment_lines : {N : Type 0} → Telling → Moment N → List ℕ
+moment_lines telling m =
+    if has_lines telling then line_of m ++ view_text telling m.number m.new.view m.new.steps else []
 
--- the lines before the first act
-abbrev pub opening_lines : Course → Settings → ImageValue → View → List ℕ
-opening_lines course settings image opening = head_line (course_word course) settings image ++ placed_lines opening
+-- the lines before the first act, where lines are told
+abbrev pub opening_lines : Course → Settings → ImageValue → View → Telling → List ℕ
+opening_lines course settings image opening telling =
+    if has_lines telling then head_line (course_word course) settings image ++ placed_lines opening else []
 
--- the lines of a story, up to its last moment
-abbrev pub story_lines : {N : Type 0} → Course → Settings → ImageValue → View → Option ℕ → List (Moment N) → List ℕ
-story_lines course settings image opening each moments =
-    opening_lines course settings image opening ++ flat_map (moment_lines each) moments
+-- the lines of a story, up to its last moment, where lines are told
+abbrev pub story_lines : {N : Type 0} → Course → Settings → ImageValue → View → Telling → List (Moment N) → List ℕ
+story_lines course settings image opening telling moments =
+    if has_lines telling
+    then opening_lines course settings image opening telling ++ flat_map (moment_lines telling) moments else []

@@ -1,11 +1,12 @@
 //! The courses of a script, and of the least task.
 
-ghost use Rattle.std.specs.Prelude.{◌≡◌, ◌≤◌, ◌+◌, ◌<◌, ◌^◌, All, IfSome, length};
+ghost use Rattle.std.specs.Prelude.{◌≡◌, ◌<◌, ◌^◌, All, length};
 ghost use Rattle.conflict_book.specs.BookViews.{machine_view, view_of};
 ghost use Rattle.step_script.specs.Ranges.{ActIsInRange};
 ghost use Rattle.watch_play.specs.Courses.{OfLeast, OfScript};
 ghost use Rattle.watch_play.specs.Made.{play_of};
 ghost use Rattle.watch_play.specs.Telling.{TellsCourse};
+ghost use Rattle.watch_play.specs.Texts.{IsTellable};
 
 use crate::playing::tell_act;
 use crate::stop::StoryStop;
@@ -25,13 +26,13 @@ pub fn play_script<N: Naming, P: Placer, T: Tap, K: Sink>(
     script: &[Act],
 ) -> Result<(), StoryStop>
     requires image { image.now ≡ N.image }
-    requires each { IfSome watch.old.each (λ number. 1 ≤ number) }
+    requires telling { IsTellable watch.old.telling }
     requires count { watch.old.count ≡ 0 }
     requires few { length script.now < 2 ^ 32 }
     requires within { let settings = (machine_view watch.old.book).settings in
         All (ActIsInRange settings.tiles settings.cores) script.now }
     ensures { let old = play_of P.policy T.notes watch.old in
-        TellsCourse N N.image watch.old.each (OfScript script.now) old (view_of P.policy T.notes watch.new.book)
+        TellsCourse N N.image watch.old.telling (OfScript script.now) old (view_of P.policy T.notes watch.new.book)
         (K.state sink.old) (K.state sink.new) result }
 {
     let mut at = 0u64;
@@ -49,10 +50,10 @@ pub fn play_least<N: Naming, P: Placer, T: Tap, K: Sink>(
     image: &Image,
 ) -> Result<(), StoryStop>
     requires image { image.now ≡ N.image }
-    requires each { IfSome watch.old.each (λ number. 1 ≤ number) }
+    requires telling { IsTellable watch.old.telling }
     requires count { watch.old.count ≡ 0 }
     ensures { let old = play_of P.policy T.notes watch.old in
-        TellsCourse N N.image watch.old.each OfLeast old (view_of P.policy T.notes watch.new.book)
+        TellsCourse N N.image watch.old.telling OfLeast old (view_of P.policy T.notes watch.new.book)
         (K.state sink.old) (K.state sink.new) result }
 {
     for made in 0..u64::MAX {

@@ -2,9 +2,10 @@
 //! in lockstep.
 //!
 //! Each act that is asked for is one line, with a whole view behind each so many where there are views, and is one
-//! piece for the sink, written before the next act. Between the acts stand the player, the line and the order of a
-//! round: the memory does not grow with the number of acts. It stands on the lines of `watch_text`,
-//! on scripts, by whose player it plays, and on the book; `fractal_watch` calls it.
+//! piece for the sink, written before the next act; where the memory alone is told, no line is put together, and the
+//! sink is left alone. Between the acts stand the player, the line and the order of a round: the memory does not grow
+//! with the number of acts. It stands on the lines of `watch_text`, on scripts, by whose player it plays, and on the
+//! book; `fractal_watch` calls it.
 #![tactic(auto)]
 
 mod courses;
@@ -13,6 +14,7 @@ mod lockstep;
 mod opening;
 mod playing;
 mod stop;
+mod telling;
 mod watch;
 
 pub use courses::{play_least, play_script};
@@ -22,5 +24,6 @@ pub use laws::{
 };
 pub use lockstep::play_rounds;
 pub use opening::tell_opening;
-pub use stop::StoryStop;
+pub use stop::{StoryStop, tell_text};
+pub use telling::Telling;
 pub use watch::Watch;

@@ -1,6 +1,6 @@
 //! The course in lockstep.
 
-ghost use Rattle.std.specs.Prelude.{◌≡◌, ◌≢◌, ◌↔◌, ◌<◌, ◌≤◌, ◌+◌, ◌^◌, ◌++◌, All, IfOk, IfSome, IsPermutation, IsTrue};
+ghost use Rattle.std.specs.Prelude.{◌≡◌, ◌≢◌, ◌↔◌, ◌<◌, ◌≤◌, ◌+◌, ◌^◌, ◌++◌, All, IfOk, IsPermutation, IsTrue};
 ghost use Rattle.std.specs.Prelude.{OnOk, ◌==◌, if◌then◌else◌, length, map, replicate};
 ghost use Rattle.std.specs.List.{flat_map, range_with_len};
 ghost use Rattle.conflict_book.specs.BookViews.{machine_view, view_of};
@@ -10,6 +10,7 @@ ghost use Rattle.watch_play.specs.Courses.{IsAskedInRound, OfRounds, next_draw, 
 ghost use Rattle.watch_play.specs.Courses.{tile_acts};
 ghost use Rattle.watch_play.specs.Made.{play_of};
 ghost use Rattle.watch_play.specs.Telling.{ActGoesOn, ForcedGoesOn, NextGoesOn, RoundGoesOn, TellsCourse};
+ghost use Rattle.watch_play.specs.Texts.{IsTellable};
 
 use crate::playing::tell_act;
 use crate::stop::StoryStop;
@@ -206,16 +207,16 @@ fn play_asked<N: Naming, P: Placer, T: Tap, K: Sink>(
     act: Act,
 ) -> Result<(), StoryStop>
     requires image { image.now ≡ N.image }
-    requires each { IfSome watch.old.each (λ number. 1 ≤ number) }
+    requires telling { IsTellable watch.old.telling }
     requires count { watch.old.count ≤ number }
     requires below { number + 1 < 2 ^ 64 }
     requires within { let settings = (machine_view watch.old.book).settings in
         ActIsInRange settings.tiles settings.cores act }
-    ensures goes_on { ActGoesOn N N.image watch.old.each number act watch.old.count watch.new.count
+    ensures goes_on { ActGoesOn N N.image watch.old.telling number act watch.old.count watch.new.count
         (play_of P.policy T.notes watch.old) (play_of P.policy T.notes watch.new) (K.state sink.old) (K.state sink.new)
         result }
     ensures settings { (machine_view watch.new.book).settings ≡ (machine_view watch.old.book).settings }
-    ensures each { watch.new.each ≡ watch.old.each }
+    ensures telling { watch.new.telling ≡ watch.old.telling }
     ensures count { OnOk result (watch.new.count ≤ number + 1) }
 {
     if is_asked(&watch.book, act) {
@@ -234,17 +235,17 @@ fn play_round<N: Naming, P: Placer, T: Tap, K: Sink>(
     before: u64,
 ) -> Result<(), StoryStop>
     requires image { image.now ≡ N.image }
-    requires each { IfSome watch.old.each (λ number. 1 ≤ number) }
+    requires telling { IsTellable watch.old.telling }
     requires count { watch.old.count ≤ before }
     requires below { before + length acts.now < 2 ^ 64 }
     requires some { 0 < length acts.now }
     requires within { let settings = (machine_view watch.old.book).settings in
         All (ActIsInRange settings.tiles settings.cores) acts.now }
-    ensures goes_on { RoundGoesOn N N.image watch.old.each before acts.now watch.old.count watch.new.count
+    ensures goes_on { RoundGoesOn N N.image watch.old.telling before acts.now watch.old.count watch.new.count
         (play_of P.policy T.notes watch.old) (play_of P.policy T.notes watch.new) (K.state sink.old) (K.state sink.new)
         result }
     ensures settings { (machine_view watch.new.book).settings ≡ (machine_view watch.old.book).settings }
-    ensures each { watch.new.each ≡ watch.old.each }
+    ensures telling { watch.new.telling ≡ watch.old.telling }
     ensures count { OnOk result (watch.new.count ≤ before + length acts.now) }
 {
     for (place, act) in acts.iter().enumerate() {
@@ -262,16 +263,16 @@ fn play_forced<N: Naming, P: Placer, T: Tap, K: Sink>(
     before: u64,
 ) -> Result<u64, StoryStop>
     requires image { image.now ≡ N.image }
-    requires each { IfSome watch.old.each (λ number. 1 ≤ number) }
+    requires telling { IsTellable watch.old.telling }
     requires count { watch.old.count ≤ before }
-    ensures goes_on { ForcedGoesOn N N.image watch.old.each before watch.old.count watch.new.count
+    ensures goes_on { ForcedGoesOn N N.image watch.old.telling before watch.old.count watch.new.count
         (play_of P.policy T.notes watch.old) (play_of P.policy T.notes watch.new) (K.state sink.old) (K.state sink.new)
         result }
     ensures ends { let commits = length (machine_view watch.new.book).history in
         OnOk result ((IsOver (machine_view watch.new.book) → ⊥)
         → commits ≢ length (machine_view watch.old.book).history) }
     ensures settings { (machine_view watch.new.book).settings ≡ (machine_view watch.old.book).settings }
-    ensures each { watch.new.each ≡ watch.old.each }
+    ensures telling { watch.new.telling ≡ watch.old.telling }
     ensures count { IfOk result (λ behind. watch.new.count ≤ behind) }
 {
     let begun = watch.book.state().commit_count();
@@ -305,20 +306,20 @@ fn play_next<N: Naming, P: Placer, T: Tap, K: Sink>(
     so_far: SoFar,
 ) -> Result<SoFar, StoryStop>
     requires image { image.now ≡ N.image }
-    requires each { IfSome watch.old.each (λ number. 1 ≤ number) }
+    requires telling { IsTellable watch.old.telling }
     requires count { watch.old.count ≤ so_far.acts }
     requires few { length acts.old < 2 ^ 32 }
     requires some { 0 < length acts.old }
     requires barren { so_far.barren + 1 < 2 ^ 32 }
     requires within { let settings = (machine_view watch.old.book).settings in
         All (ActIsInRange settings.tiles settings.cores) acts.old }
-    ensures goes_on { NextGoesOn N N.image watch.old.each seed barren so_far acts.old acts.new watch.old.count
+    ensures goes_on { NextGoesOn N N.image watch.old.telling seed barren so_far acts.old acts.new watch.old.count
         watch.new.count (play_of P.policy T.notes watch.old) (play_of P.policy T.notes watch.new) (K.state sink.old)
         (K.state sink.new) result }
     ensures permuted { OnOk result (IsPermutation acts.old acts.new) }
     ensures len { OnOk result (length acts.new ≡ length acts.old) }
     ensures settings { (machine_view watch.new.book).settings ≡ (machine_view watch.old.book).settings }
-    ensures each { watch.new.each ≡ watch.old.each }
+    ensures telling { watch.new.telling ≡ watch.old.telling }
     ensures count { IfOk result (λ behind. watch.new.count ≤ behind.acts) }
     ensures barren { IfOk result (λ behind. behind.barren ≤ so_far.barren + 1) }
 {
@@ -356,14 +357,14 @@ fn play_in_order<N: Naming, P: Placer, T: Tap, K: Sink>(
     barren: u32,
 ) -> Result<(), StoryStop>
     requires image { image.now ≡ N.image }
-    requires each { IfSome watch.old.each (λ number. 1 ≤ number) }
+    requires telling { IsTellable watch.old.telling }
     requires count { watch.old.count ≡ 0 }
     requires rounds { rounds ≤ 1000000 }
     requires acts { let settings = (machine_view watch.old.book).settings in
         acts.old ≡ round_acts settings.tiles settings.cores }
     ensures { let old = play_of P.policy T.notes watch.old in
         let course = OfRounds rounds seed barren (machine_view watch.old.book).settings in
-        TellsCourse N N.image watch.old.each course old (view_of P.policy T.notes watch.new.book)
+        TellsCourse N N.image watch.old.telling course old (view_of P.policy T.notes watch.new.book)
         (K.state sink.old) (K.state sink.new) result }
 {
     watch.book.is_sound();
@@ -393,12 +394,12 @@ pub fn play_rounds<N: Naming, P: Placer, T: Tap, K: Sink>(
     barren: u32,
 ) -> Result<(), StoryStop>
     requires image { image.now ≡ N.image }
-    requires each { IfSome watch.old.each (λ number. 1 ≤ number) }
+    requires telling { IsTellable watch.old.telling }
     requires count { watch.old.count ≡ 0 }
     requires rounds { rounds ≤ 1000000 }
     ensures { let old = play_of P.policy T.notes watch.old in
         let course = OfRounds rounds seed barren (machine_view watch.old.book).settings in
-        TellsCourse N N.image watch.old.each course old (view_of P.policy T.notes watch.new.book)
+        TellsCourse N N.image watch.old.telling course old (view_of P.policy T.notes watch.new.book)
         (K.state sink.old) (K.state sink.new) result }
 {
     match round_acts(watch.book.alloc(), watch.book.settings()) {

@@ -1,6 +1,6 @@
-//! One act, which is played and told.
+//! One act, which is played, and told where lines are told.
 
-ghost use Rattle.std.specs.Prelude.{◌≡◌, ◌+◌, ◌<◌, ◌≤◌, ◌^◌, ◌++◌, IfSome, OnOk};
+ghost use Rattle.std.specs.Prelude.{◌≡◌, ◌+◌, ◌<◌, ◌^◌, ◌++◌, OnOk, ℕ, true};
 ghost use Rattle.std.specs.String.{string_bytes};
 ghost use Rattle.rv_core.specs.LegValue.{LegValue};
 ghost use Rattle.conflict_book.specs.BookViews.{effect_of, events_made, machine_view, view_of};
@@ -9,10 +9,11 @@ ghost use Rattle.step_script.specs.Asking.{asks_of};
 ghost use Rattle.watch_text.specs.Lines.{rest_text};
 ghost use Rattle.watch_text.specs.Moments.{task_of};
 ghost use Rattle.watch_play.specs.Made.{TellsAct, play_of};
-ghost use Rattle.watch_play.specs.Playing.{ComesToLine};
-ghost use Rattle.watch_play.specs.Texts.{is_due, view_text};
+ghost use Rattle.watch_play.specs.Playing.{ComesToLine, MakesAct};
+ghost use Rattle.watch_play.specs.Texts.{IsTellable, has_lines, is_due, view_text};
 
 use crate::stop::StoryStop;
+use crate::telling::{Telling, has_lines};
 use crate::watch::Watch;
 use conflict_book::{Book, Reply};
 use guest_image::Image;
@@ -36,13 +37,14 @@ pub(crate) enum PlayedAct {
 }
 
 /// Whether the view is told behind the last of so many moments.
-fn is_due(each: Option<u32>, number: u64) -> bool
-    requires { IfSome each (λ every. 1 ≤ every) }
-    ensures { result ≡ is_due each number }
+fn is_due(telling: Telling, number: u64) -> bool
+    requires { IsTellable telling }
+    ensures { result ≡ is_due telling number }
 {
-    match each {
-        None => false,
-        Some(every) => number % u64::from(every) == 0,
+    match telling {
+        Telling::Lines => false,
+        Telling::Views(each) => number % u64::from(each) == 0,
+        Telling::Memory => false,
     }
 }
 
@@ -50,14 +52,14 @@ fn is_due(each: Option<u32>, number: u64) -> bool
 fn put_view_behind<N: Naming, P: Placer, T: Tap>(
     line: &mut String,
     book: &Book<N, P, T>,
-    each: Option<u32>,
+    telling: Telling,
     number: u64,
 ) -> Result<(), AllocError>
-    requires { IfSome each (λ every. 1 ≤ every) }
+    requires { IsTellable telling }
     ensures { OnOk result (string_bytes line.new ≡ string_bytes line.old
-        ++ view_text each number (machine_view book.now) (events_made book.now)) }
+        ++ view_text telling number (machine_view book.now) (events_made book.now)) }
 {
-    if is_due(each, number) {
+    if is_due(telling, number) {
         put_view(line, book.state(), book.steps())
     } else {
         Ok(())
@@ -72,14 +74,14 @@ fn tell_rest<N: Naming, P: Placer, T: Tap>(
     answer: &Answer,
 ) -> Result<(), AllocError>
     requires events { answer.now.events ≡ events_made watch.old.book }
-    requires each { IfSome watch.old.each (λ number. 1 ≤ number) }
+    requires telling { IsTellable watch.old.telling }
     ensures line { (leg : LegValue) → let view = machine_view watch.old.book in
         OnOk result (string_bytes watch.new.line ≡ string_bytes watch.old.line
         ++ rest_text (effect_of watch.old.book) answer.now.output view (asks_of {N = N} asked.now leg)
         (task_of about.now) about.now.request answer.now.reply answer.now.aborted (events_made watch.old.book)
-        ++ view_text watch.old.each watch.old.count view (events_made watch.old.book)) }
+        ++ view_text watch.old.telling watch.old.count view (events_made watch.old.book)) }
     ensures play { play_of P.policy T.notes watch.new ≡ play_of P.policy T.notes watch.old }
-    ensures each { watch.new.each ≡ watch.old.each }
+    ensures telling { watch.new.telling ≡ watch.old.telling }
     ensures count { watch.new.count ≡ watch.old.count }
 {
     let state = watch.book.state();
@@ -91,10 +93,10 @@ fn tell_rest<N: Naming, P: Placer, T: Tap>(
         watch.book.effect(),
         answer,
     )?;
-    put_view_behind(&mut watch.line, &watch.book, watch.each, watch.count)
+    put_view_behind(&mut watch.line, &watch.book, watch.telling, watch.count)
 }
 
-/// Plays an act of this number, from 1, and puts its line together.
+/// Plays an act of this number, from 1, and puts its line together, where lines are told.
 fn play_act<N: Naming, P: Placer, T: Tap>(
     watch: &mut Watch<N, P, T>,
     image: &Image,
@@ -104,12 +106,13 @@ fn play_act<N: Naming, P: Placer, T: Tap>(
     requires image { image.now ≡ N.image }
     requires within { let settings = (machine_view watch.old.book).settings in
         ActIsInRange settings.tiles settings.cores act }
-    requires each { IfSome watch.old.each (λ number. 1 ≤ number) }
+    requires telling { IsTellable watch.old.telling }
+    requires lines { has_lines watch.old.telling ≡ true }
     requires count { watch.old.count + 1 < 2 ^ 64 }
-    ensures comes { ComesToLine N N.image watch.old.each at (watch.old.count + 1) act
+    ensures comes { ComesToLine N N.image watch.old.telling at (watch.old.count + 1) act
         (play_of P.policy T.notes watch.old) result (string_bytes watch.new.line) (play_of P.policy T.notes watch.new) }
     ensures settings { (machine_view watch.new.book).settings ≡ (machine_view watch.old.book).settings }
-    ensures each { watch.new.each ≡ watch.old.each }
+    ensures telling { watch.new.telling ≡ watch.old.telling }
     ensures count { result ≡ PlayedAct.Told → watch.new.count ≡ watch.old.count + 1 }
 {
     let Ok(asked) = watch.player.ask(image, &watch.book, act) else {
@@ -139,7 +142,68 @@ fn play_act<N: Naming, P: Placer, T: Tap>(
     }
 }
 
-/// Plays an act of this number, and tells it.
+/// Plays an act of this number, and tells its line.
+fn tell_line<N: Naming, P: Placer, T: Tap, K: Sink>(
+    watch: &mut Watch<N, P, T>,
+    sink: &mut K,
+    image: &Image,
+    at: u64,
+    act: Act,
+) -> Result<(), StoryStop>
+    requires image { image.now ≡ N.image }
+    requires within { let settings = (machine_view watch.old.book).settings in
+        ActIsInRange settings.tiles settings.cores act }
+    requires telling { IsTellable watch.old.telling }
+    requires lines { has_lines watch.old.telling ≡ true }
+    requires count { watch.old.count + 1 < 2 ^ 64 }
+    ensures tells { TellsAct N N.image watch.old.telling at (watch.old.count + 1) act
+        (play_of P.policy T.notes watch.old) (play_of P.policy T.notes watch.new) (K.state sink.old)
+        (K.state sink.new) result }
+    ensures settings { (machine_view watch.new.book).settings ≡ (machine_view watch.old.book).settings }
+    ensures telling { watch.new.telling ≡ watch.old.telling }
+    ensures count { OnOk result (watch.new.count ≡ watch.old.count + 1) }
+{
+    match play_act(watch, image, at, act) {
+        PlayedAct::Told => match write_all(sink, watch.line.as_bytes()) {
+            Ok(()) => Ok(()),
+            Err(_) => Err(StoryStop::Sink),
+        },
+        PlayedAct::Untold => Err(StoryStop::Memory),
+        PlayedAct::Unmade => Err(StoryStop::Memory),
+    }
+}
+
+/// Plays an act of which nothing is told.
+fn make_act<N: Naming, P: Placer, T: Tap>(
+    watch: &mut Watch<N, P, T>,
+    image: &Image,
+    act: Act,
+) -> Result<(), StoryStop>
+    requires image { image.now ≡ N.image }
+    requires within { let settings = (machine_view watch.old.book).settings in
+        ActIsInRange settings.tiles settings.cores act }
+    requires count { watch.old.count + 1 < 2 ^ 64 }
+    ensures makes { (at : ℕ) → MakesAct N N.image at (watch.old.count + 1) act (play_of P.policy T.notes watch.old)
+        (play_of P.policy T.notes watch.new) result }
+    ensures settings { (machine_view watch.new.book).settings ≡ (machine_view watch.old.book).settings }
+    ensures telling { watch.new.telling ≡ watch.old.telling }
+    ensures count { OnOk result (watch.new.count ≡ watch.old.count + 1) }
+{
+    let Ok(asked) = watch.player.ask(image, &watch.book, act) else {
+        return Err(StoryStop::Memory);
+    };
+    let leg = watch.player.leg();
+    // What the act is about belongs to its moment, told or not.
+    let _about = about_of(watch.book.state(), &asked, leg);
+    let applied = watch.player.make(&mut watch.book, asked);
+    if applied.reply == Reply::Memory {
+        return Err(StoryStop::Memory);
+    }
+    watch.count += 1;
+    Ok(())
+}
+
+/// Plays an act of this number, and tells it where lines are told; else the sink is left alone.
 pub(crate) fn tell_act<N: Naming, P: Placer, T: Tap, K: Sink>(
     watch: &mut Watch<N, P, T>,
     sink: &mut K,
@@ -150,20 +214,18 @@ pub(crate) fn tell_act<N: Naming, P: Placer, T: Tap, K: Sink>(
     requires image { image.now ≡ N.image }
     requires within { let settings = (machine_view watch.old.book).settings in
         ActIsInRange settings.tiles settings.cores act }
-    requires each { IfSome watch.old.each (λ number. 1 ≤ number) }
+    requires telling { IsTellable watch.old.telling }
     requires count { watch.old.count + 1 < 2 ^ 64 }
-    ensures tells { TellsAct N N.image watch.old.each at (watch.old.count + 1) act (play_of P.policy T.notes watch.old)
-        (play_of P.policy T.notes watch.new) (K.state sink.old) (K.state sink.new) result }
+    ensures tells { TellsAct N N.image watch.old.telling at (watch.old.count + 1) act
+        (play_of P.policy T.notes watch.old) (play_of P.policy T.notes watch.new) (K.state sink.old)
+        (K.state sink.new) result }
     ensures settings { (machine_view watch.new.book).settings ≡ (machine_view watch.old.book).settings }
-    ensures each { watch.new.each ≡ watch.old.each }
+    ensures telling { watch.new.telling ≡ watch.old.telling }
     ensures count { OnOk result (watch.new.count ≡ watch.old.count + 1) }
 {
-    match play_act(watch, image, at, act) {
-        PlayedAct::Told => match write_all(sink, watch.line.as_bytes()) {
-            Ok(()) => Ok(()),
-            Err(_) => Err(StoryStop::Sink),
-        },
-        PlayedAct::Untold => Err(StoryStop::Memory),
-        PlayedAct::Unmade => Err(StoryStop::Memory),
+    if has_lines(watch.telling) {
+        tell_line(watch, sink, image, at, act)
+    } else {
+        make_act(watch, image, act)
     }
 }

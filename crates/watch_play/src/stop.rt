@@ -1,4 +1,8 @@
-//! Why a story ends before its course does.
+//! Why a story ends before its course does, and how a text is told.
+
+ghost use Rattle.watch_play.specs.Telling.{TellsText};
+
+use sim_io::{Sink, write_all};
 
 /// Why a story ends before its course does.
 #[derive(Clone, Copy, Debug, PartialEq, Eq)]
@@ -7,4 +11,14 @@ pub enum StoryStop {
     Memory,
     /// The sink failed.
     Sink,
+}
+
+/// Hands a text to the sink.
+pub fn tell_text<K: Sink>(sink: &mut K, text: &[u8]) -> Result<(), StoryStop>
+    ensures { TellsText text.now (K.state sink.old) (K.state sink.new) result }
+{
+    match write_all(sink, text) {
+        Ok(()) => Ok(()),
+        Err(_) => Err(StoryStop::Sink),
+    }
 }

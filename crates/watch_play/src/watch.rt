@@ -2,6 +2,7 @@
 
 ghost use Rattle.std.specs.Prelude.{◌≡◌, []};
 
+use crate::telling::Telling;
 use conflict_book::Book;
 use guest_image::Image;
 use place_policy::Placer;
@@ -19,19 +20,19 @@ pub struct Watch<N: Naming, P: Placer, T: Tap> {
     pub player: Player<N>,
     /// The line that is put together.
     pub line: String,
-    /// Behind each so many moments, at least 1, the view is told; None where it never is.
-    pub each: Option<u32>,
+    /// What is told of it.
+    pub telling: Telling,
     /// How many moments there were.
     pub count: u64,
 }
 
 impl<N: Naming, P: Placer, T: Tap> Watch<N, P, T> {
     /// A book that is to be watched, for which no leg is held. It takes no memory.
-    pub fn new(alloc: Global, image: &Image, book: Book<N, P, T>, each: Option<u32>) -> Self
+    pub fn new(alloc: Global, image: &Image, book: Book<N, P, T>, telling: Telling) -> Self
         requires image { image.now ≡ N.image }
         ensures book { result.book ≡ book }
         ensures held { result.player.held ≡ [] }
-        ensures each { result.each ≡ each }
+        ensures telling { result.telling ≡ telling }
         ensures count { result.count ≡ 0 }
     {
         let player = Player::new(alloc, image, &book);
@@ -39,7 +40,7 @@ impl<N: Naming, P: Placer, T: Tap> Watch<N, P, T> {
             book,
             player,
             line: String::new(alloc),
-            each,
+            telling,
             count: 0,
         }
     }

@@ -5,8 +5,6 @@ import dataclasses
 import struct
 from typing import Mapping
 
-from yotarimu.common.data import Data
-
 
 @dataclasses.dataclass(frozen=True)
 class Place:
@@ -22,7 +20,7 @@ class WrongMemory(Exception):
 @dataclasses.dataclass(frozen=True)
 class Memory:
     """All bytes of the data, and where the variables stand."""
-    data: Data
+    data: bytes
     places: Mapping[str, Place]
 
     def bytes_of(self, name: str) -> bytes:

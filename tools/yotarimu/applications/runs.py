@@ -45,9 +45,9 @@ def commits_of(report: bytes) -> int:
     return int(number) if number.isdigit() else 0
 
 
-def check(first: Calls, second: Calls, made: ApplicationImage, problem: Problem) -> str:
+def check(second: Calls, made: ApplicationImage, problem: Problem) -> str:
     """Holds the memory that a run leaves against plain programs, and says what was found right."""
-    left = memory_left(first.program, second, made.image)
+    left = memory_left(second, made.image)
     if left.end != "normal":
         raise Refusal(f"the run ended otherwise: {left.end}.")
     try:

@@ -32,11 +32,10 @@ def small_faults() -> list[tuple[str, Optional[str]]]:
 
 def fault_of(application: Application) -> Optional[str]:
     """What is wrong with the memory that a small input leaves, or with its report; None where nothing is."""
-    first = Calls(PROGRAM)
     made, problem = made_elsewhere(Case(application, application.sizes[SIZE_UNLESS_TOLD], SEED_UNLESS_TOLD), GCC)
     try:
-        check(first, Calls(SECOND_PROGRAM), made, problem)
-        run(first, made, [])
+        check(Calls(SECOND_PROGRAM), made, problem)
+        run(Calls(PROGRAM), made, [])
     except Refusal as refused:
         return str(refused)
     return None

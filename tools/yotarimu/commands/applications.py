@@ -104,7 +104,7 @@ def check_all(words: list[str]) -> None:
     for case in cases:
         for compiler in asked.compilers:
             made, problem = made_elsewhere(case, compiler)
-            right = check(calls, second, made, problem)
+            right = check(second, made, problem)
             runs = [run(calls, made, [f"--workers={number}"]) for number in numbers]
             print(f"{case.words_text} by {compiler_told(compiler)}: {runs[0].commits:,} tasks; {right}. Reports with "
                   f"{', '.join(map(str, numbers))} workers are accepted.", flush=True)

@@ -6,9 +6,8 @@ NAME is a variable, NAME[PLACE] one of its numbers, and NAME[FROM..TO] several, 
 unless KIND is bytes or halves; a struct of words is told as these. --hex tells them in hexadecimal. The names are those
 of the listing beside IMAGE, and a variable goes up to the next one.
 
-The memory is that which `./fractal watch memory least` leaves, or with --memory what such a call wrote to FILE.
---program FILE names a built program in place of the one of this clone, and --second-program FILE a built second
-program."""
+The memory is that which `./fractal watch memory least` tells, or with --memory what such a call wrote to FILE.
+--second-program FILE names a built second program in place of the one of this clone."""
 from __future__ import annotations
 
 import pathlib
@@ -22,15 +21,14 @@ from yotarimu.images.image import read_image
 from yotarimu.images.labels import listing_for
 from yotarimu.images.values import piece_of, piece_lines, variables
 from yotarimu.programs.calls import Calls
-from yotarimu.programs.final_memory import FinalMemory, memory_left
-from yotarimu.programs.program import PROGRAM, SECOND_PROGRAM
+from yotarimu.programs.final_memory import memory_left
+from yotarimu.programs.program import SECOND_PROGRAM
 
 
 def main(words: Sequence[str]) -> None:
     """Tells each piece that the words name."""
     kind, words = take_option(words, "--as")
     memory, words = take_option(words, "--memory")
-    program, words = take_option(words, "--program")
     second, words = take_option(words, "--second-program")
     names = [word for word in words if word != "--hex"]
     option = next((word for word in names if word.startswith("--")), None)
@@ -47,21 +45,16 @@ def main(words: Sequence[str]) -> None:
         raise Refusal(f"{remark.rstrip('.')}: ./fractal build writes the listing that names are taken from.")
     known = variables(listing, image)
     pieces = [piece_of(word, known, WIDTHS[kind or "words"]) for word in names[1:]]
-    left = left_of(data, program, second) if memory is None else memory_of_file(read_bytes(memory))
-    if left.size != image.size:
-        raise Refusal(f"the memory has {left.size:,} bytes, and the image's data {image.size:,}.")
+    left = left_of(data, second) if memory is None else read_bytes(memory)
+    if len(left) != image.size:
+        raise Refusal(f"the memory has {len(left):,} bytes, and the image's data {image.size:,}.")
     for piece in pieces:
-        print(*piece_lines(piece, left.data, "--hex" in words), sep="\n")
+        print(*piece_lines(piece, left, "--hex" in words), sep="\n")
 
 
-def memory_of_file(data: bytes) -> FinalMemory:
-    """Memory that a file has."""
-    return FinalMemory(data, len(data), "normal")
-
-
-def left_of(image: bytes, program: Optional[str], second: Optional[str]) -> FinalMemory:
+def left_of(image: bytes, second: Optional[str]) -> bytes:
     """The memory that a run of the image leaves; it is told where the run doesn't end normally."""
-    left = memory_left(pathlib.Path(program or PROGRAM), Calls(pathlib.Path(second or SECOND_PROGRAM)), image)
+    left = memory_left(Calls(pathlib.Path(second or SECOND_PROGRAM)), image)
     if left.end != "normal":
         note(f"the run ended otherwise: {left.end}.")
-    return left
+    return left.data

@@ -5,7 +5,6 @@ import dataclasses
 import re
 from typing import Iterator, Mapping
 
-from yotarimu.common.data import Data
 from yotarimu.common.outcome import Refusal
 from yotarimu.common.text import count_text, likely
 from yotarimu.images.image import DATA, Image
@@ -50,7 +49,7 @@ def piece_of(word: str, known: Mapping[str, tuple[int, int]], width: int) -> Pie
     return Piece(name, start, first, last + 1, width)
 
 
-def piece_lines(piece: Piece, data: Data, is_hex: bool) -> Iterator[str]:
+def piece_lines(piece: Piece, data: bytes, is_hex: bool) -> Iterator[str]:
     """The lines of a piece: the place of the first number of each, and the numbers."""
     address = DATA + piece.offset + piece.first * piece.width
     numbers, width = count_text(piece.end - piece.first, "number"), count_text(piece.width, "byte")
@@ -61,7 +60,7 @@ def piece_lines(piece: Piece, data: Data, is_hex: bool) -> Iterator[str]:
         yield f"{place:8}: " + " ".join(f"{it:0{2 * piece.width}x}" if is_hex else str(it) for it in row)
 
 
-def numbers_of(data: Data, piece: Piece, first: int, end: int) -> list[int]:
+def numbers_of(data: bytes, piece: Piece, first: int, end: int) -> list[int]:
     """Some numbers of a variable."""
     width = piece.width
     row = data[piece.offset + first * width:piece.offset + end * width]

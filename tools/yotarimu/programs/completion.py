@@ -31,7 +31,9 @@ _{name}() {{
                     watch)
                         words='{course_options}'
                         [ "$COMP_CWORD" -ne 2 ] || words='{leading}'
-                        [ "$COMP_CWORD ${{COMP_WORDS[2]}}" != '4 views' ] || words='{courses}'
+                        case "$COMP_CWORD ${{COMP_WORDS[2]}}" in
+                            '3 memory' | '4 views') words='{courses}' ;;
+                        esac
                         ;;
                     help) words='{first}' ;;
                 esac
@@ -110,7 +112,7 @@ def words_of(options: Mapping[str, Option]) -> str:
 
 def leading_words(table: Table) -> str:
     """What may stand right behind `watch`."""
-    return " ".join([*table.course_rows, "views"])
+    return " ".join([*table.course_rows, "memory", "views"])
 
 
 def option_text(option: Option) -> str:

@@ -120,13 +120,15 @@ def stored_calls() -> Iterator[Any]:
 
 
 def schedule_calls() -> Iterator[Call]:
-    """Each schedule told act by act, with views, and its image run by the machine's own acts."""
+    """Each schedule told act by act, with views, and the memory that it leaves; and its image run by the machine's own
+    acts."""
     for name in SCHEDULES:
         folder, words = EXAMPLES_FOLDER / name, words_of(name)
         image = (folder / "image.bin").read_bytes()
         script = (folder / "script").read_bytes()
         yield Call("watch", words, image + script)
         yield Call("watch", ("views", "1", *words), image + script)
+        yield Call("watch", ("memory", *words), image + script)
         yield Call("watch", ("least", *words[1:]), image)
         yield Call("watch", ("lockstep", "50", "7", *words[1:]), image)
         yield Call("sim", ("run", "--workers", "2", *words[1:]), image)

@@ -1,20 +1,29 @@
 use Rattle.program_call.specs.Call.{call_on, input_of}
-use Rattle.fractal_sim.proofs.Answering.{holds, holds_lawful, told}
-use Rattle.fractal_sim.proofs.Completing.{complete}
-use Rattle.fractal_sim.proofs.Counting.{steps_told}
+use Rattle.program_call.proofs.Fronts.{fault_answers, fault_is_empty}
+use Rattle.fractal_sim.specs.Given.{front}
+use Rattle.fractal_sim.specs.Program.{program}
+use Rattle.fractal_sim.proofs.Answering.{finding_answers}
+use Rattle.fractal_sim.proofs.Counting.{none_told}
 use Rattle.fractal_sim.proofs.program.top.Goals as goal
 
-pub returns : goal.returns
-returns g c =
-    let input = input_of c.args.words.now _ _ (g.S.Source.state c.args.source.now) (g.S.Source.state c.find-found.new.source) in
+pub returns-in-Ok : goal.returns-in-Ok
+returns-in-Ok g c =
+    let input = input_of c.args.words.now _ _ (g.S.Source.state c.args.source.now)
+    (g.S.Source.state c.find.new.source) in
     let call = call_on input (g.K.Sink.state c.args.sink.now) (g.K.Sink.state c.tell.new.sink) in
-    let found = c.find-found.ensures.found in
+    record { answers = finding_answers call c.in-Ok.found c.tell.result c.in-Ok.ensures.found c.tell.ensures }
+
+pub returns-in-Err : goal.returns-in-Err
+returns-in-Err g c =
+    let input = input_of c.args.words.now _ _ (g.S.Source.state c.args.source.now)
+    (g.S.Source.state c.find.new.source) in
+    let before = g.K.Sink.state c.args.sink.now in
+    let after = g.K.Sink.state c.tell_fault.new.sink in
+    let fault = c.in-Err.fault in
+    let o = c.tell_fault.result in
     record {
       answers = record {
-        run = holds input c.find-found.result c.tell.result found c.tell.ensures.kept;
-        laws = holds_lawful input c.tell.result;
-        steps = steps_told input c.find-found.result c.tell.result found c.tell.ensures.kept;
-        told = told call c.find-found.result c.tell.result found c.tell.ensures;
-        complete = complete call c.find-found.result c.tell.result found c.tell.ensures;
+        answers = fault_answers program input before after o fault c.in-Err.ensures.found c.tell_fault.ensures;
+        steps = none_told input o (fault_is_empty front fault before after o c.tell_fault.ensures);
       };
     }

@@ -29,7 +29,7 @@ returns-in-Ok g c = λ input behind given script_is is_opening.
     sym (ap (λ b. (machine_view b).settings) begun ∙ c.requires.settings) in
     let told : IsAllTold g.row.N.Denot plan (seen c.args.book) last before between =
     subst (λ b. IsAllTold g.row.N.Denot plan (seen b) last before between) begun
-    (c.in-Ok.ensures plan (sym named.image_is) settings_is (sym c.new-watch.ensures.each) refl) in
+    (c.in-Ok.ensures plan (sym named.image_is) settings_is (sym c.new-watch.ensures.telling) refl) in
     finished_tells g.row.N.Denot input asking image behind given script script_is (seen c.args.book) is_opening last
     g.N.Naming.commits g.N.Naming.budget named.commits_is named.budget_is before between
     (g.K.Sink.state c.finish.new.sink) c.finish.result told c.finish.ensures
@@ -51,7 +51,7 @@ returns g c = λ input behind given script_is is_opening.
     sym (ap (λ b. (machine_view b).settings) begun ∙ c.requires.settings) in
     let told : Tells g.row.N.Denot plan (seen c.args.book) last before after (Err stop) =
     subst (λ b. Tells g.row.N.Denot plan (seen b) last before after (Err stop)) begun
-    (c.in-Err.ensures plan (sym named.image_is) settings_is (sym c.new-watch.ensures.each) refl) in
+    (c.in-Err.ensures plan (sym named.image_is) settings_is (sym c.new-watch.ensures.telling) refl) in
     stopped_tells g.row.N.Denot input asking image behind given script script_is (seen c.args.book) is_opening last
     g.N.Naming.commits g.N.Naming.budget named.commits_is named.budget_is before after stop c.break_off.result told
     c.break_off.ensures

@@ -7,7 +7,7 @@ use Rattle.fractal_watch.proofs.Coursed.{opening_stopped, same_word}
 use Rattle.fractal_watch.proofs.watching.tell_course.Goals as goal
 
 pub returns-in_err-tell_opening : goal.returns-in_err-tell_opening
-returns-in_err-tell_opening g c = λ plan image_is settings_is each_is course_is.
+returns-in_err-tell_opening g c = λ plan image_is settings_is telling_is course_is.
     let opened = c.tell_opening in
     let opening = view_of g.P.Placer.policy g.T.Tap.notes c.args.watch.now.book in
     let book = view_of g.P.Placer.policy g.T.Tap.notes opened.new.watch.book in
@@ -20,4 +20,4 @@ returns-in_err-tell_opening g c = λ plan image_is settings_is each_is course_is
     let same : book ≡ opening = ap (λ (p : PlayState). p.book) opened.ensures.play in
     subst (Tells g.row.N.Denot plan opening book before after) (sym is)
     (opening_stopped g.row.N.Denot plan opening book before after stop same
-    (c.in_err-tell_opening.ensures.tells plan image_is word settings_is))
+    (c.in_err-tell_opening.ensures.tells plan image_is word settings_is telling_is))

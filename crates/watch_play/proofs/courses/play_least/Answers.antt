@@ -17,11 +17,11 @@ returns-in_err-tell_act g c =
     let inv = c.loop-made.invariant in
     let stage = first_stage OfLeast (commits_of first) in
     let told : c.from_residual.result ≡ Err c.in_err-tell_act.field-0.0 = search rules in
-    course_stops g.row.N.Denot g.N.Naming.image c.args.watch.now.each OfLeast first began (i + 1) stage (i + 1)
+    course_stops g.row.N.Denot g.N.Naming.image c.args.watch.now.telling OfLeast first began (i + 1) stage (i + 1)
     new after c.tell_act.result c.from_residual.result c.in_err-tell_act.field-0.0
-    (least_goes_on g.row.N.Denot g.N.Naming.image c.args.watch.now.each first began stage i c.loop-made.watch.count
-    c.loop-made.watch.each old new (g.K.Sink.state c.loop-made.sink) after c.tell_act.result
-    inv.count inv.each (search rules) inv.goes c.tell_act.ensures.tells)
+    (least_goes_on g.row.N.Denot g.N.Naming.image c.args.watch.now.telling first began stage i c.loop-made.watch.count
+    c.loop-made.watch.telling old new (g.K.Sink.state c.loop-made.sink) after c.tell_act.result
+    inv.count inv.telling (search rules) inv.goes c.tell_act.ensures.tells)
     c.in_err-tell_act.was told
 
 pub loop-made-preserved : goal.loop-made-preserved
@@ -35,12 +35,12 @@ loop-made-preserved g c =
     let inv = c.loop-made.invariant in
     let stage = first_stage OfLeast (commits_of first) in
     record {
-      goes = course_told g.row.N.Denot g.N.Naming.image c.args.watch.now.each OfLeast first began (i + 1) stage
+      goes = course_told g.row.N.Denot g.N.Naming.image c.args.watch.now.telling OfLeast first began (i + 1) stage
           (i + 1) new after c.tell_act.result
-          (least_goes_on g.row.N.Denot g.N.Naming.image c.args.watch.now.each first began stage i
-          c.loop-made.watch.count c.loop-made.watch.each old new (g.K.Sink.state c.loop-made.sink) after c.tell_act.result
-          inv.count inv.each (search rules) inv.goes c.tell_act.ensures.tells)
+          (least_goes_on g.row.N.Denot g.N.Naming.image c.args.watch.now.telling first began stage i
+          c.loop-made.watch.count c.loop-made.watch.telling old new (g.K.Sink.state c.loop-made.sink) after
+          c.tell_act.result inv.count inv.telling (search rules) inv.goes c.tell_act.ensures.tells)
           (search rules);
-      each = c.tell_act.ensures.each ∙ inv.each;
+      telling = c.tell_act.ensures.telling ∙ inv.telling;
       count = c.in_ok-tell_act.ensures.count ∙ ap (λ n. n + 1) inv.count;
     }

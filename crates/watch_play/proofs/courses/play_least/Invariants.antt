@@ -7,10 +7,10 @@ use Rattle.watch_play.proofs.courses.play_least.Given as goal
 
 abbrev pub invariant-loop-made : goal.invariant-loop-made
 invariant-loop-made g l = record {
-  goes : CourseGoes g.row.N.Denot g.N.Naming.image l.fn.watch.each OfLeast
+  goes : CourseGoes g.row.N.Denot g.N.Naming.image l.fn.watch.telling OfLeast
       (play_of g.P.Placer.policy g.T.Tap.notes l.fn.watch) (g.K.Sink.state l.fn.sink) l.made
       (first_stage OfLeast (commits_of (play_of g.P.Placer.policy g.T.Tap.notes l.fn.watch))) l.made
       (play_of g.P.Placer.policy g.T.Tap.notes l.watch) (g.K.Sink.state l.sink);
-  each : l.watch.each ≡ l.fn.watch.each;
+  telling : l.watch.telling ≡ l.fn.watch.telling;
   count : l.watch.count ≡ l.made;
 }

@@ -17,12 +17,12 @@ returns-in_err-tell_act g c =
     let inv = c.loop-act.invariant in
     let stage = first_stage (OfScript c.args.script.now) (commits_of first) in
     let told : c.from_residual.result ≡ Err c.in_err-tell_act.field-0.0 = search rules in
-    course_stops g.row.N.Denot g.N.Naming.image c.args.watch.now.each (OfScript c.args.script.now) first began (i + 1)
-    stage (i + 1)
+    course_stops g.row.N.Denot g.N.Naming.image c.args.watch.now.telling (OfScript c.args.script.now) first began
+    (i + 1) stage (i + 1)
     new after c.tell_act.result c.from_residual.result c.in_err-tell_act.field-0.0
-    (script_goes_on g.row.N.Denot g.N.Naming.image c.args.watch.now.each first began c.args.script.now stage i
-    c.loop-act.at c.loop-act.watch.count c.loop-act.watch.each _ old new (g.K.Sink.state c.loop-act.sink) after c.tell_act.result
-    (search rules) inv.at inv.count inv.each inv.goes c.tell_act.ensures.tells)
+    (script_goes_on g.row.N.Denot g.N.Naming.image c.args.watch.now.telling first began c.args.script.now stage i
+    c.loop-act.at c.loop-act.watch.count c.loop-act.watch.telling _ old new (g.K.Sink.state c.loop-act.sink) after
+    c.tell_act.result (search rules) inv.at inv.count inv.telling inv.goes c.tell_act.ensures.tells)
     c.in_err-tell_act.was told
 
 pub loop-act-preserved : goal.loop-act-preserved
@@ -38,17 +38,17 @@ loop-act-preserved g c =
     record {
       at = ap (λ n. n + 1) inv.at;
       goes =
-          course_told g.row.N.Denot g.N.Naming.image c.args.watch.now.each (OfScript c.args.script.now) first began
+          course_told g.row.N.Denot g.N.Naming.image c.args.watch.now.telling (OfScript c.args.script.now) first began
           (i + 1) stage (i + 1)
           new after c.tell_act.result
-          (script_goes_on g.row.N.Denot g.N.Naming.image c.args.watch.now.each first began c.args.script.now stage i
+          (script_goes_on g.row.N.Denot g.N.Naming.image c.args.watch.now.telling first began c.args.script.now stage i
           c.loop-act.at
-          c.loop-act.watch.count c.loop-act.watch.each _ old new (g.K.Sink.state c.loop-act.sink) after
+          c.loop-act.watch.count c.loop-act.watch.telling _ old new (g.K.Sink.state c.loop-act.sink) after
           c.tell_act.result
-          (search rules) inv.at inv.count inv.each inv.goes c.tell_act.ensures.tells)
+          (search rules) inv.at inv.count inv.telling inv.goes c.tell_act.ensures.tells)
           (search rules);
       settings = c.tell_act.ensures.settings ∙ inv.settings;
-      each = c.tell_act.ensures.each ∙ inv.each;
+      telling = c.tell_act.ensures.telling ∙ inv.telling;
       count = c.in_ok-tell_act.ensures.count ∙ ap (λ n. n + 1) inv.count;
     }
 
@@ -56,7 +56,7 @@ pub returns : goal.returns
 returns g c =
     let stage = first_stage (OfScript c.args.script.now)
     (commits_of (play_of g.P.Placer.policy g.T.Tap.notes c.args.watch.now)) in
-    course_ends g.row.N.Denot g.N.Naming.image c.args.watch.now.each (OfScript c.args.script.now)
+    course_ends g.row.N.Denot g.N.Naming.image c.args.watch.now.telling (OfScript c.args.script.now)
     (play_of g.P.Placer.policy g.T.Tap.notes c.args.watch.now) (g.K.Sink.state c.args.sink.now) c.loop-act.act-index
     stage c.loop-act.act-index
     (play_of g.P.Placer.policy g.T.Tap.notes c.loop-act.watch) (g.K.Sink.state c.loop-act.sink)

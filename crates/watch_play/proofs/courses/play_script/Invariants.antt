@@ -9,11 +9,11 @@ use Rattle.watch_play.proofs.courses.play_script.Given as goal
 abbrev pub invariant-loop-act : goal.invariant-loop-act
 invariant-loop-act g l = record {
   at : l.at ≡ l.act-index;
-  goes : CourseGoes g.row.N.Denot g.N.Naming.image l.fn.watch.each (OfScript l.script)
+  goes : CourseGoes g.row.N.Denot g.N.Naming.image l.fn.watch.telling (OfScript l.script)
       (play_of g.P.Placer.policy g.T.Tap.notes l.fn.watch) (g.K.Sink.state l.fn.sink) l.act-index
       (first_stage (OfScript l.script) (commits_of (play_of g.P.Placer.policy g.T.Tap.notes l.fn.watch))) l.act-index
       (play_of g.P.Placer.policy g.T.Tap.notes l.watch) (g.K.Sink.state l.sink);
   settings : (machine_view l.watch.book).settings ≡ (machine_view l.fn.watch.book).settings;
-  each : l.watch.each ≡ l.fn.watch.each;
+  telling : l.watch.telling ≡ l.fn.watch.telling;
   count : l.watch.count ≡ l.act-index;
 }

@@ -7,10 +7,10 @@ use Rattle.watch_play.proofs.lockstep.play_forced.Goals as goal
 pub loop-made-init : goal.loop-made-init
 loop-made-init g c = record {
   goes =
-      forced_begins g.row.N.Denot g.N.Naming.image c.args.watch.now.each c.args.before c.args.watch.now.count
+      forced_begins g.row.N.Denot g.N.Naming.image c.args.watch.now.telling c.args.before c.args.watch.now.count
       (play_of g.P.Placer.policy g.T.Tap.notes c.args.watch.now) (g.K.Sink.state c.args.sink.now);
   settings = search rules;
-  each = search rules;
+  telling = search rules;
   count = c.requires.count;
 }
 
@@ -20,12 +20,12 @@ returns-in_err-tell_act-clause-goes_on g c =
     let none : length (machine_view c.loop-made.watch.book).history
     ≡ length (machine_view c.args.watch.now.book).history = search rules in
     let told : c.from_residual.result ≡ Err c.in_err-tell_act.field-0.0 = search rules in
-    forced_stops g.row.N.Denot g.N.Naming.image c.args.watch.now.each c.args.before c.args.watch.now.count
+    forced_stops g.row.N.Denot g.N.Naming.image c.args.watch.now.telling c.args.before c.args.watch.now.count
     (play_of g.P.Placer.policy g.T.Tap.notes c.args.watch.now) (g.K.Sink.state c.args.sink.now) c.loop-made.made
-    c.loop-made.watch.count c.tell_act.new.watch.count c.loop-made.watch.each
+    c.loop-made.watch.count c.tell_act.new.watch.count c.loop-made.watch.telling
     (play_of g.P.Placer.policy g.T.Tap.notes c.loop-made.watch)
     (play_of g.P.Placer.policy g.T.Tap.notes c.tell_act.new.watch) (g.K.Sink.state c.loop-made.sink)
-    (g.K.Sink.state c.tell_act.new.sink) c.tell_act.result none (search rules) inv.each inv.goes
+    (g.K.Sink.state c.tell_act.new.sink) c.tell_act.result none (search rules) inv.telling inv.goes
     c.tell_act.ensures.tells c.tell_act.ensures.count c.from_residual.result c.in_err-tell_act.field-0.0
     c.in_err-tell_act.was told
 
@@ -36,15 +36,15 @@ loop-made-preserved g c =
     ≡ length (machine_view c.args.watch.now.book).history = search rules in
     record {
       goes =
-          forced_told g.row.N.Denot g.N.Naming.image c.args.watch.now.each c.args.before c.args.watch.now.count
+          forced_told g.row.N.Denot g.N.Naming.image c.args.watch.now.telling c.args.before c.args.watch.now.count
           (play_of g.P.Placer.policy g.T.Tap.notes c.args.watch.now) (g.K.Sink.state c.args.sink.now) c.loop-made.made
-          c.loop-made.watch.count c.tell_act.new.watch.count c.loop-made.watch.each
+          c.loop-made.watch.count c.tell_act.new.watch.count c.loop-made.watch.telling
           (play_of g.P.Placer.policy g.T.Tap.notes c.loop-made.watch)
           (play_of g.P.Placer.policy g.T.Tap.notes c.tell_act.new.watch) (g.K.Sink.state c.loop-made.sink)
-          (g.K.Sink.state c.tell_act.new.sink) c.tell_act.result none (search rules) inv.each inv.goes
+          (g.K.Sink.state c.tell_act.new.sink) c.tell_act.result none (search rules) inv.telling inv.goes
           c.tell_act.ensures.tells c.tell_act.ensures.count (search rules);
       settings = c.tell_act.ensures.settings ∙ inv.settings;
-      each = c.tell_act.ensures.each ∙ inv.each;
+      telling = c.tell_act.ensures.telling ∙ inv.telling;
       count =
           let counted = c.in_ok-tell_act.ensures.count in
           let before = inv.count in
@@ -53,7 +53,7 @@ loop-made-preserved g c =
 
 pub returns-clause-goes_on : goal.returns-clause-goes_on
 returns-clause-goes_on g c =
-    forced_wants g.row.N.Denot g.N.Naming.image c.args.watch.now.each c.args.before c.args.watch.now.count
+    forced_wants g.row.N.Denot g.N.Naming.image c.args.watch.now.telling c.args.before c.args.watch.now.count
     (play_of g.P.Placer.policy g.T.Tap.notes c.args.watch.now) (g.K.Sink.state c.args.sink.now) c.loop-made.made
     c.loop-made.watch.count (play_of g.P.Placer.policy g.T.Tap.notes c.loop-made.watch)
     (g.K.Sink.state c.loop-made.sink) c.loop-made.invariant.goes

@@ -6,10 +6,10 @@ use Rattle.watch_play.proofs.lockstep.play_forced.Given as goal
 
 abbrev pub invariant-loop-made : goal.invariant-loop-made
 invariant-loop-made g l = record {
-  goes : ForcedGoes g.row.N.Denot g.N.Naming.image l.fn.watch.each l.before l.fn.watch.count
+  goes : ForcedGoes g.row.N.Denot g.N.Naming.image l.fn.watch.telling l.before l.fn.watch.count
       (play_of g.P.Placer.policy g.T.Tap.notes l.fn.watch) (g.K.Sink.state l.fn.sink) l.made l.watch.count
       (play_of g.P.Placer.policy g.T.Tap.notes l.watch) (g.K.Sink.state l.sink);
   settings : (machine_view l.watch.book).settings ≡ (machine_view l.fn.watch.book).settings;
-  each : l.watch.each ≡ l.fn.watch.each;
+  telling : l.watch.telling ≡ l.fn.watch.telling;
   count : l.watch.count ≤ l.made;
 }

@@ -19,7 +19,7 @@ loop-round-init g c =
     let settings = (machine_view c.args.watch.now.book).settings in
     record {
       goes =
-          rounds_begin g.row.N.Denot g.N.Naming.image c.args.watch.now.each c.args.rounds c.args.seed c.args.barren
+          rounds_begin g.row.N.Denot g.N.Naming.image c.args.watch.now.telling c.args.rounds c.args.seed c.args.barren
           settings (play_of g.P.Placer.policy g.T.Tap.notes c.args.watch.now) (g.K.Sink.state c.args.sink.now)
           c.args.acts.now c.args.watch.now.count c.requires.count c.requires.acts;
       length_is = ap length c.requires.acts ∙ round_acts_length settings.tiles settings.cores;
@@ -27,7 +27,7 @@ loop-round-init g c =
           subst (All (ActIsInRange settings.tiles settings.cores)) (sym c.requires.acts)
           (round_inside settings.tiles settings.cores);
       settings = search rules;
-      each = search rules;
+      telling = search rules;
       count = search rules;
       barren = search rules;
     }
@@ -54,13 +54,13 @@ returns-in_err-so_far g c =
     let inv = c.loop-round.invariant in
     let fewer : c.loop-round._round < c.args.rounds = search rules in
     let told : c.from_residual.result ≡ Err c.in_err-so_far.field-0.0 = search rules in
-    rounds_stop g.row.N.Denot g.N.Naming.image c.args.watch.now.each c.args.rounds c.args.seed c.args.barren
+    rounds_stop g.row.N.Denot g.N.Naming.image c.args.watch.now.telling c.args.rounds c.args.seed c.args.barren
     (machine_view c.args.watch.now.book).settings (play_of g.P.Placer.policy g.T.Tap.notes c.args.watch.now)
     (g.K.Sink.state c.args.sink.now) c.loop-round.so_far c.loop-round.watch.count c.play_next.new.watch.count
     c.loop-round._round c.loop-round.acts c.play_next.new.acts
     (play_of g.P.Placer.policy g.T.Tap.notes c.loop-round.watch)
     (play_of g.P.Placer.policy g.T.Tap.notes c.play_next.new.watch) (g.K.Sink.state c.loop-round.sink)
-    (g.K.Sink.state c.play_next.new.sink) c.play_next.result c.loop-round.watch.each inv.goes fewer inv.each
+    (g.K.Sink.state c.play_next.new.sink) c.play_next.result c.loop-round.watch.telling inv.goes fewer inv.telling
     c.play_next.ensures.goes_on c.from_residual.result c.in_err-so_far.field-0.0 c.in_err-so_far.was told
 
 pub returns-then-is_some : goal.returns-then-is_some
@@ -69,13 +69,13 @@ returns-then-is_some g c =
     let fewer : c.loop-round._round < c.args.rounds = search rules in
     let over = told_is_over (machine_view c.play_next.new.watch.book) c.end.result c.is_some.result c.end.ensures.some
     c.is_some.ensures c.if-is_some.true in
-    rounds_end g.row.N.Denot g.N.Naming.image c.args.watch.now.each c.args.rounds c.args.seed c.args.barren
+    rounds_end g.row.N.Denot g.N.Naming.image c.args.watch.now.telling c.args.rounds c.args.seed c.args.barren
     (machine_view c.args.watch.now.book).settings (play_of g.P.Placer.policy g.T.Tap.notes c.args.watch.now)
     (g.K.Sink.state c.args.sink.now) c.loop-round.so_far c.loop-round.watch.count c.play_next.new.watch.count
     c.loop-round._round c.loop-round.acts c.play_next.new.acts
     (play_of g.P.Placer.policy g.T.Tap.notes c.loop-round.watch)
     (play_of g.P.Placer.policy g.T.Tap.notes c.play_next.new.watch) (g.K.Sink.state c.loop-round.sink)
-    (g.K.Sink.state c.play_next.new.sink) c.play_next.result c.loop-round.watch.each inv.goes fewer inv.each
+    (g.K.Sink.state c.play_next.new.sink) c.play_next.result c.loop-round.watch.telling inv.goes fewer inv.telling
     c.play_next.ensures.goes_on c.in_ok-so_far.so_far c.in_ok-so_far.was over
 
 pub loop-round-preserved : goal.loop-round-preserved
@@ -85,19 +85,19 @@ loop-round-preserved g c =
     let fewer : c.loop-round._round < c.args.rounds = search rules in
     record {
       goes =
-          rounds_go_on g.row.N.Denot g.N.Naming.image c.args.watch.now.each c.args.rounds c.args.seed c.args.barren
+          rounds_go_on g.row.N.Denot g.N.Naming.image c.args.watch.now.telling c.args.rounds c.args.seed c.args.barren
           settings (play_of g.P.Placer.policy g.T.Tap.notes c.args.watch.now) (g.K.Sink.state c.args.sink.now)
           c.loop-round.so_far c.loop-round.watch.count c.play_next.new.watch.count c.loop-round._round
           c.loop-round.acts c.play_next.new.acts (play_of g.P.Placer.policy g.T.Tap.notes c.loop-round.watch)
           (play_of g.P.Placer.policy g.T.Tap.notes c.play_next.new.watch) (g.K.Sink.state c.loop-round.sink)
-          (g.K.Sink.state c.play_next.new.sink) c.play_next.result c.loop-round.watch.each inv.goes fewer inv.each
+          (g.K.Sink.state c.play_next.new.sink) c.play_next.result c.loop-round.watch.telling inv.goes fewer inv.telling
           c.play_next.ensures.goes_on c.in_ok-so_far.so_far c.in_ok-so_far.was (search rules);
       length_is = c.in_ok-so_far.ensures.len ∙ inv.length_is;
       inside =
           All-permutation (ActIsInRange settings.tiles settings.cores) c.loop-round.acts c.play_next.new.acts
           c.in_ok-so_far.ensures.permuted inv.inside;
       settings = c.play_next.ensures.settings ∙ inv.settings;
-      each = c.play_next.ensures.each ∙ inv.each;
+      telling = c.play_next.ensures.telling ∙ inv.telling;
       count = c.in_ok-so_far.ensures.count;
       barren =
           let more = c.in_ok-so_far.ensures.barren in
@@ -112,7 +112,7 @@ returns g c =
     let play = play_of g.P.Placer.policy g.T.Tap.notes c.loop-round.watch in
     let so_far = c.loop-round.so_far in
     let all : c.loop-round._round ≡ c.args.rounds = search rules in
-    course_ends g.row.N.Denot g.N.Naming.image c.args.watch.now.each
+    course_ends g.row.N.Denot g.N.Naming.image c.args.watch.now.telling
     (OfRounds c.args.rounds c.args.seed c.args.barren settings)
     (play_of g.P.Placer.policy g.T.Tap.notes c.args.watch.now) (g.K.Sink.state c.args.sink.now) so_far.acts
     (next_at c.args.seed c.loop-round.acts so_far c.loop-round._round (commits_of play)) c.loop-round.watch.count play

@@ -10,7 +10,7 @@ use Rattle.watch_play.proofs.lockstep.play_in_order.Given as goal
 
 abbrev pub invariant-loop-round : goal.invariant-loop-round
 invariant-loop-round g l = record {
-  goes : CourseGoes g.row.N.Denot g.N.Naming.image l.fn.watch.each
+  goes : CourseGoes g.row.N.Denot g.N.Naming.image l.fn.watch.telling
       (OfRounds l.rounds l.seed l.barren (machine_view l.fn.watch.book).settings)
       (play_of g.P.Placer.policy g.T.Tap.notes l.fn.watch) (g.K.Sink.state l.fn.sink) l.so_far.acts
       (next_at l.seed l.acts l.so_far l._round (commits_of (play_of g.P.Placer.policy g.T.Tap.notes l.watch)))
@@ -20,7 +20,7 @@ invariant-loop-round g l = record {
       (machine_view l.fn.watch.book).settings.cores)
       l.acts;
   settings : (machine_view l.watch.book).settings ≡ (machine_view l.fn.watch.book).settings;
-  each : l.watch.each ≡ l.fn.watch.each;
+  telling : l.watch.telling ≡ l.fn.watch.telling;
   count : l.watch.count ≤ l.so_far.acts;
   barren : l.so_far.barren ≤ l._round;
 }

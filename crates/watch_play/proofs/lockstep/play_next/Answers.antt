@@ -16,10 +16,10 @@ play_round-requires-clause-within g c =
 pub returns-in_err-play_round-clause-goes_on : goal.returns-in_err-play_round-clause-goes_on
 returns-in_err-play_round-clause-goes_on g c =
     let told : c.from_residual.result ≡ Err c.in_err-play_round.field-0.0 = search rules in
-    next_stops g.row.N.Denot g.N.Naming.image c.args.watch.now.each c.args.seed c.args.barren c.args.so_far
+    next_stops g.row.N.Denot g.N.Naming.image c.args.watch.now.telling c.args.seed c.args.barren c.args.so_far
     c.args.acts.now c.next_order-drawn.new.acts c.args.watch.now.count
     (play_of g.P.Placer.policy g.T.Tap.notes c.args.watch.now) (g.K.Sink.state c.args.sink.now)
-    c.next_order-drawn.result 0 c.next_order-drawn.ensures.order c.play_round.new.watch.count c.args.watch.now.each
+    c.next_order-drawn.result 0 c.next_order-drawn.ensures.order c.play_round.new.watch.count c.args.watch.now.telling
     (play_of g.P.Placer.policy g.T.Tap.notes c.play_round.new.watch) (g.K.Sink.state c.play_round.new.sink)
     c.play_round.result (search rules) c.play_round.ensures.goes_on c.from_residual.result
     c.in_err-play_round.field-0.0 c.in_err-play_round.was told
@@ -30,11 +30,11 @@ returns-then-in_a_row-barren-clause-goes_on g c =
     (length (machine_view c.args.watch.now.book).history) c.commit_count.result c.commit_count-begun.result
     c.args.so_far.barren c.barren_rounds_after-in_a_row.result (search rules) (search rules)
     c.barren_rounds_after-in_a_row.ensures in
-    next_comes g.row.N.Denot g.N.Naming.image c.args.watch.now.each c.args.seed c.args.barren c.args.so_far
+    next_comes g.row.N.Denot g.N.Naming.image c.args.watch.now.telling c.args.seed c.args.barren c.args.so_far
     c.args.acts.now c.next_order-drawn.new.acts c.args.watch.now.count
     (play_of g.P.Placer.policy g.T.Tap.notes c.args.watch.now) (g.K.Sink.state c.args.sink.now)
     c.next_order-drawn.result c.barren_rounds_after-in_a_row.result c.next_order-drawn.ensures.order
-    c.play_round.new.watch.count c.args.watch.now.each
+    c.play_round.new.watch.count c.args.watch.now.telling
     (play_of g.P.Placer.policy g.T.Tap.notes c.play_round.new.watch) (g.K.Sink.state c.play_round.new.sink)
     c.play_round.result (search rules) c.play_round.ensures.goes_on c.in_ok-play_round.was c.in-Some.behind
     (search rules) (λ round. counted) (search rules)
@@ -46,14 +46,14 @@ returns-in_err-behind-clause-goes_on g c =
     (length (machine_view c.args.watch.now.book).history) c.commit_count.result c.commit_count-begun.result
     c.args.so_far.barren c.barren_rounds_after-in_a_row.result (search rules) (search rules)
     c.barren_rounds_after-in_a_row.ensures in
-    next_breaks g.row.N.Denot g.N.Naming.image c.args.watch.now.each c.args.seed c.args.barren c.args.so_far
+    next_breaks g.row.N.Denot g.N.Naming.image c.args.watch.now.telling c.args.seed c.args.barren c.args.so_far
     c.args.acts.now c.next_order-drawn.new.acts c.args.watch.now.count
     (play_of g.P.Placer.policy g.T.Tap.notes c.args.watch.now) (g.K.Sink.state c.args.sink.now)
     c.next_order-drawn.result c.barren_rounds_after-in_a_row.result c.next_order-drawn.ensures.order
-    c.play_round.new.watch.count c.play_round.new.watch.each
+    c.play_round.new.watch.count c.play_round.new.watch.telling
     (play_of g.P.Placer.policy g.T.Tap.notes c.play_round.new.watch) (g.K.Sink.state c.play_round.new.sink)
-    c.play_round.result c.play_round.ensures.each c.play_round.ensures.goes_on c.in_ok-play_round.was c.in-Some.behind
-    (search rules) (λ round. counted) (search rules) c.play_forced.new.watch.count
+    c.play_round.result c.play_round.ensures.telling c.play_round.ensures.goes_on c.in_ok-play_round.was
+    c.in-Some.behind (search rules) (λ round. counted) (search rules) c.play_forced.new.watch.count
     (play_of g.P.Placer.policy g.T.Tap.notes c.play_forced.new.watch) (g.K.Sink.state c.play_forced.new.sink)
     c.play_forced.result c.play_forced.ensures.goes_on c.from_residual-in_err-behind.result c.in_err-behind.field-0.0
     c.in_err-behind.was told
@@ -64,14 +64,14 @@ returns-clause-goes_on g c =
     (length (machine_view c.args.watch.now.book).history) c.commit_count.result c.commit_count-begun.result
     c.args.so_far.barren c.barren_rounds_after-in_a_row.result (search rules) (search rules)
     c.barren_rounds_after-in_a_row.ensures in
-    next_forced g.row.N.Denot g.N.Naming.image c.args.watch.now.each c.args.seed c.args.barren c.args.so_far
+    next_forced g.row.N.Denot g.N.Naming.image c.args.watch.now.telling c.args.seed c.args.barren c.args.so_far
     c.args.acts.now c.next_order-drawn.new.acts c.args.watch.now.count
     (play_of g.P.Placer.policy g.T.Tap.notes c.args.watch.now) (g.K.Sink.state c.args.sink.now)
     c.next_order-drawn.result c.barren_rounds_after-in_a_row.result c.next_order-drawn.ensures.order
-    c.play_round.new.watch.count c.play_round.new.watch.each
+    c.play_round.new.watch.count c.play_round.new.watch.telling
     (play_of g.P.Placer.policy g.T.Tap.notes c.play_round.new.watch) (g.K.Sink.state c.play_round.new.sink)
-    c.play_round.result c.play_round.ensures.each c.play_round.ensures.goes_on c.in_ok-play_round.was c.in-Some.behind
-    (search rules) (λ round. counted) (search rules) c.play_forced.new.watch.count
+    c.play_round.result c.play_round.ensures.telling c.play_round.ensures.goes_on c.in_ok-play_round.was
+    c.in-Some.behind (search rules) (λ round. counted) (search rules) c.play_forced.new.watch.count
     (play_of g.P.Placer.policy g.T.Tap.notes c.play_forced.new.watch) (g.K.Sink.state c.play_forced.new.sink)
     c.play_forced.result c.play_forced.ensures.goes_on c.in_ok-behind.behind c.in_ok-behind.was
     c.in_ok-behind.ensures.ends

@@ -6,10 +6,10 @@ use Rattle.watch_play.proofs.lockstep.play_round.Given as goal
 
 abbrev pub invariant-loop-place : goal.invariant-loop-place
 invariant-loop-place g l = record {
-  goes : RoundGoes g.row.N.Denot g.N.Naming.image l.fn.watch.each l.acts l.before l.fn.watch.count
+  goes : RoundGoes g.row.N.Denot g.N.Naming.image l.fn.watch.telling l.acts l.before l.fn.watch.count
       (play_of g.P.Placer.policy g.T.Tap.notes l.fn.watch) (g.K.Sink.state l.fn.sink) l.place l.watch.count
       (play_of g.P.Placer.policy g.T.Tap.notes l.watch) (g.K.Sink.state l.sink);
   settings : (machine_view l.watch.book).settings ≡ (machine_view l.fn.watch.book).settings;
-  each : l.watch.each ≡ l.fn.watch.each;
+  telling : l.watch.telling ≡ l.fn.watch.telling;
   count : l.watch.count ≤ l.before + l.place;
 }

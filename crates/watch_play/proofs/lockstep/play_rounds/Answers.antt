@@ -10,6 +10,6 @@ returns-in-Err g c =
     let course = OfRounds c.args.rounds c.args.seed c.args.barren (machine_view c.args.watch.now.book).settings in
     let first = play_of g.P.Placer.policy g.T.Tap.notes c.args.watch.now in
     let began = g.K.Sink.state c.args.sink.now in
-    course_wants g.row.N.Denot g.N.Naming.image c.args.watch.now.each course first began 0
+    course_wants g.row.N.Denot g.N.Naming.image c.args.watch.now.telling course first began 0
     (first_stage course (commits_of first)) 0 first began
-    (course_begins g.row.N.Denot g.N.Naming.image c.args.watch.now.each course first began)
+    (course_begins g.row.N.Denot g.N.Naming.image c.args.watch.now.telling course first began)

@@ -31,9 +31,9 @@ returns-in-Ok-tell_rest-clause-comes g c =
           c.in-Ok.ensures.asks about.ensures.task about.ensures.request there applied.ensures.comes applied.ensures.told,
       line_is g.row.N.Denot g.N.Naming.image c.args.at number c.args.act old new
           (asks_of {N = g.row.N.Denot} c.in-Ok.asked leg) task about.result.request applied.result.reply
-          applied.result.aborted effect c.args.watch.now.each (string_bytes c.clear.new.self)
-          (string_bytes c.put_front.new.line) (string_bytes c.tell_rest.new.watch.line) _ (search rules) (search rules)
-          (search rules) (c.in-Ok-tell_rest.ensures.line leg),
+          applied.result.aborted effect c.args.watch.now.telling (string_bytes c.clear.new.self)
+          (string_bytes c.put_front.new.line) (string_bytes c.tell_rest.new.watch.line) _ c.requires.lines
+          (search rules) (search rules) (search rules) (c.in-Ok-tell_rest.ensures.line leg),
     )
 
 pub returns-in-Err-clause-comes : goal.returns-in-Err-clause-comes

@@ -1,0 +1,41 @@
+//! The words of a process, and its exit code. No contract says what words a process has.
+
+use crate::statuses::NO_MEMORY;
+use std::alloc::{AllocError, Global};
+use std::env::{self, Env};
+use std::io::ErrorKind;
+use std::process::ExitCode;
+
+/// The words behind the program's name. There are none where one of them is no UTF-8, so that they are refused as one
+/// that is not known.
+pub fn process_words<R: Env + Alloc<A = Global>>(rt: &R) -> Result<Vec<String>, AllocError> {
+    let alloc = rt.alloc();
+    let mut words = Vec::new(alloc);
+    let mut args = match env::args(rt) {
+        Ok(args) => args,
+        Err(error) if error.kind() == ErrorKind::OutOfMemory => return Err(AllocError),
+        Err(_) => return Ok(words),
+    };
+    let _ = args.next();
+    for word in args {
+        words.push(word)?;
+    }
+    Ok(words)
+}
+
+/// The texts of these words.
+pub fn texts_of<'a>(alloc: Global, words: &'a [String]) -> Result<Vec<&'a str>, AllocError> {
+    let mut texts = Vec::new(alloc);
+    for word in words {
+        texts.push(word.as_str())?;
+    }
+    Ok(texts)
+}
+
+/// The exit code that shows a status; where memory ran out, 5.
+pub fn exit_code(answered: Result<u8, AllocError>) -> ExitCode {
+    match answered {
+        Ok(status) => ExitCode::from(status),
+        Err(_) => ExitCode::from(NO_MEMORY),
+    }
+}
