@@ -66,7 +66,7 @@ module _ (N : Type 0) (old new : BookView) (aborted : ℕ) where
 
 module _ (N : Type 0) (image : ImageValue) (old new : BookView) (aborted : ℕ) (sound : Sound image old.view) where
   -- the event for the least task was made
-  made_of : (e : Event N) → IsNextEvent image old.view e → (answer : Reply) → answer ≢ reply.Memory
+  pub made_of : (e : Event N) → IsNextEvent image old.view e → (answer : Reply) → answer ≢ reply.Memory
       → Happens old e answer aborted new → IsMade old e aborted new
   made_of e next reply.Ok there happens = happens
   made_of e next reply.Memory there happens = absurd (there refl)

@@ -165,10 +165,10 @@ act_within P false false list place act one all is = absurd (cc (is))
 
 module _ (rounds seed barren : ℕ) (settings : Settings) where
   -- the acts of the order stand within the settings
-  abbrev AreWithin : Stage → Type 0
+  abbrev pub AreWithin : Stage → Type 0
   AreWithin stage = All (ActIsInRange settings.tiles settings.cores) stage.order.acts
 
-  first_within : (commits : ℕ) → AreWithin (first_stage (OfRounds rounds seed barren settings) commits)
+  pub first_within : (commits : ℕ) → AreWithin (first_stage (OfRounds rounds seed barren settings) commits)
   unfolding first_stage
   first_within commits =
       next_in (ActIsInRange settings.tiles settings.cores) seed
@@ -184,7 +184,7 @@ module _ (rounds seed barren : ℕ) (settings : Settings) where
       (at_round (next_order seed stage.order) (stage.round + 1) commits (barren_after stage commits)) AreWithin
       (λ all. next) (λ fewer. next)
 
-  after_within : (stage : Stage) (commits : ℕ) → AreWithin stage → AreWithin (stage_after seed barren stage commits)
+  pub after_within : (stage : Stage) (commits : ℕ) → AreWithin stage → AreWithin (stage_after seed barren stage commits)
   unfolding stage_after
   after_within stage commits inside =
       cond_both stage.forced
@@ -198,7 +198,7 @@ module _ (rounds seed barren : ℕ) (settings : Settings) where
       (record stage { place = stage.place + 1 }) AreWithin
       (λ last. round_within stage commits inside) (λ more. inside))
 
-  course_within : (number : ℕ) (stage : Stage) (act : Act) → AreWithin stage
+  pub course_within : (number : ℕ) (stage : Stage) (act : Act) → AreWithin stage
       → course_act (OfRounds rounds seed barren settings) number stage ≡ Some act
       → ActIsInRange settings.tiles settings.cores act
   unfolding course_act round_act

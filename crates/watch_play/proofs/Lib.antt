@@ -1,3 +1,4 @@
+pub mod AskedToo
 pub mod Chosen
 pub mod Does
 pub mod Forced
@@ -5,9 +6,11 @@ pub mod GetsOn
 pub mod SoundPlays
 pub mod InRound
 pub mod InRounds
+pub mod Leaving
 pub mod Lined
 pub mod Plays
 pub mod Rounds
 pub mod Scripts
 pub mod Stages
 pub mod Tellings
+pub mod Twice

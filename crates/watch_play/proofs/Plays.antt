@@ -118,7 +118,7 @@ module _ (N : Type 0) (image : ImageValue) (script : List Act) (opening : BookVi
   acts_are (suc n) stage moments last goes =
       one_more n goes.2 goes.0 moments goes.1 last (acts_are n goes.2 goes.0 goes.1 goes.3) goes.4
 
-  script_inside : All (ActIsInRange opening.view.settings.tiles opening.view.settings.cores) script → (number : ℕ)
+  pub script_inside : All (ActIsInRange opening.view.settings.tiles opening.view.settings.cores) script → (number : ℕ)
       (stage : Stage) (act : Act) → Unit {0} → course_act (OfScript script) number stage ≡ Some act
       → ActIsInRange opening.view.settings.tiles opening.view.settings.cores act
   script_inside inside number stage act fits is =

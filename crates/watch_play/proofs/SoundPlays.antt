@@ -23,6 +23,7 @@ use Rattle.step_script.proofs.HeldLegs.{AreRuns, held_runs, without_runs, ended_
 use Rattle.step_script.specs.Asking.{Attempt, AsksAdvance, AsksFor, AsksGive, AsksStep, AsksTake, Hands, HandsEvent}
 use Rattle.step_script.specs.Asking.{ComesOf, Says}
 use Rattle.step_script.specs.Asking as asking
+use Rattle.watch_play.specs.Leaving.{IsSoundBook}
 
 -- ---- plays
 
@@ -32,12 +33,6 @@ pub record IsSoundPlay (image : ImageValue) (settings : Settings) (play : PlaySt
   pub going : play.book.stopped ≡ false
   pub settings_are : play.book.view.settings ≡ settings
   pub runs : AreRuns image settings play.held
-
--- likewise of a book alone
-record IsSoundBook (image : ImageValue) (settings : Settings) (book : BookView) : Type 0 where
-  sound : Sound image book.view
-  going : book.stopped ≡ false
-  settings_are : book.view.settings ≡ settings
 
 -- what is handed in may be handed in
 abbrev AsksGiven : {N : Type 0} → ImageValue → Settings → Attempt N → Type 0

@@ -8,3 +8,5 @@ pub mod Telling
 pub mod Replies
 pub mod Rounds
 pub mod Lockstep
+pub mod Leaving
+pub mod Twice

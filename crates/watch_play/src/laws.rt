@@ -1,8 +1,10 @@
 //! Laws of stories and their lines. Each is the contract of a function that does nothing.
 
+ghost use Rattle.watch_play.specs.Leaving.{LeastStoryAdvances, LeastStoryIsRun, StoryStaysSound};
 ghost use Rattle.watch_play.specs.Lockstep.{ForcedGetsOn, LockstepPlays, RoundsCommit};
 ghost use Rattle.watch_play.specs.Replies.{MomentDoes, StoryPlays};
 ghost use Rattle.watch_play.specs.Rounds.{AskedIsMade, PassedIsRefused};
+ghost use Rattle.watch_play.specs.Twice.{StoryIsOne};
 
 use rv_core::Naming;
 
@@ -48,4 +50,28 @@ pub fn rounds_commit<N: Naming>()
 /// acts of its lines, with the same replies.
 pub fn lockstep_plays<N: Naming>()
     ensures { LockstepPlays N }
+{}
+
+/// A story of any course whose acts stand within the settings leaves a sound book that wasn't stopped, wherever it has
+/// come to, if it began with one. An unsound opening stays unsound, and a stopped book makes no event.
+pub fn story_stays_sound<N: Naming>()
+    ensures { StoryStaysSound N }
+{}
+
+/// Each moment of the course of the least task is one event for the least task, of a sound opening that wasn't stopped.
+pub fn least_story_advances<N: Naming>()
+    ensures { LeastStoryAdvances N }
+{}
+
+/// So what this course leaves of an opening is the run that as many events of the least tasks make as it has moments:
+/// the one that the first program runs without workers.
+pub fn least_story_is_run<N: Naming>()
+    ensures { LeastStoryIsRun N }
+{}
+
+/// Two stories of one course, from openings of one image with the same settings, placers and taps, tell one thing,
+/// moment by moment: they differ in the ids of tasks alone. Of the tasks that an event took back, and spilled, it says
+/// how many alone.
+pub fn story_is_one<N: Naming>()
+    ensures { StoryIsOne N }
 {}

@@ -19,8 +19,8 @@ mod watch;
 
 pub use courses::{play_least, play_script};
 pub use laws::{
-    asked_is_made, forced_gets_on, lockstep_plays, moment_does, passed_is_refused, rounds_commit,
-    story_plays,
+    asked_is_made, forced_gets_on, least_story_advances, least_story_is_run, lockstep_plays,
+    moment_does, passed_is_refused, rounds_commit, story_is_one, story_plays, story_stays_sound,
 };
 pub use lockstep::play_rounds;
 pub use opening::tell_opening;

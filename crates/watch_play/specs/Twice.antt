@@ -1,0 +1,39 @@
+-- Two stories of one course, from two openings of one image, tell one thing: they differ in the ids of tasks alone.
+use Rattle.std.specs.Prelude.{◌≡◌, ℕ, List}
+use Rattle.std.specs.List.{AllZip}
+use Rattle.guest_image.specs.ImageValue.{ImageValue, IsImage}
+use Rattle.place_policy.specs.Policy.{Policy}
+use Rattle.trace_tap.specs.TapValue.{TapValue}
+use Rattle.spec_state.specs.declared.settings.Settings.{Settings}
+use Rattle.spec_state.specs.Settings.{IsValid}
+use Rattle.event_def.specs.Book.{BookView}
+use Rattle.event_def.specs.Opening.{IsOpening}
+use Rattle.step_script.specs.Playing.{PlayState}
+use Rattle.outcome_law.specs.Laws.{AreSameBooks}
+use Rattle.watch_text.specs.Moments.{Moment}
+use Rattle.watch_play.specs.Courses.{Course, Stage}
+use Rattle.watch_play.specs.Leaving.{IsWithin}
+use Rattle.watch_play.specs.Stories.{StoryLeads}
+
+-- two moments tell one thing: one act under one number, with one reply and as many tasks taken back, of books before
+-- and after it that are the same but for ids. Of what else the event did (its effect) this says nothing
+pub record TellOneThing {N : Type 0} (m other : Moment N) : Type 0 where
+  pub at_is : other.at ≡ m.at
+  pub number_is : other.number ≡ m.number
+  pub act_is : other.act ≡ m.act
+  pub reply_is : other.reply ≡ m.reply
+  pub aborted_is : other.aborted ≡ m.aborted
+  pub old : AreSameBooks m.old other.old
+  pub new : AreSameBooks m.new other.new
+
+-- so two stories do, moment by moment, as far as so many acts of the course lead, and leave books that are the same
+abbrev pub StoryIsOne : Type 0 → Type 0
+StoryIsOne N =
+    (image : ImageValue) (course : Course) (settings : Settings) (placers : List Policy) (taps : List TapValue)
+    (opening other_opening : BookView) (count : ℕ) (stage other_stage : Stage) (moments others : List (Moment N))
+    (last other_last : PlayState)
+    → IsImage image → IsValid settings → IsWithin course settings
+    → IsOpening image settings placers taps opening → IsOpening image settings placers taps other_opening
+    → StoryLeads image course opening count stage moments last
+    → StoryLeads image course other_opening count other_stage others other_last
+    → (other_stage ≡ stage) × AllZip TellOneThing moments others × AreSameBooks last.book other_last.book
