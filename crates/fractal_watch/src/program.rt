@@ -16,11 +16,11 @@ use std::marker::Brand;
 
 /// Does what the words ask for, on the bytes of the source, and tells what comes of it to the sink.
 ///
-/// The words are those behind the program's name: `memory`, `views K` or neither, a course, and the options of the first
-/// program. The head is told, the tasks of the image where they were placed, each act that is asked for, the view behind
-/// each K of these, and how the run stands at the end. The line of an act tells what it came to, as the machine stood
-/// before and behind it. With `memory` none of this is told, but the data memory that the run leaves, of which no copy
-/// is made.
+/// The words are those behind the program's name: `memory`, `views K` or neither, a course, and the options of the
+/// first program. The head is told, the tasks of the image where they were placed, each act that is asked for, the view
+/// behind each K of these, and how the run stands at the end. The line of an act tells what it came to, as the machine
+/// stood before and behind it. With `memory` none of this is told, but the data memory that the run leaves, of which no
+/// copy is made.
 ///
 /// The outcome holds nothing, or the run of the serial machine from the image that was read, which the events left. The
 /// status tells what was found. Where the sink failed it took a front of the text, and the run stopped there; where
