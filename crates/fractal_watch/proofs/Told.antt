@@ -40,7 +40,7 @@ use Rattle.fractal_watch.specs.Complete.{IsDueBehind}
 use Rattle.fractal_watch.specs.Given.{HasImage, front}
 use Rattle.fractal_watch.specs.Program.{program}
 use Rattle.fractal_watch.specs.Telling.{TellsBookOf, TellsRunOf}
-use Rattle.fractal_watch.specs.Texts.{end_text, watch_status}
+use Rattle.fractal_watch.specs.Texts.{end_text}
 use Rattle.fractal_watch.specs.Watched.{HasActs, IsWatched, lines_of_watched, plan_of, text_of_watched}
 
 module _ (N : Type 0) (input : Input) (asking : Asking) (image : ImageValue) (behind : List ℕ)

@@ -2,16 +2,27 @@ use Rattle.std.proofs.Common.{[], refl, sym, subst}
 use Rattle.std.specs.declared.marker.Brand.{Brand}
 use Rattle.program_call.specs.Call.{input_of}
 use Rattle.program_call.proofs.Fronts.{fault_answers}
+use Rattle.fractal_watch.specs.Finding.{IsWatchFound}
 use Rattle.fractal_watch.specs.Program.{program}
 use Rattle.fractal_watch.specs.Watched.{HasActs}
 use Rattle.fractal_watch.proofs.Answering.{no_script_answers}
 use Rattle.fractal_watch.proofs.program.top.Goals as goal
 
 pub watch_image-requires-clause-limits : goal.watch_image-requires-clause-limits
-watch_image-requires-clause-limits g c = let found = c.in-Ok-Ready.ensures.found [] in found.1.within.limits
+watch_image-requires-clause-limits g c =
+    let input = input_of c.args.words.now [] [] (g.S.Source.state c.args.source.now)
+    (g.S.Source.state c.find.new.source) in
+    let ready = c.in-Ok-Ready in
+    let found = subst (IsWatchFound input) ready.field-0-is (ready.ensures.found []) in
+    found.1.within.limits
 
 pub watch_image-requires-clause-ranges : goal.watch_image-requires-clause-ranges
-watch_image-requires-clause-ranges g c = let found = c.in-Ok-Ready.ensures.found [] in found.1.within.ranges
+watch_image-requires-clause-ranges g c =
+    let input = input_of c.args.words.now [] [] (g.S.Source.state c.args.source.now)
+    (g.S.Source.state c.find.new.source) in
+    let ready = c.in-Ok-Ready in
+    let found = subst (IsWatchFound input) ready.field-0-is (ready.ensures.found []) in
+    found.1.within.ranges
 
 pub returns-in-Err : goal.returns-in-Err
 returns-in-Err g c =
@@ -27,17 +38,19 @@ pub returns-in-Ok-NoScript : goal.returns-in-Ok-NoScript
 returns-in-Ok-NoScript g c =
     let input = input_of c.args.words.now _ [] (g.S.Source.state c.args.source.now)
     (g.S.Source.state c.find.new.source) in
+    let refused = c.in-Ok-NoScript in
     let told = c.tell_script_fault in
     record {
       answers = no_script_answers Brand input (g.K.Sink.state c.args.sink.now) (g.K.Sink.state told.new.sink)
-          c.in-Ok-NoScript.line told.result (c.in-Ok-NoScript.ensures.found _) told.ensures;
+          refused.line told.result
+          (subst (IsWatchFound input) refused.field-0-is (refused.ensures.found _)) told.ensures;
     }
 
 pub returns-in-Ok-Ready : goal.returns-in-Ok-Ready
 returns-in-Ok-Ready g c =
     let input = input_of c.args.words.now _ [] (g.S.Source.state c.args.source.now)
     (g.S.Source.state c.find.new.source) in
-    let asking = c.in-Ok-Ready.asking in
-    let found = c.in-Ok-Ready.ensures.found _ in
-    let acts = subst (HasActs asking.course asking found.0) (sym c.deref.ensures.value) found.2 in
+    let ready = c.in-Ok-Ready in
+    let found = subst (IsWatchFound input) ready.field-0-is (ready.ensures.found _) in
+    let acts = subst (HasActs ready.asking.course ready.asking found.0) (sym c.deref.ensures.value) found.2 in
     record { answers = c.watch_image.ensures input found.0 refl found.1 acts }
