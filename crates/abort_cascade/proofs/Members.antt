@@ -1,5 +1,6 @@
 -- Lists of the marked nodes, as the marks grow.
-use Rattle.std.proofs.Common.{◌≡◌, ℕ, zero, suc, ◌+◌, ◌<◌, ◌≤◌, Bool, true, false, List, [], ◌∷◌, length, get_or, set, take, count_by, refl, sym, subst, ◌∙◌, inl, inr, arith, length-take}
+use Rattle.std.proofs.Common.{◌≡◌, ℕ, zero, suc, ◌+◌, ◌<◌, ◌≤◌, Bool, true, false, List, [], ◌∷◌, length, get_or, set}
+use Rattle.std.proofs.Common.{take, count_by, refl, sym, subst, ◌∙◌, inl, inr, arith, length-take}
 use Rattle.std.specs.Prelude.{◌↔◌, Contains}
 use Rattle.std.proofs.lemmas.Bool.{cases_eq}
 use Rattle.std.proofs.lemmas.List.{get_or_read, get_or-set_other, get_or-set_same, get_or-take, length-set}
@@ -21,11 +22,14 @@ pub record ListsTo (upto : ℕ) (marks : List Bool) (members : List ℕ) (found 
   pub all : (node : ℕ) → node < upto → Marked marks node → (k : ℕ) × (k < found) × (get_or members k 0 ≡ node)
   pub size : found ≡ count_by (λ mark. mark) (take upto marks)
 
-pub ListsTo-below : (upto : ℕ) (marks : List Bool) (members : List ℕ) (found : ℕ) → ListsTo upto marks members found → found ≤ upto
-ListsTo-below upto marks members found lists = omega (arith, lists.size, count_by-le-length (λ (mark : Bool). mark) (take upto marks), length-take upto marks)
+pub ListsTo-below : (upto : ℕ) (marks : List Bool) (members : List ℕ) (found : ℕ) → ListsTo upto marks members found
+    → found ≤ upto
+ListsTo-below upto marks members found lists =
+    omega (arith, lists.size, count_by-le-length (λ (mark : Bool). mark) (take upto marks), length-take upto marks)
 
 pub ListsTo-skip : (upto : ℕ) (marks : List Bool) (members : List ℕ) (found : ℕ)
-    → upto < length marks → get_or marks upto false ≡ false → ListsTo upto marks members found → ListsTo (upto + 1) marks members found
+    → upto < length marks → get_or marks upto false ≡ false → ListsTo upto marks members found
+    → ListsTo (upto + 1) marks members found
 ListsTo-skip upto marks members found within unmarked lists =
     record {
       marked = lists.marked;
@@ -107,7 +111,8 @@ module _ (count : ℕ) (pull : ℕ → ℕ → Bool) where
     pub stay : (k : ℕ) → k < found → get_or after k 0 ≡ get_or before k 0
     pub more : found ≤ size
 
-  pub SpreadsTo-none : (node : ℕ) (marks : List Bool) (members : List ℕ) (found : ℕ) → IsListOf marks members found → SpreadsTo node 0 marks marks members members found found
+  pub SpreadsTo-none : (node : ℕ) (marks : List Bool) (members : List ℕ) (found : ℕ) → IsListOf marks members found
+      → SpreadsTo node 0 marks marks members members found found
   SpreadsTo-none node marks members found listed =
       record {
         spreads = Spreads-none count pull marks;
@@ -118,7 +123,8 @@ module _ (count : ℕ) (pull : ℕ → ℕ → Bool) where
       }
 
   pub SpreadsTo-skip : (node upto : ℕ) (old new : List Bool) (before after : List ℕ) (found size : ℕ)
-      → (pull node upto ≡ true → Marked new upto) → SpreadsTo node upto old new before after found size → SpreadsTo node (upto + 1) old new before after found size
+      → (pull node upto ≡ true → Marked new upto) → SpreadsTo node upto old new before after found size
+      → SpreadsTo node (upto + 1) old new before after found size
   SpreadsTo-skip node upto old new before after found size here to =
       record {
         spreads = to.spreads;
@@ -132,8 +138,10 @@ module _ (count : ℕ) (pull : ℕ → ℕ → Bool) where
       }
 
   pub SpreadsTo-mark : (node upto : ℕ) (old new : List Bool) (before after : List ℕ) (found size : ℕ)
-      → node < count → upto < count → upto < length new → size < length after → Marked old node → pull node upto ≡ true → get_or new upto false ≡ false
-      → SpreadsTo node upto old new before after found size → SpreadsTo node (upto + 1) old (set new upto true) before (set after size upto) found (size + 1)
+      → node < count → upto < count → upto < length new → size < length after → Marked old node → pull node upto ≡ true
+      → get_or new upto false ≡ false
+      → SpreadsTo node upto old new before after found size
+      → SpreadsTo node (upto + 1) old (set new upto true) before (set after size upto) found (size + 1)
   SpreadsTo-mark node upto old new before after found size low high within inside marked pulled unmarked to =
       let one = Spreads-mark count pull new node upto low high within (to.spreads.stay node marked) pulled in
       record {
@@ -143,7 +151,8 @@ module _ (count : ℕ) (pull : ℕ → ℕ → Bool) where
           | inr other ↦ one.stay b (to.all b (omega (arith, below, other)) pulled')
         ];
         listed = IsListOf-mark new after size upto within inside unmarked to.listed;
-        stay = λ k below. get_or-set_other after size k upto 0 (λ same. absurd (omega (arith, same, below, to.more))) ∙ to.stay k below;
+        stay =
+            λ k below. get_or-set_other after size k upto 0 (λ same. absurd (omega (arith, same, below, to.more))) ∙ to.stay k below;
         more = omega (arith, to.more);
       }
 
@@ -154,7 +163,8 @@ module _ (count : ℕ) (pull : ℕ → ℕ → Bool) where
     pub done : (k : ℕ) → k < next → (b : ℕ) → b < count → pull (get_or members k 0) b ≡ true → Marked new b
     pub upto : next ≤ found
 
-  pub IsWalked-none : (marks : List Bool) (members : List ℕ) (found : ℕ) → IsListOf marks members found → IsWalked marks marks members 0 found
+  pub IsWalked-none : (marks : List Bool) (members : List ℕ) (found : ℕ) → IsListOf marks members found
+      → IsWalked marks marks members 0 found
   IsWalked-none marks members found listed =
       record {
         spreads = Spreads-none count pull marks;
@@ -182,7 +192,8 @@ module _ (count : ℕ) (pull : ℕ → ℕ → Bool) where
       }
 
   -- at the end of the walk the marks are closed
-  pub walked_closed : (old new : List Bool) (members : List ℕ) (next found : ℕ) → found ≤ next → IsWalked old new members next found → IsClosed count pull (Marked new)
+  pub walked_closed : (old new : List Bool) (members : List ℕ) (next found : ℕ) → found ≤ next
+      → IsWalked old new members next found → IsClosed count pull (Marked new)
   walked_closed old new members next found end walked a b low high pulled marked =
       let at = walked.listed.all a marked in
       walked.done at.0 (omega (arith, at.1, end)) b high (subst (λ n. pull n b ≡ true) (sym at.2) pulled)

@@ -1,5 +1,6 @@
 -- What stays true while marks spread.
-use Rattle.std.proofs.Common.{◌≡◌, ℕ, ◌+◌, ◌<◌, Bool, true, false, List, length, get_or, set, count_by, refl, sym, ap, subst, ◌∙◌, inl, inr, arith, cond, ◌||◌}
+use Rattle.std.proofs.Common.{◌≡◌, ℕ, ◌+◌, ◌<◌, Bool, true, false, List, length, get_or, set, count_by, refl, sym, ap}
+use Rattle.std.proofs.Common.{subst, ◌∙◌, inl, inr, arith, cond, ◌||◌}
 use Rattle.std.proofs.lemmas.Bool.{cases_eq}
 use Rattle.std.proofs.lemmas.List.{get_or-set_other, get_or-set_same, length-set}
 use Rattle.std.proofs.lemmas.List.Sums.{sum_by-set}
@@ -8,7 +9,8 @@ use Rattle.abort_cascade.specs.Growth.{Spreads, SaysGrown}
 use Rattle.abort_cascade.proofs.Union.{reached_twice}
 
 -- a new mark is one more
-pub count-mark : (marks : List Bool) (b : ℕ) → b < length marks → get_or marks b false ≡ false → count_by (λ mark. mark) (set marks b true) ≡ count_by (λ mark. mark) marks + 1
+pub count-mark : (marks : List Bool) (b : ℕ) → b < length marks → get_or marks b false ≡ false
+    → count_by (λ mark. mark) (set marks b true) ≡ count_by (λ mark. mark) marks + 1
 count-mark marks b within unmarked =
     omega (arith, sum_by-set (λ mark. cond mark 1 0) marks b true false within, ap {B = ℕ} (λ mark. cond mark 1 0) unmarked)
 
@@ -25,7 +27,8 @@ module _ (count : ℕ) (pull : ℕ → ℕ → Bool) where
       }
 
   -- marks spread to a node that a marked one pulls
-  pub Spreads-mark : (marks : List Bool) (a b : ℕ) → a < count → b < count → b < length marks → Marked marks a → pull a b ≡ true → Spreads count pull marks (set marks b true)
+  pub Spreads-mark : (marks : List Bool) (a b : ℕ) → a < count → b < count → b < length marks → Marked marks a
+      → pull a b ≡ true → Spreads count pull marks (set marks b true)
   Spreads-mark marks a b low high within marked pulled =
       record {
         stay = λ node at. elim (cases_eq node b) [
@@ -53,7 +56,8 @@ module _ (count : ℕ) (pull : ℕ → ℕ → Bool) where
         tells = record { same = λ _. refl; more = λ no. absurd (cc) };
       }
 
-  pub RoundOf-skip : (a upto : ℕ) (old new : List Bool) (grown : Bool) → (pull a upto ≡ true → Marked new upto) → RoundOf a upto old new grown → RoundOf a (upto + 1) old new grown
+  pub RoundOf-skip : (a upto : ℕ) (old new : List Bool) (grown : Bool) → (pull a upto ≡ true → Marked new upto)
+      → RoundOf a upto old new grown → RoundOf a (upto + 1) old new grown
   RoundOf-skip a upto old new grown here round =
       record {
         spreads = round.spreads;
@@ -64,7 +68,9 @@ module _ (count : ℕ) (pull : ℕ → ℕ → Bool) where
         tells = round.tells;
       }
 
-  pub RoundOf-mark : (a upto : ℕ) (old new : List Bool) (grown : Bool) → a < count → upto < count → upto < length new → Marked old a → pull a upto ≡ true → get_or new upto false ≡ false → RoundOf a upto old new grown → RoundOf a (upto + 1) old (set new upto true) true
+  pub RoundOf-mark : (a upto : ℕ) (old new : List Bool) (grown : Bool) → a < count → upto < count → upto < length new
+      → Marked old a → pull a upto ≡ true → get_or new upto false ≡ false → RoundOf a upto old new grown
+      → RoundOf a (upto + 1) old (set new upto true) true
   RoundOf-mark a upto old new grown low high within marked pulled unmarked round =
       let one = Spreads-mark new a upto low high within (round.spreads.stay a marked) pulled in
       record {
@@ -82,7 +88,8 @@ module _ (count : ℕ) (pull : ℕ → ℕ → Bool) where
       grew : (g : Bool) → SaysGrown old new g
           → count_by (λ mark. mark) old < count_by (λ mark. mark) (set new upto true)
       grew true tells = omega (arith, count-mark new upto within unmarked, tells.more refl)
-      grew false tells = omega (arith, count-mark new upto within unmarked, ap (count_by (λ mark. mark)) (tells.same refl))
+      grew false tells =
+          omega (arith, count-mark new upto within unmarked, ap (count_by (λ mark. mark)) (tells.same refl))
 
   -- a pass over all nodes has come to a place
   pub record PassTo (upto : ℕ) (old new : List Bool) (grown : Bool) : Type 0 where
@@ -98,7 +105,8 @@ module _ (count : ℕ) (pull : ℕ → ℕ → Bool) where
         tells = record { same = λ _. refl; more = λ no. absurd (cc) };
       }
 
-  pub PassTo-skip : (upto : ℕ) (old new : List Bool) (grown : Bool) → get_or new upto false ≡ false → PassTo upto old new grown → PassTo (upto + 1) old new grown
+  pub PassTo-skip : (upto : ℕ) (old new : List Bool) (grown : Bool) → get_or new upto false ≡ false
+      → PassTo upto old new grown → PassTo (upto + 1) old new grown
   PassTo-skip upto old new grown unmarked done =
       record {
         spreads = done.spreads;
@@ -109,7 +117,9 @@ module _ (count : ℕ) (pull : ℕ → ℕ → Bool) where
         tells = done.tells;
       }
 
-  pub PassTo-spread : (upto : ℕ) (old mid new : List Bool) (grown more : Bool) → Spreads count pull mid new → ((b : ℕ) → b < count → pull upto b ≡ true → Marked new b) → SaysGrown mid new more → PassTo upto old mid grown → PassTo (upto + 1) old new (grown || more)
+  pub PassTo-spread : (upto : ℕ) (old mid new : List Bool) (grown more : Bool) → Spreads count pull mid new
+      → ((b : ℕ) → b < count → pull upto b ≡ true → Marked new b) → SaysGrown mid new more → PassTo upto old mid grown
+      → PassTo (upto + 1) old new (grown || more)
   PassTo-spread upto old mid new grown more spreads all tells done =
       record {
         spreads = Spreads-more old mid new done.spreads spreads;
@@ -118,12 +128,22 @@ module _ (count : ℕ) (pull : ℕ → ℕ → Bool) where
       }
     where
       told : (g h : Bool) → SaysGrown mid new h → SaysGrown old mid g → SaysGrown old new (g || h)
-      told true true two one = record { same = λ no. absurd (cc); more = λ _. omega (arith, one.more refl, two.more refl) }
-      told true false two one = record { same = λ no. absurd (cc); more = λ _. omega (arith, one.more refl, ap (count_by (λ mark. mark)) (two.same refl)) }
-      told false true two one = record { same = λ no. absurd (cc); more = λ _. omega (arith, ap (count_by (λ mark. mark)) (one.same refl), two.more refl) }
+      told true true two one =
+          record { same = λ no. absurd (cc); more = λ _. omega (arith, one.more refl, two.more refl) }
+      told true false two one =
+          record {
+            same = λ no. absurd (cc);
+            more = λ _. omega (arith, one.more refl, ap (count_by (λ mark. mark)) (two.same refl));
+          }
+      told false true two one =
+          record {
+            same = λ no. absurd (cc);
+            more = λ _. omega (arith, ap (count_by (λ mark. mark)) (one.same refl), two.more refl);
+          }
       told false false two one = record { same = λ _. two.same refl ∙ one.same refl; more = λ no. absurd (cc) }
 
-      closed : (g h : Bool) → SaysGrown mid new h → PassTo upto old mid g → (g || h) ≡ false → (a b : ℕ) → a < upto + 1 → b < count → pull a b ≡ true → Marked new a → Marked new b
+      closed : (g h : Bool) → SaysGrown mid new h → PassTo upto old mid g → (g || h) ≡ false → (a b : ℕ) → a < upto + 1
+          → b < count → pull a b ≡ true → Marked new a → Marked new b
       closed true h two one = λ e a b below high pulled marked. absurd (cc)
       closed false true two one = λ e a b below high pulled marked. absurd (cc)
       closed false false two one = λ same a b below high pulled marked.

@@ -1,5 +1,6 @@
 -- How many candidates have a closed tiebreaker.
-use Rattle.std.proofs.Common.{◌≡◌, ◌≢◌, ◌⊎◌, ℕ, zero, suc, ◌+◌, ◌<◌, ◌≤◌, cond, Option, Some, None, List, [], ◌∷◌, length, map, get_or, set, option_map, refl, sym, ap, ◌∙◌, inl, inr, arith}
+use Rattle.std.proofs.Common.{◌≡◌, ◌≢◌, ◌⊎◌, ℕ, zero, suc, ◌+◌, ◌<◌, ◌≤◌, cond, Option, Some, None, List, [], ◌∷◌}
+use Rattle.std.proofs.Common.{length, map, get_or, set, option_map, refl, sym, ap, ◌∙◌, inl, inr, arith}
 use Rattle.std.specs.Prelude.{Contains, IsSome}
 use Rattle.std.specs.List.Sorted.{IsPermutation}
 use Rattle.std.proofs.lemmas.List.Sums.{sum_by-cons, sum_by-set}
@@ -23,20 +24,23 @@ shown_closed old shown view = ap closed_in (sym view)
     ∙ permuted_closed old (in_rising_order old) (in_rising_order-permutes old)
 
 -- one candidate more, and one less
-pub grown_closed : (e : Candidate) (old new : List Candidate) → IsPermutation (e ∷ old) new → closed_in new ≡ closed_in old + one_closed e.key.tb
+pub grown_closed : (e : Candidate) (old new : List Candidate) → IsPermutation (e ∷ old) new
+    → closed_in new ≡ closed_in old + one_closed e.key.tb
 grown_closed e old new more =
     let all = permuted_closed (e ∷ old) new more in
     let first = cons_closed e old in
     omega (arith, all, first)
 
-pub taken_closed : (e : Candidate) (old new : List Candidate) → IsPermutation old (e ∷ new) → closed_in new + one_closed e.key.tb ≡ closed_in old
+pub taken_closed : (e : Candidate) (old new : List Candidate) → IsPermutation old (e ∷ new)
+    → closed_in new + one_closed e.key.tb ≡ closed_in old
 taken_closed e old new less =
     let all = permuted_closed old (e ∷ new) less in
     let first = cons_closed e new in
     omega (arith, all, first)
 
 -- a candidate with another tiebreaker
-pub tied_closed : (tb : Option ℕ) (place : ℕ) (old new final : List Candidate) → place < length old → new ≡ set old place (with_tiebreaker tb (candidate_at old place)) → IsPermutation new final
+pub tied_closed : (tb : Option ℕ) (place : ℕ) (old new final : List Candidate) → place < length old
+    → new ≡ set old place (with_tiebreaker tb (candidate_at old place)) → IsPermutation new final
     → closed_in final + one_closed (candidate_at old place).key.tb ≡ closed_in old + one_closed tb
 tied_closed tb place old new final inside put moved =
     let all = permuted_closed new final moved in
@@ -76,7 +80,8 @@ closed_upto_all (e ∷ es) =
     omega (arith, first, rest, both)
 
 -- a closed candidate that is there makes the count at least 1, and two with two ids make it at least 2
-head_or_tail : (x y : Candidate) (xs : List Candidate) (k : ℕ) → k < length (x ∷ xs) → get_or (x ∷ xs) k y ≡ y → (x ≡ y) ⊎ Contains xs y
+head_or_tail : (x y : Candidate) (xs : List Candidate) (k : ℕ) → k < length (x ∷ xs) → get_or (x ∷ xs) k y ≡ y
+    → (x ≡ y) ⊎ Contains xs y
 head_or_tail x y xs zero inside is = inl is
 head_or_tail x y xs (suc k) inside is = inr (k, omega (arith, inside), is)
 
@@ -92,7 +97,8 @@ one_there a (e ∷ es) has some =
       | inr tail ↦ (let rest = one_there a es tail some in omega (arith, both, rest))
     ]
 
-pub two_there : (a b : Candidate) (es : List Candidate) → Contains es a → Contains es b → a.id ≢ b.id → IsSome a.key.tb → IsSome b.key.tb → 2 ≤ closed_in es
+pub two_there : (a b : Candidate) (es : List Candidate) → Contains es a → Contains es b → a.id ≢ b.id → IsSome a.key.tb
+    → IsSome b.key.tb → 2 ≤ closed_in es
 two_there a b [] first second other sa sb = absurd (omega (arith, first.1))
 two_there a b (e ∷ es) first second other sa sb =
     let both = cons_closed e es in

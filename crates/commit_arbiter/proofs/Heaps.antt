@@ -11,7 +11,8 @@ module _ {X : Type 0} (le : X → X → Type 0) (trans : (x y z : X) → le x y 
   moved : (a b c d : X) → a ≡ c → b ≡ d → le c d → le a b
   moved a b c d one two fact = subst (λ x. le x b) (sym one) (subst (le c) (sym two) fact)
 
-  pub up_exchanged : (f g : ℕ → X) (many i : ℕ) → IsHeapUp le f many i → 0 < i → i < many → le (f i) (f (parent i)) → Swapped f g i (parent i) → IsHeapUp le g many (parent i)
+  pub up_exchanged : (f g : ℕ → X) (many i : ℕ) → IsHeapUp le f many i → 0 < i → i < many → le (f i) (f (parent i))
+      → Swapped f g i (parent i) → IsHeapUp le g many (parent i)
   up_exchanged f g many i is pos inside less swapped = record { order = order; over = over }
     where
       above : parent i < i
@@ -20,9 +21,12 @@ module _ {X : Type 0} (le : X → X → Type 0) (trans : (x y z : X) → le x y 
       order : (k : ℕ) → 0 < k → k < many → k ≢ parent i → le (g (parent k)) (g k)
       order k kpos kin differ = by_case (cases_eq k i) (cases_eq (parent k) i) (cases_eq (parent k) (parent i))
         where
-          by_case : (k ≡ i) ⊎ (k ≢ i) → (parent k ≡ i) ⊎ (parent k ≢ i) → (parent k ≡ parent i) ⊎ (parent k ≢ parent i) → le (g (parent k)) (g k)
-          by_case (inl here) q p = moved (g (parent k)) (g k) (f i) (f (parent i)) (ap (λ m. g (parent m)) here ∙ swapped.1) (ap g here ∙ swapped.0) less
-          by_case (inr other) (inl child) p = moved (g (parent k)) (g k) (f (parent i)) (f k) (ap g child ∙ swapped.0) (swapped.2 k other differ) (is.over k pos kpos kin child)
+          by_case : (k ≡ i) ⊎ (k ≢ i) → (parent k ≡ i) ⊎ (parent k ≢ i) → (parent k ≡ parent i) ⊎ (parent k ≢ parent i)
+              → le (g (parent k)) (g k)
+          by_case (inl here) q p =
+              moved (g (parent k)) (g k) (f i) (f (parent i)) (ap (λ m. g (parent m)) here ∙ swapped.1) (ap g here ∙ swapped.0) less
+          by_case (inr other) (inl child) p =
+              moved (g (parent k)) (g k) (f (parent i)) (f k) (ap g child ∙ swapped.0) (swapped.2 k other differ) (is.over k pos kpos kin child)
           by_case (inr other) (inr not_child) (inl sibling) =
               moved (g (parent k)) (g k) (f i) (f k) (ap g sibling ∙ swapped.1) (swapped.2 k other differ)
               (trans (f i) (f (parent i)) (f k) less (subst (λ m. le (f m) (f k)) sibling (is.order k kpos kin other)))
@@ -33,7 +37,8 @@ module _ {X : Type 0} (le : X → X → Type 0) (trans : (x y z : X) → le x y 
       over k ppos kpos kin sibling = by_case (cases_eq k i)
         where
           grand : g (parent (parent i)) ≡ f (parent (parent i))
-          grand = swapped.2 (parent (parent i)) (λ e. (let low = parent_less (parent i) ppos in let no_way : ⊥ = omega arith in no_way)) (λ e. (let low = parent_less (parent i) ppos in let no_way : ⊥ = omega arith in no_way))
+          grand =
+              swapped.2 (parent (parent i)) (λ e. (let low = parent_less (parent i) ppos in let no_way : ⊥ = omega arith in no_way)) (λ e. (let low = parent_less (parent i) ppos in let no_way : ⊥ = omega arith in no_way))
 
           below : k ≢ parent i
           below e = let low = parent_less k kpos in let no_way : ⊥ = omega arith in no_way
@@ -42,7 +47,8 @@ module _ {X : Type 0} (le : X → X → Type 0) (trans : (x y z : X) → le x y 
           top = is.order (parent i) ppos (omega arith) (λ e. (let no_way : ⊥ = omega arith in no_way))
 
           by_case : (k ≡ i) ⊎ (k ≢ i) → le (g (parent (parent i))) (g k)
-          by_case (inl here) = moved (g (parent (parent i))) (g k) (f (parent (parent i))) (f (parent i)) grand (ap g here ∙ swapped.0) top
+          by_case (inl here) =
+              moved (g (parent (parent i))) (g k) (f (parent (parent i))) (f (parent i)) grand (ap g here ∙ swapped.0) top
           by_case (inr other) =
               moved (g (parent (parent i))) (g k) (f (parent (parent i))) (f k) grand (swapped.2 k other below)
               (trans (f (parent (parent i))) (f (parent i)) (f k) top (subst (λ m. le (f m) (f k)) sibling (is.order k kpos kin other)))
@@ -55,7 +61,8 @@ module _ {X : Type 0} (le : X → X → Type 0) (trans : (x y z : X) → le x y 
       by_case (inr other) = is.order k kpos kin other
 
   -- below its least child
-  pub apart_exchanged : (f g : ℕ → X) (many i c : ℕ) → IsHeapApart le f many i → 0 < c → c < many → parent c ≡ i → ((k : ℕ) → 0 < k → k < many → parent k ≡ i → le (f c) (f k)) → Swapped f g i c → IsHeapApart le g many c
+  pub apart_exchanged : (f g : ℕ → X) (many i c : ℕ) → IsHeapApart le f many i → 0 < c → c < many → parent c ≡ i
+      → ((k : ℕ) → 0 < k → k < many → parent k ≡ i → le (f c) (f k)) → Swapped f g i c → IsHeapApart le g many c
   apart_exchanged f g many i c is pos inside child least swapped = record { order = order; over = over }
     where
       above : i < c
@@ -86,7 +93,8 @@ module _ {X : Type 0} (le : X → X → Type 0) (trans : (x y z : X) → le x y 
   }
 
   -- the root
-  pub root_least : (itself : (x : X) → le x x) (f : ℕ → X) (many : ℕ) → IsHeapBy le f many → (bound k : ℕ) → k ≤ bound → k < many → le (f 0) (f k)
+  pub root_least : (itself : (x : X) → le x x) (f : ℕ → X) (many : ℕ) → IsHeapBy le f many → (bound k : ℕ) → k ≤ bound
+      → k < many → le (f 0) (f k)
   root_least itself f many heap bound zero upto inside = itself (f 0)
   root_least itself f many heap zero (suc k) upto inside = absurd (omega arith)
   root_least itself f many heap (suc bound) (suc k) upto inside =
@@ -94,16 +102,20 @@ module _ {X : Type 0} (le : X → X → Type 0) (trans : (x y z : X) → le x y 
       trans (f 0) (f (parent (suc k))) (f (suc k)) (root_least itself f many heap bound (parent (suc k)) (omega arith) (omega arith)) (heap (suc k) (omega arith) inside)
 
   -- one more at the end
-  pub grown : (f g : ℕ → X) (many : ℕ) → ((k : ℕ) → k < many → g k ≡ f k) → IsHeapBy le f many → IsHeapUp le g (suc many) many
+  pub grown : (f g : ℕ → X) (many : ℕ) → ((k : ℕ) → k < many → g k ≡ f k) → IsHeapBy le f many
+      → IsHeapUp le g (suc many) many
   grown f g many same heap = record {
-    order = λ k kpos kin differ. moved (g (parent k)) (g k) (f (parent k)) (f k) (same (parent k) (let low = parent_less k kpos in omega arith)) (same k (omega arith)) (heap k kpos (omega arith));
+    order =
+        λ k kpos kin differ. moved (g (parent k)) (g k) (f (parent k)) (f k) (same (parent k) (let low = parent_less k kpos in omega arith)) (same k (omega arith)) (heap k kpos (omega arith));
     over = λ k pos kpos kin child. absurd (let low = parent_less k kpos in omega arith);
   }
 
   -- another at one place, and one fewer
-  pub apart_from : (f g : ℕ → X) (many i : ℕ) → ((k : ℕ) → k < many → k ≢ i → g k ≡ f k) → IsHeapBy le f (suc many) → i < many → IsHeapApart le g many i
+  pub apart_from : (f g : ℕ → X) (many i : ℕ) → ((k : ℕ) → k < many → k ≢ i → g k ≡ f k) → IsHeapBy le f (suc many)
+      → i < many → IsHeapApart le g many i
   apart_from f g many i same heap inside = record {
-    order = λ k kpos kin other not_child. moved (g (parent k)) (g k) (f (parent k)) (f k) (same (parent k) (let low = parent_less k kpos in omega arith) not_child) (same k kin other) (heap k kpos (omega arith));
+    order =
+        λ k kpos kin other not_child. moved (g (parent k)) (g k) (f (parent k)) (f k) (same (parent k) (let low = parent_less k kpos in omega arith) not_child) (same k kin other) (heap k kpos (omega arith));
     over = λ k pos kpos kin child. beyond k pos kpos kin child;
   }
     where
@@ -125,7 +137,8 @@ module _ {X : Type 0} (le : X → X → Type 0) (trans : (x y z : X) → le x y 
 
     pub changed : IsHeapApart le g many i
     changed = record {
-      order = λ k kpos kin other not_child. moved (g (parent k)) (g k) (f (parent k)) (f k) (same (parent k) not_child) (same k other) (heap k kpos kin);
+      order =
+          λ k kpos kin other not_child. moved (g (parent k)) (g k) (f (parent k)) (f k) (same (parent k) not_child) (same k other) (heap k kpos kin);
       over = across;
     }
 
@@ -140,4 +153,5 @@ module _ {X : Type 0} (le : X → X → Type 0) (trans : (x y z : X) → le x y 
         by_case k kpos kin other (inl child) =
             moved (g (parent k)) (g k) (g i) (f k) (ap g child) (same k other)
             (trans (g i) (f i) (f k) less (subst (λ m. le (f m) (f k)) child (heap k kpos kin)))
-        by_case k kpos kin other (inr not_child) = moved (g (parent k)) (g k) (f (parent k)) (f k) (same (parent k) not_child) (same k other) (heap k kpos kin)
+        by_case k kpos kin other (inr not_child) =
+            moved (g (parent k)) (g k) (f (parent k)) (f k) (same (parent k) not_child) (same k other) (heap k kpos kin)

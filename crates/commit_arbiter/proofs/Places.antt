@@ -1,5 +1,6 @@
 -- The order of candidates, what is left without those of an id, and where the one with an id is.
-use Rattle.std.proofs.Common.{◌≡◌, ◌≢◌, ℕ, suc, ◌<◌, ◌≤◌, Bool, true, false, not, cond, ◌==◌, List, [], ◌∷◌, length, get_or, Some, refl, sym, ap, subst, ◌∙◌, arith, slice_get}
+use Rattle.std.proofs.Common.{◌≡◌, ◌≢◌, ℕ, suc, ◌<◌, ◌≤◌, Bool, true, false, not, cond, ◌==◌, List, [], ◌∷◌, length}
+use Rattle.std.proofs.Common.{get_or, Some, refl, sym, ap, subst, ◌∙◌, arith, slice_get}
 use Rattle.std.specs.List.{All, filter}
 use Rattle.std.specs.Cmp.{IsTotalOrder}
 use Rattle.std.proofs.lemmas.Cmp.{on_total, then_total, nat_cmp_total}
@@ -14,10 +15,12 @@ use Rattle.commit_arbiter.specs.Indexed.{candidate_cmp, HasId, without_candidate
 use Rattle.commit_arbiter.specs.Slots.{IsPlaceOfId}
 
 pub candidate_cmp_total : IsTotalOrder candidate_cmp
-candidate_cmp_total = then_total (on_total (λ e. e.key) key_cmp_total) (then_total (then_total (on_total (λ e. e.tile) nat_cmp_total) (on_total (λ e. e.arrival) nat_cmp_total)) (on_total (λ e. e.id) nat_cmp_total))
+candidate_cmp_total =
+    then_total (on_total (λ e. e.key) key_cmp_total) (then_total (then_total (on_total (λ e. e.tile) nat_cmp_total) (on_total (λ e. e.arrival) nat_cmp_total)) (on_total (λ e. e.id) nat_cmp_total))
 
 -- a list with no candidate of an id, as a fact of each candidate
-pub no_id : (id : ℕ) (candidates : List Candidate) → (HasId id candidates → ⊥) → (candidate : Candidate) → candidate.id ≡ id → All (λ e. candidate.id ≢ e.id) candidates
+pub no_id : (id : ℕ) (candidates : List Candidate) → (HasId id candidates → ⊥) → (candidate : Candidate)
+    → candidate.id ≡ id → All (λ e. candidate.id ≢ e.id) candidates
 no_id id candidates none candidate is k d inside same =
     none (k, get_or candidates k d, inside, get_same k inside d, sym same ∙ is)
   where
@@ -33,7 +36,8 @@ without_none id (e ∷ candidates) none =
     kept (e.id == id) (λ equal. none 0 e (omega arith) (grind (arith, nat_tests)))
     (without_none id candidates (λ k d inside. none (suc k) d (omega arith)))
   where
-    kept : (b : Bool) → (b ≡ true → ⊥) → without_candidate id candidates ≡ candidates → cond (not b) (e ∷ without_candidate id candidates) (without_candidate id candidates) ≡ e ∷ candidates
+    kept : (b : Bool) → (b ≡ true → ⊥) → without_candidate id candidates ≡ candidates
+        → cond (not b) (e ∷ without_candidate id candidates) (without_candidate id candidates) ≡ e ∷ candidates
     kept true never more = absurd (never refl)
     kept false never more = ap (λ es. e ∷ es) more
 
@@ -43,9 +47,11 @@ without_absent id candidates none =
     without_none id candidates (λ k d inside mine. none (k, get_or candidates k d, inside, Rattle.std.proofs.lemmas.List.get_or_default candidates k (get_or candidates k d) d inside, mine))
 
 pub has_place : (id place : ℕ) (candidates : List Candidate) → IsPlaceOfId id candidates place → HasId id candidates
-has_place id place candidates is = (place, is.candidate, slice_get_within candidates place is.candidate is.there, get_or_from_slice_get candidates place is.candidate is.candidate is.there, is.id_is)
+has_place id place candidates is =
+    (place, is.candidate, slice_get_within candidates place is.candidate is.there, get_or_from_slice_get candidates place is.candidate is.candidate is.there, is.id_is)
 
-pub place_here : (id place : ℕ) (candidates : List Candidate) (e : Candidate) → slice_get candidates place ≡ Some e → e.id ≡ id → IsPlaceOfId id candidates place
+pub place_here : (id place : ℕ) (candidates : List Candidate) (e : Candidate) → slice_get candidates place ≡ Some e
+    → e.id ≡ id → IsPlaceOfId id candidates place
 place_here id place candidates e there is = record { candidate = e; there = there; id_is = is }
 
 -- what a filter leaves passes its test
@@ -53,7 +59,8 @@ passes : (p : Candidate → Bool) (candidates : List Candidate) → All (λ e. p
 passes p [] = All-nil (λ e. p e ≡ true)
 passes p (e ∷ candidates) = by_case (p e) refl (passes p candidates)
   where
-    by_case : (b : Bool) → p e ≡ b → All (λ x. p x ≡ true) (filter p candidates) → All (λ x. p x ≡ true) (cond b (e ∷ filter p candidates) (filter p candidates))
+    by_case : (b : Bool) → p e ≡ b → All (λ x. p x ≡ true) (filter p candidates)
+        → All (λ x. p x ≡ true) (cond b (e ∷ filter p candidates) (filter p candidates))
     by_case true sure more = All-cons (λ x. p x ≡ true) e (filter p candidates) sure more
     by_case false sure more = more
 
@@ -69,4 +76,5 @@ without_gone id candidates (k, e, inside, at, is) =
 -- no more candidates are left than there were
 pub length-without_candidate : (id : ℕ) (candidates : List Candidate)
     → length (without_candidate id candidates) ≤ length candidates
-length-without_candidate id candidates = subst (λ n. n ≤ length candidates) (sym (length-filter (λ e. not (e.id == id)) candidates)) (count_by-le-length (λ e. not (e.id == id)) candidates)
+length-without_candidate id candidates =
+    subst (λ n. n ≤ length candidates) (sym (length-filter (λ e. not (e.id == id)) candidates)) (count_by-le-length (λ e. not (e.id == id)) candidates)

@@ -1,5 +1,6 @@
 -- The task on a core.
-use Rattle.std.proofs.Common.{ℕ, ◌≡◌, ◌<◌, ◌≤◌, ◌⊎◌, inl, inr, List, [], Option, Some, sym, ap, subst, is_some, ◌∙◌, length, arith}
+use Rattle.std.proofs.Common.{ℕ, ◌≡◌, ◌<◌, ◌≤◌, ◌⊎◌, inl, inr, List, [], Option, Some, sym, ap, subst, is_some, ◌∙◌}
+use Rattle.std.proofs.Common.{length, arith}
 use Rattle.std.proofs.lemmas.Bool.{cases_lt}
 use Rattle.std.proofs.lemmas.List.{get_or_past}
 use Rattle.std.proofs.lemmas.List.Elements.{All-get_or}
@@ -20,7 +21,8 @@ module _ (size : ℕ) (view : View) (stored : IsStored size view) (tile core id 
       ap is_some has.1
 
   -- and where it runs, it runs there
-  pub held_runs : (task : Task) (at : ℕ) → task_at view id ≡ Some task → task.status ≡ Running at → IsRunning view tile core id task
+  pub held_runs : (task : Task) (at : ℕ) → task_at view id ≡ Some task → task.status ≡ Running at
+      → IsRunning view tile core id task
   held_runs task at there runs =
       let has = (stored.held_are tile core id).0 held in
       let both : Some has.0 ≡ Some task = sym has.1 ∙ there in
@@ -36,7 +38,8 @@ runs_inside view sizes tile core id task runs = go (cases_lt tile view.settings.
   inside : core < length (cores_at view tile)
   inside = slice_get_within (cores_at view tile) core (Some id) runs.on.held
 
-  go : (tile < view.settings.tiles) ⊎ (view.settings.tiles ≤ tile) → (tile < view.settings.tiles) × (core < view.settings.cores)
+  go : (tile < view.settings.tiles) ⊎ (view.settings.tiles ≤ tile)
+      → (tile < view.settings.tiles) × (core < view.settings.cores)
   go (inl below) =
       let has : tile < length view.cores = omega (arith, below, sizes.cores) in
       let count : length (cores_at view tile) ≡ view.settings.cores = All-get_or (λ (held : List (Option ℕ)). length held ≡ view.settings.cores) view.cores tile [] has sizes.core_counts in

@@ -17,7 +17,8 @@ use Rattle.conflict_book.specs.Fresh.{AreFresh}
 use Rattle.spec_law.proofs.Proved.{some_first, some_in}
 
 -- in a full queue a fresh task may move
-pub fresh_moves : (size : ℕ) (view : View) (tile : ℕ) → IsStored size view → AreFresh view → IsValid view.settings → IsFull view tile
+pub fresh_moves : (size : ℕ) (view : View) (tile : ℕ) → IsStored size view → AreFresh view → IsValid view.settings
+    → IsFull view tile
     → (id : ℕ) × IsMovable view tile id
 fresh_moves size view tile stored fresh valid full =
     let some = valid.task_queue.0 in
@@ -53,7 +54,8 @@ module _ (tile : ℕ) (old new : View) (c : Coalesces tile old new) where
       subst (λ s. length (queue_at new tile) < s.task_queue) (sym (ap (λ v. v.settings) c.frame)) now
 
 -- a task of the image that is added leaves all of them fresh
-pub fresh_added : (id index : ℕ) (task : Task) (old new : View) → AreFresh old → Adds id task old new → task.status ≡ Idle
+pub fresh_added : (id index : ℕ) (task : Task) (old new : View) → AreFresh old → Adds id task old new
+    → task.status ≡ Idle
     → task.creator ≡ Committed 0 index → AreFresh new
 fresh_added id index task old new fresh adds idle made k x there = by_case (cases_eq k id)
   where

@@ -21,7 +21,8 @@ journal_kept : (book : BookView) (closed : Closed) → Closes book closed → cl
 journal_kept book closed closes = closes.journal ∙ ap (λ (v : View). v.history) closes.undone.frame
 
 -- a sound book that is closed leaves a run, and its pending tasks are those of the serial machine after that run
-pub frozen_leaves : (image : ImageValue) (book : BookView) (closed : Closed) (pendings : List Pending) → Sound image book.view → Closes book closed
+pub frozen_leaves : (image : ImageValue) (book : BookView) (closed : Closed) (pendings : List Pending)
+    → Sound image book.view → Closes book closed
     → IsPermutation (pendings_in book.view) pendings → IsSortedBy pending_before pendings
     → RunLeaves image book.view.settings.budget closed.journal closed.memory closed.output pendings
 frozen_leaves image book closed pendings sound closes moved sorted =
@@ -36,7 +37,8 @@ frozen_leaves image book closed pendings sound closes moved sorted =
     }
 
 -- and its journal is no longer than a run may be
-pub frozen_fits : (image : ImageValue) (book : BookView) (closed : Closed) → Sound image book.view → Closes book closed → length closed.journal ≤ MAX_COMMITS
+pub frozen_fits : (image : ImageValue) (book : BookView) (closed : Closed) → Sound image book.view → Closes book closed
+    → length closed.journal ≤ MAX_COMMITS
 frozen_fits image book closed sound closes =
     let same : length closed.journal ≡ length book.view.history = ap (λ (es : List Entry). length es) (journal_kept book closed closes) in
     let few = sound.tasks.few in

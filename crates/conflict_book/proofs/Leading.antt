@@ -22,11 +22,13 @@ use Rattle.event_lemma.proofs.Proved.{least_idle, next_is_commit, next_is_dispat
 abbrev pub ReadsTile : View → TaskId → ℕ → Type 0
 ReadsTile view id tile = IfSome (task_at view id.0) (λ t. tile ≡ t.tile)
 
-pub tile_is : (view : View) (id : TaskId) (tile : ℕ) (task : Task) → task_at view id.0 ≡ Some task → ReadsTile view id tile → tile ≡ task.tile
+pub tile_is : (view : View) (id : TaskId) (tile : ℕ) (task : Task) → task_at view id.0 ≡ Some task
+    → ReadsTile view id tile → tile ≡ task.tile
 tile_is view id tile task there read = subst (λ o. IfSome o (λ (t : Task). tile ≡ t.tile)) there read
 
 -- a running least task has used its budget at most
-pub runs_within : (image : ImageValue) (view : View) (id : TaskId) → Sound image view → IsLeast view (where_.Running id) → (task : Task)
+pub runs_within : (image : ImageValue) (view : View) (id : TaskId) → Sound image view → IsLeast view (where_.Running id)
+    → (task : Task)
     → task_at view id.0 ≡ Some task → task.core.used ≤ view.settings.budget
 runs_within image view id sound is task there =
     let both : Some is.0 ≡ Some task = sym is.2.queued_at.there ∙ there in

@@ -9,7 +9,8 @@ use Rattle.event_law.proofs.Proved.{close_is_serial}
 use Rattle.conflict_book.specs.Left.{LeavesLawfulRun}
 
 -- a sound book that is closed leaves a run, which keeps the laws of runs
-pub closed_is_run : (image : ImageValue) (book : BookView) (closed : Closed) → Sound image book.view → Closes book closed
+pub closed_is_run : (image : ImageValue) (book : BookView) (closed : Closed) → Sound image book.view
+    → Closes book closed
     → LeavesLawfulRun image book.view.settings.budget closed
 closed_is_run image book closed sound closes =
     let run = close_is_serial image book closed sound closes in

@@ -14,8 +14,10 @@ LeadsOn kind tasks i first now =
     (final : BookView) → PlacesAll kind (enumerate_from i (drop i tasks)) now final → PlacesAll kind (enumerate_from 0 tasks) first final
 
 -- with one more task placed
-pub leads_more : (kind : Kind) (tasks : List ImageTask) (i : ℕ) (first now next : BookView) (task : ImageTask) → i < length tasks
-    → slice_index_or tasks i task ≡ task → LeadsOn kind tasks i first now → PlacesImageTask kind i task now next → LeadsOn kind tasks (i + 1) first next
+pub leads_more : (kind : Kind) (tasks : List ImageTask) (i : ℕ) (first now next : BookView) (task : ImageTask)
+    → i < length tasks
+    → slice_index_or tasks i task ≡ task → LeadsOn kind tasks i first now → PlacesImageTask kind i task now next
+    → LeadsOn kind tasks (i + 1) first next
 leads_more kind tasks i first now next task inside at before places final rest =
     let first_is : enumerate_from i (drop i tasks) ≡ (i, slice_index_or tasks i task) ∷ enumerate_from (i + 1) (drop (i + 1) tasks) =
     ap (enumerate_from i) (drop_more tasks i task inside) in

@@ -12,7 +12,8 @@ use Rattle.event_def.specs.Book.{BookView}
 use Rattle.event_def.specs.Happens.{Happens}
 use Rattle.event_law.proofs.Proved.{least_events_are_few}
 
-one_settled : (N : Type 0) (image : ImageValue) (old new : BookView) (aborted : ℕ) → Sound image old.view → Advances N image old aborted new
+one_settled : (N : Type 0) (image : ImageValue) (old new : BookView) (aborted : ℕ) → Sound image old.view
+    → Advances N image old aborted new
     → new.view.settings ≡ old.view.settings
 one_settled N image old new aborted sound made =
     let few = least_events_are_few N image 1 old new sound (old, aborted, refl, made) in few.settings

@@ -36,7 +36,8 @@ module _ (view : View) (one_spot : (a b : Spot) → IsLeastSpot view a → IsLea
   not_all id task least all = all (Queued task.tile least.place) least.least.key least.least.has
 
   -- the trap of the least task is one
-  one_trap : (name other : Name) (cause pc other_cause other_pc : ℕ) → LeastIsTrapped view name cause pc → LeastIsTrapped view other other_cause other_pc
+  one_trap : (name other : Name) (cause pc other_cause other_pc : ℕ) → LeastIsTrapped view name cause pc
+      → LeastIsTrapped view other other_cause other_pc
       → ends.Trap name cause pc ≡ ends.Trap other other_cause other_pc
   one_trap name other cause pc other_cause other_pc one two =
       let same = one_least one.id two.id one.task two.task one.least two.least in
@@ -59,7 +60,8 @@ module _ (view : View) (one_spot : (a b : Spot) → IsLeastSpot view a → IsLea
   one_end ends.Limit (ends.Trap name cause pc) has too = absurd (too.0 has.1)
   one_end (ends.Trap name cause pc) ends.Normal has too = absurd (not_all has.1.id has.1.task has.1.least too)
   one_end (ends.Trap name cause pc) ends.Limit has too = absurd (has.0 too.1)
-  one_end (ends.Trap name cause pc) (ends.Trap other other_cause other_pc) has too = one_trap name other cause pc other_cause other_pc has.1 too.1
+  one_end (ends.Trap name cause pc) (ends.Trap other other_cause other_pc) has too =
+      one_trap name other cause pc other_cause other_pc has.1 too.1
   one_end ends.Unfinished other has too = absurd has
   one_end ends.Normal ends.Unfinished has too = absurd too
   one_end ends.Limit ends.Unfinished has too = absurd too

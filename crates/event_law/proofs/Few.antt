@@ -24,7 +24,8 @@ use Rattle.event_law.proofs.Stays.{event_stays}
 one_less : (n had left bound : ℕ) → n + had ≤ bound → left < had → suc n + left ≤ bound
 one_less n had left bound before less = omega (arith, before, less)
 
-next_share : (n left commits each : ℕ) → n + 1 ≤ (commits + 1) * each → left ≤ each → suc n + left ≤ (commits + 1 + 1) * each
+next_share : (n left commits each : ℕ) → n + 1 ≤ (commits + 1) * each → left ≤ each
+    → suc n + left ≤ (commits + 1 + 1) * each
 next_share n left commits each before few =
     let one : commits + 1 + 1 ≡ suc (commits + 1) = omega arith in
     let more : (commits + 1 + 1) * each ≡ (commits + 1) * each + each = ap (λ k. k * each) one ∙ suc-mul (commits + 1) each in
@@ -35,7 +36,8 @@ none_yet left each few = let once : (0 + 1) * each ≡ each = one-mul each in om
 
 module _ (N : Type 0) (image : ImageValue) (n : ℕ) (old mid : View) (few : AreFew image old n mid) where
   -- an event but a commit
-  another : (before after : BookView) (e : Event N) (aborted : ℕ) → before.view ≡ mid → IsNextEvent image before.view e → IsNoCommit e
+  another : (before after : BookView) (e : Event N) (aborted : ℕ) → before.view ≡ mid → IsNextEvent image before.view e
+      → IsNoCommit e
       → IsMade before e aborted after → Follows image before.view after.view → AreFew image old (suc n) after.view
   another before after e aborted same next other made follows =
       let sound : Sound image before.view = subst (Sound image) (sym same) few.sound in
@@ -52,8 +54,10 @@ module _ (N : Type 0) (image : ImageValue) (n : ℕ) (old mid : View) (few : Are
       }
 
   -- a commit
-  committed : (before after : BookView) (aborted : ℕ) → before.view ≡ mid → IsNextEvent {N = N} image before.view event.Commit
-      → IsMade {N = N} before event.Commit aborted after → Follows image before.view after.view → AreFew image old (suc n) after.view
+  committed : (before after : BookView) (aborted : ℕ) → before.view ≡ mid
+      → IsNextEvent {N = N} image before.view event.Commit
+      → IsMade {N = N} before event.Commit aborted after → Follows image before.view after.view
+      → AreFew image old (suc n) after.view
   committed before after aborted same next made follows =
       let one : HasRest before.view 1 = record { stands = standing.Finished; stands_so = (next.goes_on, next.least.0, next.least.1, next.least.2, next.least.3); left_is = refl } in
       let settings : after.view.settings ≡ old.settings = follows.settings ∙ ap (λ (v : View). v.settings) same ∙ few.settings in
@@ -71,12 +75,18 @@ module _ (N : Type 0) (image : ImageValue) (n : ℕ) (old mid : View) (few : Are
 
   one_more : (before after : BookView) (e : Event N) (aborted : ℕ) → before.view ≡ mid → IsNextEvent image before.view e
       → IsMade before e aborted after → Follows image before.view after.view → AreFew image old (suc n) after.view
-  one_more before after (event.Dispatch tile) aborted same next made follows = another before after (event.Dispatch tile) aborted same next tt made follows
-  one_more before after (event.Step tile core leg) aborted same next made follows = another before after (event.Step tile core leg) aborted same next tt made follows
-  one_more before after (event.Abort tile) aborted same next made follows = another before after (event.Abort tile) aborted same next tt made follows
-  one_more before after event.Commit aborted same next made follows = committed before after aborted same next made follows
-  one_more before after (event.Coalesce tile) aborted same next made follows = another before after (event.Coalesce tile) aborted same next tt made follows
-  one_more before after (event.Split tile) aborted same next made follows = another before after (event.Split tile) aborted same next tt made follows
+  one_more before after (event.Dispatch tile) aborted same next made follows =
+      another before after (event.Dispatch tile) aborted same next tt made follows
+  one_more before after (event.Step tile core leg) aborted same next made follows =
+      another before after (event.Step tile core leg) aborted same next tt made follows
+  one_more before after (event.Abort tile) aborted same next made follows =
+      another before after (event.Abort tile) aborted same next tt made follows
+  one_more before after event.Commit aborted same next made follows =
+      committed before after aborted same next made follows
+  one_more before after (event.Coalesce tile) aborted same next made follows =
+      another before after (event.Coalesce tile) aborted same next tt made follows
+  one_more before after (event.Split tile) aborted same next made follows =
+      another before after (event.Split tile) aborted same next tt made follows
 
 -- so many events for the least tasks are few
 pub least_events_are_few : (N : Type 0) → LeastEventsAreFew N

@@ -1,5 +1,6 @@
 -- The event for the least task may be handed in: its tile and core are there, and its leg is a run.
-use Rattle.std.proofs.Common.{ℕ, ◌+◌, ◌≡◌, ◌≢◌, ◌≤◌, ◌<◌, ◌⊎◌, inl, inr, List, [], length, Some, refl, sym, ap, subst, ◌∙◌, arith}
+use Rattle.std.proofs.Common.{ℕ, ◌+◌, ◌≡◌, ◌≢◌, ◌≤◌, ◌<◌, ◌⊎◌, inl, inr, List, [], length, Some, refl, sym, ap, subst}
+use Rattle.std.proofs.Common.{◌∙◌, arith}
 use Rattle.std.proofs.lemmas.Bool.{cases_eq, cases_lt}
 use Rattle.std.proofs.lemmas.Option.{slice_get_within}
 use Rattle.guest_image.specs.ImageValue.{ImageValue}
@@ -35,7 +36,8 @@ use Rattle.event_law.proofs.Falls.Legs.{counted, stands}
 
 module _ (image : ImageValue) (budget size : ℕ) (ctx : Ctx) where
   -- a task that asks for something else than a trap has not used up its budget
-  asks_within : (task : TaskState) (request : Request) → CoreAsks image budget size ctx task request → ((cause : ℕ) → request ≢ Trap cause)
+  asks_within : (task : TaskState) (request : Request) → CoreAsks image budget size ctx task request
+      → ((cause : ℕ) → request ≢ Trap cause)
       → task.core.used < budget
   asks_within task request asks other = elim (cases_lt task.core.used budget) [
     | inl below ↦ below
@@ -45,7 +47,8 @@ module _ (image : ImageValue) (budget size : ℕ) (ctx : Ctx) where
   ]
 
   -- so no run goes beyond it
-  used_within : (start : TaskState) {log : List Access} {task : TaskState} → LoggedRun image budget size ctx start log task
+  used_within : (start : TaskState) {log : List Access} {task : TaskState}
+      → LoggedRun image budget size ctx start log task
       → start.core.used ≤ budget → task.core.used ≤ budget
   used_within start none low = low
   used_within start (plain {log} {task} core run at) low =
@@ -85,7 +88,8 @@ leg_is_run image budget quantum leg is low = record {
 module _ (image : ImageValue) (view : View) (sound : Sound image view) where
   -- the tile of the least task is there
   tile_is_there : (id : ℕ) (task : Task) → IsLeastTask view id task → task.tile < view.settings.tiles
-  tile_is_there id task least = subst (λ n. task.tile < n) sound.sizes.queues (at_within view.queues task.tile least.place id least.queued_at.queued)
+  tile_is_there id task least =
+      subst (λ n. task.tile < n) sound.sizes.queues (at_within view.queues task.tile least.place id least.queued_at.queued)
 
   -- so is that of the least spilled one
   block_is_there : (tile : ℕ) → IsLeastSpilled view tile → tile < view.settings.tiles
@@ -93,7 +97,8 @@ module _ (image : ImageValue) (view : View) (sound : Sound image view) where
       subst (λ n. tile < n) sound.sizes.blocks (at_within view.blocks tile least.place least.least.has.0 least.least.has.1)
 
   -- a running task has used its budget at most
-  pub running_within : (id core : ℕ) (task : Task) → task_at view id ≡ Some task → task.status ≡ Running core → task.core.used ≤ view.settings.budget
+  pub running_within : (id core : ℕ) (task : Task) → task_at view id ≡ Some task → task.status ≡ Running core
+      → task.core.used ≤ view.settings.budget
   running_within id core task there runs =
       let ran : StandsAs image view.version view.settings.budget task (Running core) =
       subst (StandsAs image view.version view.settings.budget task) runs (sound.tasks.stands id task there) in
@@ -101,7 +106,8 @@ module _ (image : ImageValue) (view : View) (sound : Sound image view) where
       ran.1 (omega arith)
 
   -- its core is there
-  core_is_there : (id tile core : ℕ) (task : Task) → task_at view id ≡ Some task → task.status ≡ Running core → task.tile ≡ tile
+  core_is_there : (id tile core : ℕ) (task : Task) → task_at view id ≡ Some task → task.status ≡ Running core
+      → task.tile ≡ tile
       → tile < view.settings.tiles → core < view.settings.cores
   core_is_there id tile core task there runs in_tile inside =
       let held = (sound.sizes.held_are tile core id).1 (task, there, in_tile, subst (λ status. HasCore status core) (sym runs) refl) in
@@ -122,7 +128,8 @@ module _ (image : ImageValue) (view : View) (sound : Sound image view) where
 
   by_event : (N : Type 0) (e : Event N) → IsLeastEvent image view e → IsGiven image view.settings e
   by_event N (event.Split tile) least = block_is_there tile least
-  by_event N (event.Dispatch tile) least = subst (λ t. t < view.settings.tiles) least.4 (tile_is_there least.0 least.1 least.2)
+  by_event N (event.Dispatch tile) least =
+      subst (λ t. t < view.settings.tiles) least.4 (tile_is_there least.0 least.1 least.2)
   by_event N (event.Step tile core leg) least = leg_is_given tile core leg least
   by_event N event.Commit least = tt
   by_event N (event.Abort tile) least = absurd least

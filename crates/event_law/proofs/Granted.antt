@@ -32,7 +32,8 @@ some_not_none : {X : Type 0} (xs : List X) (k : ℕ) (x : X) → slice_get xs k 
 some_not_none xs k x at none = absurd (cc (ap (λ list. slice_get list k) none, at))
 
 -- the least task, where it is idle, is an idle task of its tile
-pub is_idle : (view : View) (tile id : ℕ) (task : Task) → IsLeastTask view id task → task.status ≡ Idle → task.tile ≡ tile → IsIdle view tile id task
+pub is_idle : (view : View) (tile id : ℕ) (task : Task) → IsLeastTask view id task → task.status ≡ Idle
+    → task.tile ≡ tile → IsIdle view tile id task
 is_idle view tile id task least idle there = record {
   queued = subst (λ t. Contains (queue_at view t) id) there
       (get_contains (queue_at view task.tile) least.place id least.queued_at.queued);
@@ -57,9 +58,11 @@ module _ (view : View) (sizes : SoundSizes view) (tile id : ℕ) (task : Task) (
         let before : ranked_cmp busy.task.key (Queued tile low.0) task.key (Queued tile least.place) ≡ Less =
         busy.idle.least id task other (is_idle view tile id task least idle there) low.0 least.place busy.task task low_at at in
         let above : ranked_cmp task.key (Queued tile least.place) busy.task.key (Queued tile low.0) ≡ Greater =
-        ranked_turned task.key (Queued tile least.place) busy.task.key (Queued tile low.0) ∙ ap ordering_reverse before in
+        ranked_turned task.key (Queued tile least.place) busy.task.key (Queued tile low.0)
+        ∙ ap ordering_reverse before in
         let whole : ranked_cmp least.least.key (Queued task.tile least.place) busy.task.key (Queued tile low.0) ≡ Greater =
-        (λ i. ranked_cmp (least_key view id task least i) (Queued (there i) least.place) busy.task.key (Queued tile low.0)) ∙ above in
+        (λ i. ranked_cmp (least_key view id task least i) (Queued (there i) least.place) busy.task.key (Queued tile low.0))
+        ∙ above in
         least.least.least (Queued tile low.0) busy.task.key (busy.id, busy.task, low_at, refl) whole
   ]
 
@@ -100,7 +103,8 @@ module _ (image : ImageValue) (view : View) (sound : Sound image view) (tile cor
       stands.0
 
   -- a finished task of the tile is later than the least one, which runs
-  finished_is_later : (k : ℕ) → Contains (finished_at view tile) k → (x : Task) × IsFinished view tile k x × IsLater view next.task k x
+  finished_is_later : (k : ℕ) → Contains (finished_at view tile) k
+      → (x : Task) × IsFinished view tile k x × IsLater view next.task k x
   finished_is_later k has =
       let is = (sound.sizes.finished_are tile k).0 has in
       let apart : k ≢ next.id = λ same.
@@ -113,7 +117,8 @@ module _ (image : ImageValue) (view : View) (sound : Sound image view) (tile cor
         record {
           there = is.1;
           dispatched = finished_dispatched k is.0 is.1 is.3;
-          later = below_others view next.id next.task next.least sound.heir sound.order sound.sizes least_runs k is.0 apart is.1;
+          later =
+              below_others view next.id next.task next.least sound.heir sound.order sound.sizes least_runs k is.0 apart is.1;
         },
       )
 
@@ -128,7 +133,8 @@ module _ (image : ImageValue) (view : View) (sound : Sound image view) (tile cor
       stalls.none_later some.0 later.0 later.1 (subst (λ (t : Task). IsLater view t some.0 later.0) (sym is) later.2)
 
 -- an enqueue of the least task doesn't stall
-no_stall_at_enqueue : (image : ImageValue) (book : BookView) → Sound image book.view → (tile core : ℕ) (leg : LegValue) → IsLeastLeg image book.view tile core leg
+no_stall_at_enqueue : (image : ImageValue) (book : BookView) → Sound image book.view → (tile core : ℕ) (leg : LegValue)
+    → IsLeastLeg image book.view tile core leg
     → StallsAtEnqueue book tile core leg → ⊥
 no_stall_at_enqueue image book sound tile core leg next stalls =
     stalls.stalls.not_least (
@@ -157,8 +163,10 @@ module _ (N : Type 0) (image : ImageValue) (old : BookView) (sound : Sound image
   granted (event.Step tile core leg) reply.Stale next cause =
       let least : IsLeastLeg image old.view tile core leg = next.least in
       absurd (cause least.id least.task (least_takes image old.view sound tile core leg least))
-  granted (event.Step tile core leg) reply.Stall next (inl stalls) = absurd (no_stall_at_enqueue image old sound tile core leg next.least stalls)
-  granted (event.Step tile core leg) reply.Stall next (inr stalls) = absurd (no_stall_at_end image old.view sound tile core leg next.least stalls)
+  granted (event.Step tile core leg) reply.Stall next (inl stalls) =
+      absurd (no_stall_at_enqueue image old sound tile core leg next.least stalls)
+  granted (event.Step tile core leg) reply.Stall next (inr stalls) =
+      absurd (no_stall_at_end image old.view sound tile core leg next.least stalls)
   granted event.Commit reply.Ended next cause = absurd (next.goes_on cause)
   granted event.Commit reply.Empty next cause = let least = next.least in absurd (cause least.0 least.1 least.2 least.3)
   granted event answer next cause = absurd cause

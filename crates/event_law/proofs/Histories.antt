@@ -22,7 +22,8 @@ use Rattle.event_law.proofs.Openings.Untouched.{all_kept, none_touched}
 use Rattle.event_law.proofs.Keeps.Events.{happens_keeps}
 
 -- a sound view's journal is a run
-sound_is_run : (image : ImageValue) (budget : ℕ) (book : BookView) → book.view.settings.budget ≡ budget → Sound image book.view → IsSerialRun image budget book.view
+sound_is_run : (image : ImageValue) (budget : ℕ) (book : BookView) → book.view.settings.budget ≡ budget
+    → Sound image book.view → IsSerialRun image budget book.view
 sound_is_run image budget book same sound =
     record {
       serial = sound.serial;
@@ -31,7 +32,8 @@ sound_is_run image budget book same sound =
       undone = record {
         ids = sound.memory.chained.ids;
         by_key = sound.memory.chained.by_key;
-        memory_is = sym (all_undone_is_serial book.view.settings.line (logged_tasks book.view) sound.memory.chained.ids sound.serial.memory book.view.memory sound.memory.chained.by_key sound.memory.chained);
+        memory_is =
+            sym (all_undone_is_serial book.view.settings.line (logged_tasks book.view) sound.memory.chained.ids sound.serial.memory book.view.memory sound.memory.chained.by_key sound.memory.chained);
       };
       memory = λ memory undone.
           undone.memory_is
@@ -50,9 +52,11 @@ close_is_serial image book closed sound closes =
 
 -- events, one after another, keep a view sound
 all_keep : (N : Type 0) (image : ImageValue) (settings : Settings) (events : List (Event N)) (answers : List Applied) (old new : BookView)
-    → All (IsGiven image settings) events → old.view.settings ≡ settings → Sound image old.view → HappenAll old events answers new
+    → All (IsGiven image settings) events → old.view.settings ≡ settings → Sound image old.view
+    → HappenAll old events answers new
     → (new.view.settings ≡ settings) × Sound image new.view
-all_keep N image settings [] [] old new given same sound happen = subst (λ (b : BookView). (b.view.settings ≡ settings) × Sound image b.view) happen (same, sound)
+all_keep N image settings [] [] old new given same sound happen =
+    subst (λ (b : BookView). (b.view.settings ≡ settings) × Sound image b.view) happen (same, sound)
 all_keep N image settings [] (applied ∷ answers) old new given same sound happen = absurd happen
 all_keep N image settings (event ∷ events) [] old new given same sound happen = absurd happen
 all_keep N image settings (event ∷ events) (applied ∷ answers) old new given same sound happen =
@@ -70,7 +74,8 @@ histories_are_runs N image settings placers taps opened book events answers with
 
 -- lists of events, one after the other
 pub events_join : (N : Type 0) → EventsJoin N
-events_join N old mid new [] second [] others before after = subst (λ b. HappenAll b second others new) (sym before) after
+events_join N old mid new [] second [] others before after =
+    subst (λ b. HappenAll b second others new) (sym before) after
 events_join N old mid new [] second (applied ∷ answers) others before after = absurd before
 events_join N old mid new (event ∷ events) second [] others before after = absurd before
 events_join N old mid new (event ∷ events) second (applied ∷ answers) others before after =
@@ -79,10 +84,16 @@ events_join N old mid new (event ∷ events) second (applied ∷ answers) others
 -- an event leaves the count of events, or raises it by one, up to where it stands still
 pub events_count_one : (N : Type 0) → EventsCountOne N
 events_count_one N old new event reply.Ok aborted happens = inr happens.steps
-events_count_one N old new event reply.Empty aborted happens = inl (ap (λ (b : BookView). b.steps) happens.unchanged.same)
-events_count_one N old new event reply.Busy aborted happens = inl (ap (λ (b : BookView). b.steps) happens.unchanged.same)
-events_count_one N old new event reply.Stall aborted happens = inl (ap (λ (b : BookView). b.steps) happens.unchanged.same)
-events_count_one N old new event reply.Stale aborted happens = inl (ap (λ (b : BookView). b.steps) happens.unchanged.same)
-events_count_one N old new event reply.Firm aborted happens = inl (ap (λ (b : BookView). b.steps) happens.unchanged.same)
-events_count_one N old new event reply.Ended aborted happens = inl (ap (λ (b : BookView). b.steps) happens.unchanged.same)
+events_count_one N old new event reply.Empty aborted happens =
+    inl (ap (λ (b : BookView). b.steps) happens.unchanged.same)
+events_count_one N old new event reply.Busy aborted happens =
+    inl (ap (λ (b : BookView). b.steps) happens.unchanged.same)
+events_count_one N old new event reply.Stall aborted happens =
+    inl (ap (λ (b : BookView). b.steps) happens.unchanged.same)
+events_count_one N old new event reply.Stale aborted happens =
+    inl (ap (λ (b : BookView). b.steps) happens.unchanged.same)
+events_count_one N old new event reply.Firm aborted happens =
+    inl (ap (λ (b : BookView). b.steps) happens.unchanged.same)
+events_count_one N old new event reply.Ended aborted happens =
+    inl (ap (λ (b : BookView). b.steps) happens.unchanged.same)
 events_count_one N old new event reply.Memory aborted happens = inl (ap (λ (b : BookView). b.steps) happens.1.same)

@@ -18,7 +18,8 @@ module _ {N : Type 0} (old new : BookView) (event : Event N) (aborted : ℕ) whe
   unchanged_by answer refuses = both_same refuses.unchanged
 
   -- each reply but Ok does
-  pub unchanged : (answer : Reply) → Happens old event answer aborted new → answer ≢ reply.Ok → (aborted ≡ 0) × (new ≡ old)
+  pub unchanged : (answer : Reply) → Happens old event answer aborted new → answer ≢ reply.Ok
+      → (aborted ≡ 0) × (new ≡ old)
   unchanged reply.Ok happens not_made = absurd (not_made refl)
   unchanged reply.Empty happens not_made = unchanged_by reply.Empty happens
   unchanged reply.Busy happens not_made = unchanged_by reply.Busy happens
@@ -29,7 +30,8 @@ module _ {N : Type 0} (old new : BookView) (event : Event N) (aborted : ℕ) whe
   unchanged reply.Memory happens not_made = both_same happens.1
 
 pub refusals_change_nothing : (N : Type 0) → RefusalsChangeNothing N
-refusals_change_nothing N old new event answer aborted happens not_made = unchanged old new event aborted answer happens not_made
+refusals_change_nothing N old new event answer aborted happens not_made =
+    unchanged old new event aborted answer happens not_made
 
 -- the reply of a rank
 of_rank : ℕ → Reply
@@ -60,11 +62,13 @@ rank_is_one answer other same = sym (told_by answer) ∙ (ap of_rank same ∙ to
 
 module _ {N : Type 0} (old new : BookView) (event : Event N) (aborted : ℕ) where
   -- what a refusal says
-  refused_by : (answer : Reply) → Refuses old event answer aborted new → ((answer ≡ reply.Ok) × IsGranted old event) ⊎ IsRefused old event answer
+  refused_by : (answer : Reply) → Refuses old event answer aborted new
+      → ((answer ≡ reply.Ok) × IsGranted old event) ⊎ IsRefused old event answer
   refused_by answer refuses = inr refuses.refused
 
   -- want of memory aside, an event is granted or refused for a cause
-  outcome : (answer : Reply) → Happens old event answer aborted new → answer ≢ reply.Memory → ((answer ≡ reply.Ok) × IsGranted old event) ⊎ IsRefused old event answer
+  outcome : (answer : Reply) → Happens old event answer aborted new → answer ≢ reply.Memory
+      → ((answer ≡ reply.Ok) × IsGranted old event) ⊎ IsRefused old event answer
   outcome reply.Ok happens has_memory = inl (refl, happens.granted)
   outcome reply.Empty happens has_memory = refused_by reply.Empty happens
   outcome reply.Busy happens has_memory = refused_by reply.Busy happens
@@ -83,7 +87,8 @@ module _ {N : Type 0} (book : BookView) (event : Event N) (answer other : Reply)
       rank_is_one answer other (grind (arith, not_before, not_behind))
 
   -- and what is granted is not refused: two outcomes have one reply
-  one_outcome : ((answer ≡ reply.Ok) × IsGranted book event) ⊎ IsRefused book event answer → ((other ≡ reply.Ok) × IsGranted book event) ⊎ IsRefused book event other → answer ≡ other
+  one_outcome : ((answer ≡ reply.Ok) × IsGranted book event) ⊎ IsRefused book event answer
+      → ((other ≡ reply.Ok) × IsGranted book event) ⊎ IsRefused book event other → answer ≡ other
   one_outcome (inl granted) (inl also) = granted.0 ∙ sym also.0
   one_outcome (inl granted) (inr refused) = absurd (granted.1 other refused.cause)
   one_outcome (inr refused) (inl granted) = absurd (granted.1 answer refused.cause)

@@ -32,7 +32,8 @@ module _ {X : Type 0} (order : X → X → Ordering) (total : IsTotalOrder order
       })
 
   -- values of two kinds have a least one where both kinds have
-  pub either_least : (first second : X → Type 0) → HasLeast order first → HasLeast order second → HasLeast order (λ x. first x ⊎ second x)
+  pub either_least : (first second : X → Type 0) → HasLeast order first → HasLeast order second
+      → HasLeast order (λ x. first x ⊎ second x)
   either_least first second (inl none) (inl nor) = inl (λ x is. elim is [ inl one ↦ none x one | inr two ↦ nor x two ])
   either_least first second (inl none) (inr low) =
       inr (record { one = low.one; is = inr low.is; low = λ y is. elim is [ inl one ↦ absurd (none y one) | inr two ↦ low.low y two ] })
@@ -45,7 +46,8 @@ module _ {X : Type 0} (order : X → X → Ordering) (total : IsTotalOrder order
           inr (record {
             one = low.one;
             is = inl low.is;
-            low = λ y is. elim is [ inl one ↦ low.low y one | inr two ↦ upto total low.one other.one y under (other.low y two) ];
+            low =
+                λ y is. elim is [ inl one ↦ low.low y one | inr two ↦ upto total low.one other.one y under (other.low y two) ];
           })
 
       gives_way : is_gt (order other.one low.one) ≡ false → HasLeast order (λ x. first x ⊎ second x)
@@ -53,7 +55,8 @@ module _ {X : Type 0} (order : X → X → Ordering) (total : IsTotalOrder order
           inr (record {
             one = other.one;
             is = inr other.is;
-            low = λ y is. elim is [ inl one ↦ upto total other.one low.one y under (low.low y one) | inr two ↦ other.low y two ];
+            low =
+                λ y is. elim is [ inl one ↦ upto total other.one low.one y under (low.low y one) | inr two ↦ other.low y two ];
           })
 
       by_order : (o : Ordering) → order low.one other.one ≡ o → HasLeast order (λ x. first x ⊎ second x)
@@ -62,12 +65,15 @@ module _ {X : Type 0} (order : X → X → Ordering) (total : IsTotalOrder order
       by_order Greater greater = gives_way (ap is_gt (total.antisymm other.one low.one ∙ ap ordering_reverse greater))
 
   -- values that are the same have the same least one
-  pub same_least : (first second : X → Type 0) → ((x : X) → first x → second x) → ((x : X) → second x → first x) → HasLeast order first → HasLeast order second
+  pub same_least : (first second : X → Type 0) → ((x : X) → first x → second x) → ((x : X) → second x → first x)
+      → HasLeast order first → HasLeast order second
   same_least first second to from (inl none) = inl (λ x is. none x (from x is))
-  same_least first second to from (inr low) = inr (record { one = low.one; is = to low.one low.is; low = λ y is. low.low y (from y is) })
+  same_least first second to from (inr low) =
+      inr (record { one = low.one; is = to low.one low.is; low = λ y is. low.low y (from y is) })
 
   -- where each place has a least value or none, all places below a bound have together
-  pub search : (at : ℕ → X → Type 0) → ((k : ℕ) → HasLeast order (at k)) → (bound : ℕ) → HasLeast order (IsBelow at bound)
+  pub search : (at : ℕ → X → Type 0) → ((k : ℕ) → HasLeast order (at k)) → (bound : ℕ)
+      → HasLeast order (IsBelow at bound)
   search at each zero = inl (λ x is. absurd (omega (arith, is.1)))
   search at each (suc bound) =
       same_least (λ x. IsBelow at bound x ⊎ at bound x) (IsBelow at (suc bound)) to from

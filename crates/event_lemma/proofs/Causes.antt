@@ -24,7 +24,8 @@ use Rattle.event_def.specs.declared.event.Event.{Event}
 use Rattle.event_def.specs.declared.event.Reply.{Reply}
 use Rattle.event_def.specs.declared.event.Reply.TheVariants as reply
 use Rattle.event_def.specs.Book.{BookView, picked_tile}
-use Rattle.event_def.specs.Causes.{Cause, IsBusy, IsGranted, IsRefused, IsStale, LatestIsLeast, StallsAtEnd, StallsAtEnqueue, StallsAtSplit, refusal_rank}
+use Rattle.event_def.specs.Causes.{Cause, IsBusy, IsGranted, IsRefused, IsStale, LatestIsLeast, StallsAtEnd}
+use Rattle.event_def.specs.Causes.{StallsAtEnqueue, StallsAtSplit, refusal_rank}
 use Rattle.event_def.specs.End.{IsOver}
 
 -- a tile whose least idle task is the least task isn't busy
@@ -211,7 +212,8 @@ module _ (book : BookView) (tile core id : ℕ) (leg : LegValue) (task : Task) (
   -- whatever stalls in that step asks for what this task does
   asked : (other : ℕ) (x : Task) → TakesLeg book.view tile core leg other x
       → request_of book.view task leg ≡ request_of book.view x leg
-  asked other x too = ap (λ (t : Task). request_of book.view t leg) (taker_is_one book.view tile core id other leg task x takes too).1
+  asked other x too =
+      ap (λ (t : Task). request_of book.view t leg) (taker_is_one book.view tile core id other leg task x takes too).1
 
   -- a step that asks for no child doesn't stall at one
   pub no_child_no_stall : ((spawn : Spawn) → request_of book.view task leg ≢ Enqueue spawn)

@@ -1,5 +1,7 @@
 -- What is forced for a core leaves the least task, which is idle, the least one and the least idle one of its tile.
-use Rattle.std.proofs.Common.{ℕ, zero, suc, ◌≡◌, ◌≢◌, ◌≤◌, inl, inr, Bool, true, false, List, [], ◌∷◌, Option, Some, None, refl, sym, ap, subst, ◌∙◌, arith, length, map, take, is_some, option_map, if◌then◌else◌}
+use Rattle.std.proofs.Common.{ℕ, zero, suc, ◌≡◌, ◌≢◌, ◌≤◌, inl, inr, Bool, true, false, List, [], ◌∷◌, Option, Some}
+use Rattle.std.proofs.Common.{None, refl, sym, ap, subst, ◌∙◌, arith, length, map, take, is_some, option_map}
+use Rattle.std.proofs.Common.{if◌then◌else◌}
 use Rattle.std.specs.Prelude.{slice_get, slice_index_or}
 use Rattle.std.specs.FinMap.{nat_cmp-IsAntisymmetric}
 use Rattle.std.specs.Ordering.{nat_cmp, ordering_then}
@@ -20,11 +22,14 @@ use Rattle.spec_state.specs.declared.task.Task.{Task}
 use Rattle.spec_state.specs.View.{View, task_at, queue_at, block_at, cores_at}
 use Rattle.spec_state.specs.Tasks.{is_dispatched}
 use Rattle.spec_state.specs.Groups.{keyed_task, room_tasks, room_task}
-use Rattle.spec_state.specs.Least.{Spot, Queued, Spilled_at, HasKey, IsLeastTask, IsQueuedAt, place_cmp, ranked_cmp, spot_cmp}
+use Rattle.spec_state.specs.Least.{Spot, Queued, Spilled_at, HasKey, IsLeastTask, IsQueuedAt, place_cmp, ranked_cmp}
+use Rattle.spec_state.specs.Least.{spot_cmp}
 use Rattle.spec_state.specs.Aborts.{Aborts, OnlyNode, freed_core, is_marked}
 use Rattle.spec_state.specs.Queries.{IsFreeCore, IsLatestOnCore}
 use Rattle.spec_law.specs.Sound.{Sound}
-use Rattle.spec_law.proofs.Proved.{abort_of_one_is_sound, abort_takes, cascade_is_later, distinct_at, get_contains, least_is_one, least_key, list_mapped, marked_is_back, not_below_least, queued_at, upto_queued}
+use Rattle.spec_law.proofs.Proved.{abort_of_one_is_sound, abort_takes, cascade_is_later, distinct_at, get_contains}
+use Rattle.spec_law.proofs.Proved.{least_is_one, least_key, list_mapped, marked_is_back, not_below_least, queued_at}
+use Rattle.spec_law.proofs.Proved.{upto_queued}
 use Rattle.event_def.specs.Events.{FreesCore}
 use Rattle.event_def.specs.Events as events
 use Rattle.event_law.proofs.Proved.{heir_is, idle_is_open, one_least, spared_stays}
@@ -154,7 +159,8 @@ module _ (image : ImageValue) (old : View) (sound : Sound image old) (id : ℕ) 
         → slice_get (queue_at mid tile) (place_after (room_tasks mid) place (queue_at old tile)) ≡ Some k
     stands_still tile place k y at there =
         let queue : queue_at mid tile ≡ queue_after (room_tasks mid) (queue_at old tile) =
-        ap (λ (queues : List (List ℕ)). slice_index_or queues tile []) aborts.queues ∙ list_mapped (queue_after (room_tasks mid)) refl old.queues tile in
+        ap (λ (queues : List (List ℕ)). slice_index_or queues tile []) aborts.queues
+        ∙ list_mapped (queue_after (room_tasks mid)) refl old.queues tile in
         ap (λ (ids : List ℕ). slice_get ids (place_after (room_tasks mid) place (queue_at old tile))) queue
         ∙ stands_after (room_tasks mid) (queue_at old tile) place k at (ap (λ o. is_some (option_map room_task o)) there)
 
@@ -163,7 +169,11 @@ module _ (image : ImageValue) (old : View) (sound : Sound image old) (id : ℕ) 
     place_now = place_after (room_tasks mid) least.place (queue_at old task.tile)
 
     least_at_now : IsQueuedAt mid task.tile place_now id task
-    least_at_now = record { queued = stands_still task.tile least.place id task least.queued_at.queued there_still; there = there_still }
+    least_at_now =
+        record {
+          queued = stands_still task.tile least.place id task least.queued_at.queued there_still;
+          there = there_still;
+        }
 
     -- an unmarked task ranks no lower than it
     unmarked_upto : (u q k : ℕ) (y : Task) → IsQueuedAt mid u q k y → task_at old k ≡ Some y
@@ -202,7 +212,8 @@ module _ (image : ImageValue) (old : View) (sound : Sound image old) (id : ℕ) 
             ap (λ (t : Task). key_cmp task.key t.key) back.is
             ∙ below_reopened (levels task.key) (keyed_task back.was) (below_marked k back.was marked back.there) in
             first_where (key_cmp task.key y.key) (spot_cmp (Queued task.tile place_now) (Queued u q)) below
-        by_mark false out = unmarked_upto u q k y at (sym (spared_stays (OnlyNode v) old mid aborted k aborts out) ∙ at.there)
+        by_mark false out =
+            unmarked_upto u q k y at (sym (spared_stays (OnlyNode v) old mid aborted k aborts out) ∙ at.there)
 
     -- a spilled task stays behind it
     spilled_upto : (u q : ℕ) (s : Spilled) → slice_get (block_at mid u) q ≡ Some s
@@ -274,7 +285,8 @@ pub core_leaves_idle : IdleStays
 core_leaves_idle image old tile id task aborted mid sound idle held_least forced = leaves forced
   where
     leaves : {n : ℕ} {view : View} → FreesCore tile old n view → LeavesIdle image tile id task old view
-    leaves (events.has_free core free) = record { sound = sound; like = like_itself old; idle = idle; core = core; free = free }
+    leaves (events.has_free core free) =
+        record { sound = sound; like = like_itself old; idle = idle; core = core; free = free }
     leaves (events.aborts_latest n v x view held latest aborts) =
         let least = held_least held in
         let both : Some least.0 ≡ Some task = sym least.1.queued_at.there ∙ idle.idle.there in

@@ -24,7 +24,10 @@ module _ (N : Type 0) (image : ImageValue) (view : View) (going : IsOver view �
       → task.status ≡ Running core → IsLegFrom image view task leg
       → IsNextEvent {N = N} image view (event.Step task.tile core leg)
   next_is_step id core task leg least runs from =
-      record { goes_on = going; least = record { id = id; task = task; least = least; runs = runs; there = refl; runs_on = from } }
+      record {
+        goes_on = going;
+        least = record { id = id; task = task; least = least; runs = runs; there = refl; runs_on = from };
+      }
 
   -- it is finished
   pub next_is_commit : (id : ℕ) (task : Task) → IsLeastTask view id task → task.status ≡ Finished

@@ -1,5 +1,6 @@
 -- What is forced leaves a view like the one before, and a running task that stays as it was takes its leg still.
-use Rattle.std.proofs.Common.{ℕ, ◌≡◌, Bool, true, false, List, [], ◌∷◌, Some, refl, sym, ap, subst, ◌∙◌, length, if◌then◌else◌}
+use Rattle.std.proofs.Common.{ℕ, ◌≡◌, Bool, true, false, List, [], ◌∷◌, Some, refl, sym, ap, subst, ◌∙◌, length}
+use Rattle.std.proofs.Common.{if◌then◌else◌}
 use Rattle.guest_image.specs.ImageValue.{ImageValue}
 use Rattle.memory_law.specs.Tasks.{Logged, log_of, undone_set}
 use Rattle.rv_core.specs.LegValue.{LegValue}
@@ -38,14 +39,17 @@ like_itself view = record { settings = refl; version = refl; size = refl }
 
 -- and one that is like another is like what that is like
 pub like_on : (old mid new : View) → IsLike old mid → IsLike mid new → IsLike old new
-like_on old mid new one two = record { settings = two.settings ∙ one.settings; version = two.version ∙ one.version; size = two.size ∙ one.size }
+like_on old mid new one two =
+    record { settings = two.settings ∙ one.settings; version = two.version ∙ one.version; size = two.size ∙ one.size }
 
 -- an abort
 pub abort_like : (firsts : ℕ → Type 0) (old mid : View) (aborted : ℕ) → Aborts firsts old aborted mid → IsLike old mid
 abort_like firsts old mid aborted aborts = record {
   settings = ap (λ view. view.settings) aborts.frame;
   version = ap (λ view. view.version) aborts.frame;
-  size = ap length aborts.memory.memory_is ∙ length_undone_set (is_marked aborts.marks) (logged_tasks old) aborts.memory.ids old.memory;
+  size =
+      ap length aborts.memory.memory_is
+      ∙ length_undone_set (is_marked aborts.marks) (logged_tasks old) aborts.memory.ids old.memory;
 }
 
 -- a coalescing
@@ -63,13 +67,15 @@ room_like tile asker old (queue_has_room free) = like_itself old
 room_like tile asker old (coalesces new full moves) = coalesce_like tile old new moves
 room_like tile asker old (aborts_victim aborted v task mid new full none least victim firm aborts moves) =
     like_on old mid new (abort_like (OnlyNode v) old mid aborted aborts) (coalesce_like tile mid new moves)
-room_like tile asker old (aborts_creator aborted v creator task new full none least victim loose made_by aborts) = abort_like (OnlyNode creator) old new aborted aborts
+room_like tile asker old (aborts_creator aborted v creator task new full none least victim loose made_by aborts) =
+    abort_like (OnlyNode creator) old new aborted aborts
 
 -- a place in a commit queue
 pub commit_like : (tile : ℕ) (task : Task) (old : View) {aborted : ℕ} {mid : View}
     → FreesCommit tile task old aborted mid → IsLike old mid
 commit_like tile task old (events.has_free free) = like_itself old
-commit_like tile task old (events.aborts_latest aborted v x new full latest later aborts) = abort_like (OnlyNode v) old new aborted aborts
+commit_like tile task old (events.aborts_latest aborted v x new full latest later aborts) =
+    abort_like (OnlyNode v) old new aborted aborts
 
 -- a task that stays as it was takes the leg still, and asks for the same
 pub takes_still : (image : ImageValue) (old mid : View) (tile core id : ℕ) (leg : LegValue) (task : Task)
@@ -86,7 +92,11 @@ takes_still image old mid tile core id leg task sound takes now like there =
       like = like;
       there = there;
       takes = record {
-        runs = record { on = record { held = (now.sizes.held_are tile core id).1 (task, there, tile_is, holds); there = there }; running = takes.runs.running };
+        runs =
+            record {
+              on = record { held = (now.sizes.held_are tile core id).1 (task, there, tile_is, holds); there = there };
+              running = takes.runs.running;
+            };
         from = takes.from;
       };
       asks = ap (λ version. request_at (context_of version task) leg.to leg.stop) like.version;

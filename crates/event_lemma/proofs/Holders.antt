@@ -1,5 +1,6 @@
 -- What stands on the cores and in the commit queue of a tile.
-use Rattle.std.proofs.Common.{ℕ, zero, ◌≡◌, ◌≢◌, ◌≤◌, ◌<◌, true, List, [], ◌∷◌, Option, Some, None, refl, sym, ap, subst, ◌∙◌, arith, length}
+use Rattle.std.proofs.Common.{ℕ, zero, ◌≡◌, ◌≢◌, ◌≤◌, ◌<◌, true, List, [], ◌∷◌, Option, Some, None, refl, sym, ap}
+use Rattle.std.proofs.Common.{subst, ◌∙◌, arith, length}
 use Rattle.std.specs.Prelude.{slice_get}
 use Rattle.std.specs.declared.cmp.Ordering.{Ordering}
 use Rattle.std.specs.declared.cmp.Ordering.TheVariants.{Less, Equal, Greater}
@@ -38,7 +39,8 @@ module _ (image : ImageValue) (view : View) (sound : Sound image view) where
 
   pub holder_is_dispatched : (tile core id : ℕ) (task : Task) → IsOnCore view tile core id task
       → is_dispatched task ≡ true
-  holder_is_dispatched tile core id task on = by_status core task task.status (holder_stands tile core id task on).1 (sound.tasks.stands id task on.there)
+  holder_is_dispatched tile core id task on =
+      by_status core task task.status (holder_stands tile core id task on).1 (sound.tasks.stands id task on.there)
 
   -- a task in a commit queue of a tile is finished, and of that tile
   pub finished_stands : (tile id : ℕ) (task : Task) → IsFinished view tile id task
@@ -59,7 +61,8 @@ module _ (image : ImageValue) (view : View) (sound : Sound image view) where
   -- a finished task of a greater key is a later one
   pub finished_is_later : (tile k : ℕ) (task x : Task) → IsFinished view tile k x → key_cmp task.key x.key ≡ Less
       → IsLater view task k x
-  finished_is_later tile k task x finished less = record { there = finished.there; dispatched = finished_is_dispatched tile k x finished; later = less }
+  finished_is_later tile k task x finished less =
+      record { there = finished.there; dispatched = finished_is_dispatched tile k x finished; later = less }
 
   -- a full commit queue has a task
   pub full_has_finished : (tile : ℕ) → IsCommitFull view tile → (id : ℕ) × (task : Task) × IsFinished view tile id task

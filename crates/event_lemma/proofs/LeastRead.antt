@@ -16,7 +16,8 @@ use Rattle.spec_state.specs.declared.task.Where.{Where}
 use Rattle.spec_state.specs.declared.task.Where.TheVariants as where_
 use Rattle.spec_state.specs.View.{View, task_at}
 use Rattle.spec_state.specs.Tasks.{trap_cause}
-use Rattle.spec_state.specs.Least.{Spot, Queued, Spilled_at, HasName, IsAllCommitted, IsFirm, IsLeast, IsLeastSpot, IsLeastTask, IsLeastSpilled, IsTheLeast}
+use Rattle.spec_state.specs.Least.{Spot, Queued, Spilled_at, HasName, IsAllCommitted, IsFirm, IsLeast, IsLeastSpot}
+use Rattle.spec_state.specs.Least.{IsLeastTask, IsLeastSpilled, IsTheLeast}
 use Rattle.spec_state.proofs.Heirs.{one_least as one_least_id}
 use Rattle.event_def.specs.End.{HasEnd, IsOver}
 use Rattle.spec_law.specs.Sound.{Sound}
@@ -62,7 +63,8 @@ module _ (view : View) where
 
   -- so is the tile where it is spilled
   read_is_spilled : (w : Where) → IsLeast view w → (tile : ℕ) → spilled_in w ≡ Some tile → IsLeastSpilled view tile
-  read_is_spilled (where_.Spilled other) is tile same = let one : other ≡ tile = cc in subst (IsLeastSpilled view) one is
+  read_is_spilled (where_.Spilled other) is tile same =
+      let one : other ≡ tile = cc in subst (IsLeastSpilled view) one is
   read_is_spilled other is tile same = absurd (cc (same))
 
   spilled_is_read : (w : Where) → IsLeast view w → (tile : ℕ) → IsLeastSpilled view tile → spilled_in w ≡ Some tile
@@ -75,23 +77,31 @@ module _ (view : View) where
   -- two tasks that are the least one have one status
   one_status : (a b : ℕ) (x y : Task) (status : Status) → IsLeastTask view a x → x.status ≡ status
       → IsLeastTask view b y → y.status ≡ status
-  one_status a b x y status one stands two = ap (λ (t : Task). t.status) (sym (one_least view (least_is_one view) a b x y one two)) ∙ stands
+  one_status a b x y status one stands two =
+      ap (λ (t : Task). t.status) (sym (one_least view (least_is_one view) a b x y one two)) ∙ stands
 
   -- a least task that is read as another than a trapped one isn't trapped
   untrapped : (w : Where) → IsLeast view w → IsUntrapped w → (id core cause : ℕ) (task : Task)
       → IsLeastTask view id task → task.status ≢ Trapped core cause
-  untrapped (where_.Idle k) is free id core cause task least trapped = absurd (cc (sym (one_status k.0 id is.0 task Idle is.1 is.2 least) ∙ trapped))
-  untrapped (where_.Running k) is free id core cause task least trapped = absurd (cc (sym (one_status k.0 id is.0 task (Running is.1) is.2 is.3 least) ∙ trapped))
+  untrapped (where_.Idle k) is free id core cause task least trapped =
+      absurd (cc (sym (one_status k.0 id is.0 task Idle is.1 is.2 least) ∙ trapped))
+  untrapped (where_.Running k) is free id core cause task least trapped =
+      absurd (cc (sym (one_status k.0 id is.0 task (Running is.1) is.2 is.3 least) ∙ trapped))
   untrapped (where_.Trapped k) is free id core cause task least trapped = absurd free
-  untrapped (where_.Finished k) is free id core cause task least trapped = absurd (cc (sym (one_status k.0 id is.0 task Finished is.1 is.2 least) ∙ trapped))
-  untrapped (where_.Spilled tile) is free id core cause task least trapped = absurd (not_both view id tile task least is)
+  untrapped (where_.Finished k) is free id core cause task least trapped =
+      absurd (cc (sym (one_status k.0 id is.0 task Finished is.1 is.2 least) ∙ trapped))
+  untrapped (where_.Spilled tile) is free id core cause task least trapped =
+      absurd (not_both view id tile task least is)
 
   -- likewise for a finished one
   unfinished : (w : Where) → IsLeast view w → IsUnfinished w → (id : ℕ) (task : Task) → IsLeastTask view id task
       → task.status ≢ Finished
-  unfinished (where_.Idle k) is free id task least finished = absurd (cc (sym (one_status k.0 id is.0 task Idle is.1 is.2 least) ∙ finished))
-  unfinished (where_.Running k) is free id task least finished = absurd (cc (sym (one_status k.0 id is.0 task (Running is.1) is.2 is.3 least) ∙ finished))
-  unfinished (where_.Trapped k) is free id task least finished = absurd (cc (sym (one_status k.0 id is.0 task (Trapped is.1 is.2) is.3 is.4 least) ∙ finished))
+  unfinished (where_.Idle k) is free id task least finished =
+      absurd (cc (sym (one_status k.0 id is.0 task Idle is.1 is.2 least) ∙ finished))
+  unfinished (where_.Running k) is free id task least finished =
+      absurd (cc (sym (one_status k.0 id is.0 task (Running is.1) is.2 is.3 least) ∙ finished))
+  unfinished (where_.Trapped k) is free id task least finished =
+      absurd (cc (sym (one_status k.0 id is.0 task (Trapped is.1 is.2) is.3 is.4 least) ∙ finished))
   unfinished (where_.Finished k) is free id task least finished = absurd free
   unfinished (where_.Spilled tile) is free id task least finished = absurd (not_both view id tile task least is)
 
@@ -148,7 +158,8 @@ pub trapped_is_over : (image : ImageValue) (view : View) (id : TaskId) → Sound
     → IsLeast view (where_.Trapped id) → IsOver view
 trapped_is_over image view id sound is = by_limit (cases_eq (length view.history) view.settings.commits)
   where
-    by_limit : (length view.history ≡ view.settings.commits) ⊎ (length view.history ≡ view.settings.commits → ⊥) → IsOver view
+    by_limit : (length view.history ≡ view.settings.commits) ⊎ (length view.history ≡ view.settings.commits → ⊥)
+        → IsOver view
     by_limit (inl full) = (ends.Limit, limit_ends view (where_.Trapped id) is full)
     by_limit (inr few) =
         let made = least_is_committed image view id.0 is.0 sound is.3 in (

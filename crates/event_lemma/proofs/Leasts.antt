@@ -46,7 +46,8 @@ module _ (view : View) (sizes : SoundSizes view) (tile id : ℕ) (task : Task) (
         least_at.queued at.queued in
         let both : Some task ≡ Some y = sym least.queued_at.there ∙ at.there in
         let same : task ≡ y = cc in
-        (λ i. ranked_cmp (sym same i).key (Queued tile (sym places i)) z.key (Queued tile q)) ∙ least_before k other q z at_other;
+        (λ i. ranked_cmp (sym same i).key (Queued tile (sym places i)) z.key (Queued tile q))
+        ∙ least_before k other q z at_other;
   }
 
 -- an idle least task is the least idle one of its tile

@@ -13,11 +13,13 @@ use Rattle.event_lemma.specs.Laws.{MadeIsSound}
 
 -- a granted event that is made leaves a sound view
 pub makes_stays_sound : (N : Type 0) → MadeIsSound N
-makes_stays_sound N image old event aborted new placers given sound granted makes = (makes_leads image old sound aborted new placers N event given granted makes).now
+makes_stays_sound N image old event aborted new placers given sound granted makes =
+    (makes_leads image old sound aborted new placers N event given granted makes).now
 
 -- with the settings as they were
 pub makes_keeps_settings : (N : Type 0) (image : ImageValue) (old : BookView) (event : Event N) (aborted : ℕ) (new : View) (placers : List Policy)
     → IsGiven image old.view.settings event → Sound image old.view → IsGranted old event
     → Makes old event aborted new placers
     → new.settings ≡ old.view.settings
-makes_keeps_settings N image old event aborted new placers given sound granted makes = (makes_leads image old sound aborted new placers N event given granted makes).settings
+makes_keeps_settings N image old event aborted new placers given sound granted makes =
+    (makes_leads image old sound aborted new placers N event given granted makes).settings

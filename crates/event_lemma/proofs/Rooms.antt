@@ -1,6 +1,7 @@
 -- What makes room in a task queue leaves: a free place, the task that asks, the block of a splitter; and what is
 -- taken back for a victim.
-use Rattle.std.proofs.Common.{ℕ, ◌≡◌, ◌≢◌, ◌⊎◌, inl, inr, true, false, [], Some, None, refl, sym, ap, subst, ◌∙◌, arith, if◌then◌else◌}
+use Rattle.std.proofs.Common.{ℕ, ◌≡◌, ◌≢◌, ◌⊎◌, inl, inr, true, false, [], Some, None, refl, sym, ap, subst, ◌∙◌, arith}
+use Rattle.std.proofs.Common.{if◌then◌else◌}
 use Rattle.std.specs.Prelude.{slice_get}
 use Rattle.std.specs.declared.cmp.Ordering.TheVariants.{Less}
 use Rattle.fractal_vt.specs.declared.key.Key.{Key}
@@ -15,11 +16,16 @@ use Rattle.spec_state.specs.Least.{IsFirm, IsHeir, IsLeastTask, IsLeastSpilled, 
 use Rattle.spec_state.specs.Aborts.{Aborts, OnlyNode, is_marked, is_marked_creator, taken_back}
 use Rattle.spec_state.specs.Changes.{TakesLeg}
 use Rattle.spec_state.specs.Queries.{IsQueued}
-use Rattle.spec_state.specs.Room.{Asker, Enqueuer, Splitter, QueueHasRoom, IsLeastAsker, IsMovable, IsTakenFor, IsVictim, MakesRoom, NoneMoves, asker_of, queue_has_room, coalesces, aborts_victim, aborts_creator}
+use Rattle.spec_state.specs.Room.{Asker, Enqueuer, Splitter, QueueHasRoom, IsLeastAsker, IsMovable, IsTakenFor}
+use Rattle.spec_state.specs.Room.{IsVictim, MakesRoom, NoneMoves, asker_of, queue_has_room, coalesces, aborts_victim}
+use Rattle.spec_state.specs.Room.{aborts_creator}
 use Rattle.spec_law.specs.RoomLaws.{AsksAsLeast, MayBeTaken}
 use Rattle.spec_law.specs.Sound.{Sound}
-use Rattle.spec_law.proofs.Proved.{abort_of_one_is_sound, cascade_spares_heir, heirs_are_one, not_below_least, victim_is_later}
-use Rattle.event_law.proofs.Proved.{abort_leaves_heir, asker_is_there, least_is_heir, not_both, room_follows, room_is_free, room_leaves_spilled, running_is_dispatched, spilled_asks, spilled_no_heir}
+use Rattle.spec_law.proofs.Proved.{abort_of_one_is_sound, cascade_spares_heir, heirs_are_one, not_below_least}
+use Rattle.spec_law.proofs.Proved.{victim_is_later}
+use Rattle.event_law.proofs.Proved.{abort_leaves_heir, asker_is_there, least_is_heir, not_both, room_follows}
+use Rattle.event_law.proofs.Proved.{room_is_free, room_leaves_spilled, running_is_dispatched, spilled_asks}
+use Rattle.event_law.proofs.Proved.{spilled_no_heir}
 use Rattle.event_law.proofs.Proved.{running_is_busy}
 use Rattle.event_lemma.specs.Forcing.{RunsIfTask, TakesStill}
 use Rattle.event_lemma.specs.Laws.{VictimMoves, RoomIsLeft, TakerStays, conflicts, frees_place, room}
@@ -89,7 +95,8 @@ pub free_is_same : (tile : ℕ) (asker : Asker) (old : View) {aborted : ℕ} {mi
     → MakesRoom tile asker old aborted mid → mid ≡ old
 free_is_same tile asker old free (queue_has_room also) = refl
 free_is_same tile asker old free (coalesces new full moves) = absurd (omega (arith, free, full))
-free_is_same tile asker old free (aborts_victim aborted v task mid new full none least victim firm aborts moves) = absurd (omega (arith, free, full))
+free_is_same tile asker old free (aborts_victim aborted v task mid new full none least victim firm aborts moves) =
+    absurd (omega (arith, free, full))
 free_is_same tile asker old free (aborts_creator aborted v creator task new full none least victim loose made_by aborts) = absurd (omega (arith, free, full))
 
 -- a block that holds the least spilled task isn't empty
@@ -100,8 +107,10 @@ least_in_block view tile least none = absurd (cc (ap (λ block. slice_get block 
 pub room_leaves_block : (image : ImageValue) (tile : ℕ) (old : View) (aborted : ℕ) (mid : View) → Sound image old
     → block_at old tile ≢ []
     → QueueHasRoom old tile ⊎ IsLeastSpilled old tile → MakesRoom tile Splitter old aborted mid → block_at mid tile ≢ []
-room_leaves_block image tile old aborted mid sound some (inl free) makes = subst (λ view. block_at view tile ≢ []) (sym (free_is_same tile Splitter old free makes)) some
-room_leaves_block image tile old aborted mid sound some (inr least) makes = least_in_block mid tile (room_leaves_spilled image old sound tile least makes)
+room_leaves_block image tile old aborted mid sound some (inl free) makes =
+    subst (λ view. block_at view tile ≢ []) (sym (free_is_same tile Splitter old free makes)) some
+room_leaves_block image tile old aborted mid sound some (inr least) makes =
+    least_in_block mid tile (room_leaves_spilled image old sound tile least makes)
 
 -- a task that is above who asks as the least one is not the least
 above_asker : (image : ImageValue) (old : View) (tile first : ℕ) (a asker : Asker) (low : Key) → Sound image old
@@ -146,12 +155,14 @@ module _ (image : ImageValue) (tile : ℕ) (asker : Asker) (old : View) (v : ℕ
 
   -- the heir isn't
   heir_spared : (heir : ℕ) → IsHeir old (Some heir) → is_marked aborts.marks heir ≡ false
-  heir_spared heir is = cascade_spares_heir image old v x aborts.marks sound victim.there other aborts.cascade heir (heirs_are_one old sound.heir heir sound.is_heir is)
+  heir_spared heir is =
+      cascade_spares_heir image old v x aborts.marks sound victim.there other aborts.cascade heir (heirs_are_one old sound.heir heir sound.is_heir is)
 
   -- so the creator of a firm victim is unmarked
   creator_spared : IsFirm old x → is_marked_creator aborts.marks (live_creator x.creator) ≡ false
   creator_spared (inl committed) = ap (λ c. is_marked_creator aborts.marks (live_creator c)) committed.2
-  creator_spared (inr child) = ap (λ c. is_marked_creator aborts.marks (live_creator c)) child.2 ∙ heir_spared child.0 child.3
+  creator_spared (inr child) =
+      ap (λ c. is_marked_creator aborts.marks (live_creator c)) child.2 ∙ heir_spared child.0 child.3
 
   -- and it is idle again
   victim_again : IsFirm old x → task_at mid v ≡ Some (idle_again old.version x)

@@ -1,5 +1,6 @@
 -- What is forced for an access or an end call leaves the task that asks as it was.
-use Rattle.std.proofs.Common.{ℕ, ◌≡◌, ◌≢◌, ◌<◌, ◌/◌, Bool, true, false, not, List, [], Some, refl, sym, ap, subst, ◌∙◌, arith, length}
+use Rattle.std.proofs.Common.{ℕ, ◌≡◌, ◌≢◌, ◌<◌, ◌/◌, Bool, true, false, not, List, [], Some, refl, sym, ap, subst, ◌∙◌}
+use Rattle.std.proofs.Common.{arith, length}
 use Rattle.std.specs.Prelude.{filter, slice_index_or}
 use Rattle.std.specs.declared.cmp.Ordering.TheVariants.{Less}
 use Rattle.std.proofs.lemmas.Cmp.{tied_itself}
@@ -14,7 +15,8 @@ use Rattle.spec_state.specs.Aborts.{Aborts, OnlyNode, is_marked}
 use Rattle.spec_state.specs.Changes.{TakesLeg}
 use Rattle.spec_state.specs.Queries.{Conflicts, IsLater}
 use Rattle.spec_law.specs.Sound.{Sound}
-use Rattle.spec_law.proofs.Proved.{abort_of_conflicts_is_sound, abort_of_later_is_sound, cascade_is_later, conflicts_spare_asker, list_mapped}
+use Rattle.spec_law.proofs.Proved.{abort_of_conflicts_is_sound, abort_of_later_is_sound, cascade_is_later}
+use Rattle.spec_law.proofs.Proved.{conflicts_spare_asker, list_mapped}
 use Rattle.event_def.specs.Events.{FreesCommit, TakesConflicts}
 use Rattle.event_def.specs.Events as events
 use Rattle.event_law.proofs.Proved.{at_each_place, filter_fewer, FitsQueue, none_fit, spared_stays}
@@ -36,7 +38,8 @@ module _ (image : ImageValue) (old : View) (sound : Sound image old) (tile core 
       takes_still image old mid tile core id leg task sound takes
       (abort_of_conflicts_is_sound image id line task write old aborted mid sound there forced).0 (abort_like firsts old mid aborted forced)
       (spared_stays firsts old mid aborted id forced
-      (false_from_ne_true (is_marked forced.marks id) (conflicts_spare_asker image old id line task write forced.marks sound there forced.cascade)) ∙ there)
+      (false_from_ne_true (is_marked forced.marks id) (conflicts_spare_asker image old id line task write forced.marks sound there forced.cascade))
+      ∙ there)
 
   -- no task is below itself
   not_below_itself : key_cmp task.key task.key ≡ Less → ⊥
@@ -105,4 +108,5 @@ commit_leaves_taker image old tile core id leg task aborted mid sound takes forc
 pub commit_leaves_place : (image : ImageValue) (old : View) (tile core id : ℕ) (leg : LegValue) (task : Task) (aborted : ℕ) (mid : View)
     → Sound image old → TakesLeg old tile core leg id task → FreesCommit tile task old aborted mid
     → length (finished_at mid tile) < mid.settings.commit_queue
-commit_leaves_place image old tile core id leg task aborted mid sound takes forced = commit_is_free image old sound tile core id leg task takes forced
+commit_leaves_place image old tile core id leg task aborted mid sound takes forced =
+    commit_is_free image old sound tile core id leg task takes forced

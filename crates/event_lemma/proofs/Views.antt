@@ -15,7 +15,8 @@ use Rattle.spec_state.specs.Least.{HasName, IsLeastTask}
 use Rattle.spec_state.specs.Numbers.{IsInUse, IsPathsOrTasks}
 use Rattle.event_def.specs.End.{HasEnd}
 use Rattle.spec_law.specs.Sound.{Sound}
-use Rattle.spec_law.proofs.Proved.{contains_get, get_contains, least_is_next, numbers_are_held, place_in_all, spilled_are_firm}
+use Rattle.spec_law.proofs.Proved.{contains_get, get_contains, least_is_next, numbers_are_held, place_in_all}
+use Rattle.spec_law.proofs.Proved.{spilled_are_firm}
 
 -- its dispatched tasks, in order of their keys
 pub sound_by_key : (image : ImageValue) (view : View) → Sound image view

@@ -21,7 +21,8 @@ use Rattle.event_lemma.proofs.Proved.{dispatch_is_granted, least_is_not_busy}
 use Rattle.event_move.specs.Moving.{ComesSo}
 
 -- whether a tile without a free core is busy, by whether its least idle task is the least one
-pub busy_by : (view : View) (tile id : ℕ) (task : Task) (least : Bool) → IsLeastIdle view tile id task → AllCoresHeld view tile
+pub busy_by : (view : View) (tile id : ℕ) (task : Task) (least : Bool) → IsLeastIdle view tile id task
+    → AllCoresHeld view tile
     → IsTrue least ↔ IsTheLeast view id → IsTrue (not least) ↔ IsBusy view tile
 busy_by view tile id task true idle held is =
     (λ no. absurd (cc (no)), λ busy. absurd (least_is_not_busy view tile id task idle (is.0 refl) busy))

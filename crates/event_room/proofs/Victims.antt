@@ -62,7 +62,8 @@ aborted_moves image tile asker old v task sound runs least victim firm aborted m
     (v, victim_moves image tile asker old v task sound runs least victim firm aborted mid aborts)
 
 -- the creator of a victim that isn't firm is there
-pub creator_there : (image : ImageValue) (tile : ℕ) (asker : Asker) (old : View) (v creator : ℕ) (task : Task) → Sound image old
+pub creator_there : (image : ImageValue) (tile : ℕ) (asker : Asker) (old : View) (v creator : ℕ) (task : Task)
+    → Sound image old
     → RunsIfTask old asker → NoneMoves old tile → IsLeastAsker old tile asker → IsVictim old tile asker v task
     → (IsFirm old task → ⊥) → IfSome (task_at old v) (λ t. live_creator t.creator ≡ Some creator)
     → IsSome (task_at old creator)

@@ -53,8 +53,10 @@ use Rattle.fractal_sim.proofs.Counting.{steps_told}
 -- ---- runs that are held
 
 -- an outcome that keeps a run of the image that the words ask for holds it
-abbrev holds_kept : (input : Input) (request : Request) (image : ImageValue) (run : SerialRun) (steps : Option ℕ) (o : Outcome) → HasImage input request image
-    → IsRunOf image request.settings.commits request.settings.budget run → HoldsRun run steps o → HoldsRunOfInput front HasImage input o
+abbrev holds_kept : (input : Input) (request : Request) (image : ImageValue) (run : SerialRun) (steps : Option ℕ) (o : Outcome)
+    → HasImage input request image
+    → IsRunOf image request.settings.commits request.settings.budget run → HoldsRun run steps o
+    → HoldsRunOfInput front HasImage input o
 holds_kept input request image run steps o given is_run kept = record {
   asked = request;
   image = image;
@@ -62,39 +64,50 @@ holds_kept input request image run steps o given is_run kept = record {
   run = subst (IsRunOf image request.settings.commits request.settings.budget) (sym kept.run_is) is_run;
 }
 
-abbrev ran_held : (input : Input) (image : ImageValue) (ran : Ran) (steps : Option ℕ) (o : Outcome) → IsRan input image ran steps → HoldsRun (run_with_end ran) steps o → HoldsRunOfInput front HasImage input o
-ran_held input image ran steps o found kept = holds_kept input found.request image (run_with_end ran) steps o (IsRead found.bytes_behind found.given) found.made.run kept
+abbrev ran_held : (input : Input) (image : ImageValue) (ran : Ran) (steps : Option ℕ) (o : Outcome)
+    → IsRan input image ran steps → HoldsRun (run_with_end ran) steps o → HoldsRunOfInput front HasImage input o
+ran_held input image ran steps o found kept =
+    holds_kept input found.request image (run_with_end ran) steps o (IsRead found.bytes_behind found.given) found.made.run kept
 
-abbrev stopped_held : (input : Input) (ran : Ran) (steps : Option ℕ) (made : Saving) (o : Outcome) → IsStopped input ran steps made → HoldsRun (run_with_end ran) steps o → HoldsRunOfInput front HasImage input o
-stopped_held input ran steps made o found kept = holds_kept input found.request found.image (run_with_end ran) steps o (IsRead found.bytes_behind found.given) found.stopped.run.run kept
+abbrev stopped_held : (input : Input) (ran : Ran) (steps : Option ℕ) (made : Saving) (o : Outcome)
+    → IsStopped input ran steps made → HoldsRun (run_with_end ran) steps o → HoldsRunOfInput front HasImage input o
+stopped_held input ran steps made o found kept =
+    holds_kept input found.request found.image (run_with_end ran) steps o (IsRead found.bytes_behind found.given) found.stopped.run.run kept
 
-abbrev loaded_held : (input : Input) (load : Loading) (image : ImageValue) (ran : Ran) (steps : Option ℕ) (o : Outcome) → IsLoaded input load image ran steps → HoldsRun (run_with_end ran) steps o
+abbrev loaded_held : (input : Input) (load : Loading) (image : ImageValue) (ran : Ran) (steps : Option ℕ) (o : Outcome)
+    → IsLoaded input load image ran steps → HoldsRun (run_with_end ran) steps o
     → HoldsRunOfInput front HasImage input o
 loaded_held input load image ran steps o found kept =
     holds_kept input found.request image (run_with_end ran) steps o (IsGenerated load.load load.seed load.size found.given) found.made.run kept
 
-abbrev played_held : (input : Input) (image : ImageValue) (p : Played) (o : Outcome) → IsPlayed input image p → HoldsRun (run_with_end p.ran) (Some p.ran.closed.steps) o → HoldsRunOfInput front HasImage input o
+abbrev played_held : (input : Input) (image : ImageValue) (p : Played) (o : Outcome) → IsPlayed input image p
+    → HoldsRun (run_with_end p.ran) (Some p.ran.closed.steps) o → HoldsRunOfInput front HasImage input o
 played_held input image p o found kept =
     holds_kept input found.request image (run_with_end p.ran) (Some p.ran.closed.steps) o (IsRead found.bytes_behind found.given) found.made.run kept
 
-abbrev traced_held : (input : Input) (t : Traced) (o : Outcome) → IsTraced input t → HoldsRun (run_with_end t.ran) (Some t.ran.closed.steps) o → HoldsRunOfInput front HasImage input o
+abbrev traced_held : (input : Input) (t : Traced) (o : Outcome) → IsTraced input t
+    → HoldsRun (run_with_end t.ran) (Some t.ran.closed.steps) o → HoldsRunOfInput front HasImage input o
 traced_held input t o found kept =
     holds_kept input found.request found.image (run_with_end t.ran) (Some t.ran.closed.steps) o (IsRead found.bytes_behind found.given) found.made.run kept
 
-pub holds : (input : Input) (f : Finding) (o : Outcome) → IsFound input f → OutcomeKeeps f o → HoldsRunOrNothing front HasImage input o
+pub holds : (input : Input) (f : Finding) (o : Outcome) → IsFound input f → OutcomeKeeps f o
+    → HoldsRunOrNothing front HasImage input o
 holds input finding.Memory o found kept = inl kept
 holds input (finding.Refused line) o found kept = inl kept
 holds input (finding.NoScript line) o found kept = inl kept
-holds input (finding.Accepted closed) o found kept = inr (holds_kept input found.request found.image closed None o (IsRead found.bytes_behind found.given) found.run kept)
+holds input (finding.Accepted closed) o found kept =
+    inr (holds_kept input found.request found.image closed None o (IsRead found.bytes_behind found.given) found.run kept)
 holds input (finding.Ran image ran steps) o found kept = inr (ran_held input image ran steps o found kept)
 holds input (finding.Stopped ran steps made) o found kept = inr (stopped_held input ran steps made o found kept)
-holds input (finding.Loaded load image ran steps) o found kept = inr (loaded_held input load image ran steps o found kept)
+holds input (finding.Loaded load image ran steps) o found kept =
+    inr (loaded_held input load image ran steps o found kept)
 holds input (finding.Played image p) o found kept = inr (played_held input image p o found kept)
 holds input (finding.Traced t) o found kept = inr (traced_held input t o found kept)
 
 -- ---- runs to an end
 
-ran_to_end : (input : Input) (image : ImageValue) (ran : Ran) (steps : Option ℕ) (end : End) → ran.end ≡ Some end → IsRan input image ran steps → RunsToEnd input image end (run_with_end ran)
+ran_to_end : (input : Input) (image : ImageValue) (ran : Ran) (steps : Option ℕ) (end : End) → ran.end ≡ Some end
+    → IsRan input image ran steps → RunsToEnd input image end (run_with_end ran)
 ran_to_end input image ran steps end is found = record {
   request = found.request;
   bytes_behind = found.bytes_behind;
@@ -104,7 +117,8 @@ ran_to_end input image ran steps end is found = record {
   end_is = is;
 }
 
-stops_at_limit : (input : Input) (ran : Ran) (steps : Option ℕ) (made : Saving) → (found : IsStopped input ran steps made)
+stops_at_limit : (input : Input) (ran : Ran) (steps : Option ℕ) (made : Saving)
+    → (found : IsStopped input ran steps made)
     → StopsAtLimit input found.image found.stopped.pendings (run_with_end ran)
 stops_at_limit input ran steps made found = record {
   request = found.request;
@@ -116,7 +130,8 @@ stops_at_limit input ran steps made found = record {
   left = found.stopped.left;
 }
 
-loaded_to_end : (input : Input) (load : Loading) (image : ImageValue) (ran : Ran) (steps : Option ℕ) (end : End) → ran.end ≡ Some end → IsLoaded input load image ran steps
+loaded_to_end : (input : Input) (load : Loading) (image : ImageValue) (ran : Ran) (steps : Option ℕ) (end : End)
+    → ran.end ≡ Some end → IsLoaded input load image ran steps
     → LoadsToEnd input load.load load.seed load.size image end (run_with_end ran)
 loaded_to_end input load image ran steps end is found = record {
   request = found.request;
@@ -126,7 +141,8 @@ loaded_to_end input load image ran steps end is found = record {
   over = λ unfinished. found.made.over (is ∙ ap Some unfinished);
 }
 
-played_to_end : (input : Input) (image : ImageValue) (p : Played) (o : Outcome) (end : End) → p.ran.end ≡ Some end → IsPlayed input image p
+played_to_end : (input : Input) (image : ImageValue) (p : Played) (o : Outcome) (end : End) → p.ran.end ≡ Some end
+    → IsPlayed input image p
     → HoldsRun (run_with_end p.ran) (Some p.ran.closed.steps) o → PlaysToEnd input image p.said.items end o
 played_to_end input image p o end is found kept =
     let made = found.made in
@@ -142,10 +158,12 @@ played_to_end input image p o end is found kept =
       events = p.ran.closed.steps;
       steps_is = kept.steps_is;
       played = subst Is (sym kept.run_is) at_end;
-      is_run = subst (IsRunOf image found.request.settings.commits found.request.settings.budget) (sym kept.run_is) made.run;
+      is_run =
+          subst (IsRunOf image found.request.settings.commits found.request.settings.budget) (sym kept.run_is) made.run;
     }
 
-traced_to_end : (input : Input) (t : Traced) (o : Outcome) (end : End) → t.ran.end ≡ Some end → (found : IsTraced input t)
+traced_to_end : (input : Input) (t : Traced) (o : Outcome) (end : End) → t.ran.end ≡ Some end
+    → (found : IsTraced input t)
     → HoldsRun (run_with_end t.ran) (Some t.ran.closed.steps) o
     → TracesToEnd input found.image (lists_of_traced t) end o
 traced_to_end input t o end is found kept =
@@ -162,43 +180,53 @@ traced_to_end input t o end is found kept =
       events = t.ran.closed.steps;
       steps_is = kept.steps_is;
       traced = subst Is (sym kept.run_is) at_end;
-      is_run = subst (IsRunOf found.image found.request.settings.commits found.request.settings.budget) (sym kept.run_is) made.run;
+      is_run =
+          subst (IsRunOf found.image found.request.settings.commits found.request.settings.budget) (sym kept.run_is) made.run;
     }
 
 -- ---- the table of answers
 
 -- what was found, with its status and its text, is an answer
-answers : (input : Input) (f : Finding) (o : Outcome) (text : List ℕ) → IsFound input f → OutcomeKeeps f o → text_of f ≡ Some text → IsAnswer input o (status_of f) text
+answers : (input : Input) (f : Finding) (o : Outcome) (text : List ℕ) → IsFound input f → OutcomeKeeps f o
+    → text_of f ≡ Some text → IsAnswer input o (status_of f) text
 answers input finding.Memory o text found kept is = let z : ⊥ = cc in absurd z
-answers input (finding.Refused line) o text found kept is = subst (IsAnswer input o 8) (same_Some _ text is) (table.Refused line found kept)
-answers input (finding.NoScript line) o text found kept is = subst (IsAnswer input o 9) (same_Some _ text is) (table.NoScript line found kept)
+answers input (finding.Refused line) o text found kept is =
+    subst (IsAnswer input o 8) (same_Some _ text is) (table.Refused line found kept)
+answers input (finding.NoScript line) o text found kept is =
+    subst (IsAnswer input o 9) (same_Some _ text is) (table.NoScript line found kept)
 answers input (finding.Accepted closed) o text found kept is =
     let line : accepted_line (length o.journal) ≡ text = ap (λ c. accepted_line (length c.journal)) kept.run_is ∙ same_Some _ text is in
     subst (IsAnswer input o 0) line (table.Accepted (subst (IsAcceptedReport input) (sym kept.run_is) found))
 answers input (finding.Ran image ran steps) o text found kept is = go ran.end refl is where
-  go : (e : Option End) → ran.end ≡ e → option_map (run_text image (run_with_end ran)) e ≡ Some text → IsAnswer input o (status_by end_status e) text
+  go : (e : Option End) → ran.end ≡ e → option_map (run_text image (run_with_end ran)) e ≡ Some text
+      → IsAnswer input o (status_by end_status e) text
   go None at t = let z : ⊥ = cc in absurd z
   go (Some end) at t =
       let told : run_text image (closed_of o) end ≡ text = ap (λ c. run_text image c end) kept.run_is ∙ same_Some _ text t in
       let made : RunsToEnd input image end (closed_of o) = subst (RunsToEnd input image end) (sym kept.run_is) (ran_to_end input image ran steps end at found) in
       subst (IsAnswer input o (end_status end)) told (table.Ended image end made)
-answers input (finding.Stopped ran steps made) o text found kept is = go made refl (same_Some _ text is) found.stopped.saves where
-  pendings : List Pending
-  pendings = found.stopped.pendings
+answers input (finding.Stopped ran steps made) o text found kept is =
+    go made refl (same_Some _ text is) found.stopped.saves where
+      pendings : List Pending
+      pendings = found.stopped.pendings
 
-  stops : StopsAtLimit input found.image pendings (closed_of o)
-  stops = subst (StopsAtLimit input found.image pendings) (sym kept.run_is) (stops_at_limit input ran steps made found)
+      stops : StopsAtLimit input found.image pendings (closed_of o)
+      stops = subst (StopsAtLimit input found.image pendings) (sym kept.run_is) (stops_at_limit input ran steps made found)
 
-  go : (m : Saving) → made ≡ m → saving_text m ≡ text → Saves found.image ran.closed.memory pendings m → IsAnswer input o (saving_status m) text
-  go (saving.Bytes bytes) at told saves =
-      let memory : o.memory ≡ ran.closed.memory = ap (λ c. c.memory) kept.run_is in
-      subst (IsAnswer input o 4) (ap (λ m. image_bytes (saved_image found.image m pendings)) memory ∙ sym saves.2 ∙ told)
-      (table.Saved found.image pendings stops saves.0 saves.1)
-  go (saving.Nested depth) at told saves = subst (IsAnswer input o 12) told (table.Nested found.image pendings depth stops saves.0 saves.1)
-  go (saving.TooMany count) at told saves =
-      subst (IsAnswer input o 13) (ap tasks_line (sym saves.2) ∙ told) (table.TooMany found.image pendings stops saves.0 saves.1)
+      go : (m : Saving) → made ≡ m → saving_text m ≡ text → Saves found.image ran.closed.memory pendings m
+          → IsAnswer input o (saving_status m) text
+      go (saving.Bytes bytes) at told saves =
+          let memory : o.memory ≡ ran.closed.memory = ap (λ c. c.memory) kept.run_is in
+          subst (IsAnswer input o 4) (ap (λ m. image_bytes (saved_image found.image m pendings)) memory ∙ sym saves.2 ∙ told)
+          (table.Saved found.image pendings stops saves.0 saves.1)
+      go (saving.Nested depth) at told saves =
+          subst (IsAnswer input o 12) told (table.Nested found.image pendings depth stops saves.0 saves.1)
+      go (saving.TooMany count) at told saves =
+          subst (IsAnswer input o 13) (ap tasks_line (sym saves.2) ∙ told) (table.TooMany found.image pendings stops saves.0 saves.1)
 answers input (finding.Loaded load image ran steps) o text found kept is = go ran.end refl is where
-  go : (e : Option End) → ran.end ≡ e → option_map (load_text load.load load.seed load.size image (run_with_end ran)) e ≡ Some text → IsAnswer input o (status_by end_status e) text
+  go : (e : Option End) → ran.end ≡ e
+      → option_map (load_text load.load load.seed load.size image (run_with_end ran)) e ≡ Some text
+      → IsAnswer input o (status_by end_status e) text
   go None at t = let z : ⊥ = cc in absurd z
   go (Some end) at t =
       let told : load_text load.load load.seed load.size image (closed_of o) end ≡ text = ap (λ c. load_text load.load load.seed load.size image c end) kept.run_is ∙ same_Some _ text t in
@@ -206,13 +234,15 @@ answers input (finding.Loaded load image ran steps) o text found kept is = go ra
       subst (LoadsToEnd input load.load load.seed load.size image end) (sym kept.run_is) (loaded_to_end input load image ran steps end at found) in
       subst (IsAnswer input o (end_status end)) told (table.Loaded load.load load.seed load.size image end made)
 answers input (finding.Played image p) o text found kept is = go p.ran.end refl is where
-  go : (e : Option End) → p.ran.end ≡ e → option_map (played_text p.said.items image (run_with_end p.ran)) e ≡ Some text → IsAnswer input o (status_by played_status e) text
+  go : (e : Option End) → p.ran.end ≡ e → option_map (played_text p.said.items image (run_with_end p.ran)) e ≡ Some text
+      → IsAnswer input o (status_by played_status e) text
   go None at t = let z : ⊥ = cc in absurd z
   go (Some end) at t =
       let told : played_text p.said.items image (closed_of o) end ≡ text = ap (λ c. played_text p.said.items image c end) kept.run_is ∙ same_Some _ text t in
       subst (IsAnswer input o (played_status end)) told (table.Played image p.said.items end (played_to_end input image p o end at found kept))
 answers input (finding.Traced t) o text found kept is = go t.ran.end refl is where
-  go : (e : Option End) → t.ran.end ≡ e → option_map (λ end. trace_text (lists_of_traced t)) e ≡ Some text → IsAnswer input o (status_by (λ end. 0) e) text
+  go : (e : Option End) → t.ran.end ≡ e → option_map (λ end. trace_text (lists_of_traced t)) e ≡ Some text
+      → IsAnswer input o (status_by (λ end. 0) e) text
   go None at told = let z : ⊥ = cc in absurd z
   go (Some end) at told =
       subst (IsAnswer input o 0) (same_Some _ text told) (table.Traced found.image (lists_of_traced t) end (traced_to_end input t o end at found kept))

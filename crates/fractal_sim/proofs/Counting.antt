@@ -33,9 +33,11 @@ pub same_request : (words : List (List ℕ)) (a b : Request) → request_of_word
 same_request words a b ha hb = same_Some a b (sym ha ∙ hb)
 
 -- whether a count is told is the same for one request
-counts_same : (words : List (List ℕ)) (a b : Request) → request_of_words words ≡ Some a → request_of_words words ≡ Some b → Counts b.settings.workers b.command
+counts_same : (words : List (List ℕ)) (a b : Request) → request_of_words words ≡ Some a
+    → request_of_words words ≡ Some b → Counts b.settings.workers b.command
     → Counts a.settings.workers a.command
-counts_same words a b ha hb = subst (λ (r : Request). Counts r.settings.workers r.command) (sym (same_request words a b ha hb))
+counts_same words a b ha hb =
+    subst (λ (r : Request). Counts r.settings.workers r.command) (sym (same_request words a b ha hb))
 
 -- an outcome without a run tells no count, and is empty
 pub none_told : (input : Input) (o : Outcome) → IsEmpty o → CountsEvents input o
@@ -58,9 +60,12 @@ is_told workers events zero none = go (subst (λ w. event_count w events ≡ Non
   go clash = cc
 
 -- the image was run, and this is its count
-run_told : (input : Input) (o : Outcome) (request : Request) (image : ImageValue) (ran : Ran) (steps : Option ℕ) → request_of_words input.words ≡ Some request
-    → RunsImage request.command → (Counts request.settings.workers request.command → request.settings.workers ≡ 0) → HasImage input request image
-    → IsRunSo image request.settings input.placers input.taps ran steps → HoldsRun (run_with_end ran) steps o → CountsEvents input o
+run_told : (input : Input) (o : Outcome) (request : Request) (image : ImageValue) (ran : Ran) (steps : Option ℕ)
+    → request_of_words input.words ≡ Some request
+    → RunsImage request.command → (Counts request.settings.workers request.command → request.settings.workers ≡ 0)
+    → HasImage input request image
+    → IsRunSo image request.settings input.placers input.taps ran steps → HoldsRun (run_with_end ran) steps o
+    → CountsEvents input o
 run_told input o request image ran steps asked runs_image plain given made kept =
     let workers = request.settings.workers in
     let events = ran.closed.steps in
@@ -69,15 +74,19 @@ run_told input o request image ran steps asked runs_image plain given made kept 
       request = request;
       asked = asked;
       image = image;
-      made = runs.ByLeast runs_image none given (subst (IsLeastRun Brand image request.settings input.placers input.taps events) (sym kept.run_is) (made.least none));
+      made =
+          runs.ByLeast runs_image none given (subst (IsLeastRun Brand image request.settings input.placers input.taps events) (sym kept.run_is) (made.least none));
     } in
     record {
-      made = subst (λ s. IfSome s (λ events. MakesRun input events (closed_of o))) (sym told_is) (counted workers events (λ events. MakesRun input events (closed_of o)) least);
-      told = λ other asks counts none. absurd (is_told workers events (plain (counts_same input.words request other asked asks counts)) (sym told_is ∙ none));
+      made =
+          subst (λ s. IfSome s (λ events. MakesRun input events (closed_of o))) (sym told_is) (counted workers events (λ events. MakesRun input events (closed_of o)) least);
+      told =
+          λ other asks counts none. absurd (is_told workers events (plain (counts_same input.words request other asked asks counts)) (sym told_is ∙ none));
     }
 
 -- a script was played, and this is its count
-script_told : (input : Input) (o : Outcome) (request : Request) (image : ImageValue) (run : SerialRun) (events : ℕ) → request_of_words input.words ≡ Some request
+script_told : (input : Input) (o : Outcome) (request : Request) (image : ImageValue) (run : SerialRun) (events : ℕ)
+    → request_of_words input.words ≡ Some request
     → HoldsRun run (Some events) o → IsRunMadeBy input request image events run → CountsEvents input o
 script_told input o request image run events asked kept made = record {
   made = subst (λ s. IfSome s (λ events. MakesRun input events (closed_of o))) (sym kept.steps_is)
@@ -130,8 +139,10 @@ steps_told input (finding.Played image p) o found kept =
       go : (e : Option End) → p.ran.end ≡ e
           → IfSome e (λ end. IsPlayedRun Brand image found.request.settings found.made.script input.placers input.taps p.said.items p.ran.closed.steps end (run_with_end p.ran))
           → IsRunMadeBy input found.request image p.ran.closed.steps (run_with_end p.ran)
-      go None is h = runs.ByPart found.bytes_behind found.made.script plays found.given found.made.script_is (found.made.part is)
-      go (Some end) is h = runs.ByScript found.bytes_behind found.made.script p.said.items end plays found.given found.made.script_is h
+      go None is h =
+          runs.ByPart found.bytes_behind found.made.script plays found.given found.made.script_is (found.made.part is)
+      go (Some end) is h =
+          runs.ByScript found.bytes_behind found.made.script p.said.items end plays found.given found.made.script_is h
 steps_told input (finding.Traced t) o found kept =
     script_told input o found.request found.image (run_with_end t.ran) t.ran.closed.steps found.given.read.asks kept (go t.ran.end refl found.made.traced) where
       plays : PlaysScript found.request.command
@@ -140,5 +151,7 @@ steps_told input (finding.Traced t) o found kept =
       go : (e : Option End) → t.ran.end ≡ e
           → IfSome e (λ end. IsTracedRun Brand found.image found.request.settings found.made.script input.placers input.taps (lists_of_traced t) t.ran.closed.steps end (run_with_end t.ran))
           → IsRunMadeBy input found.request found.image t.ran.closed.steps (run_with_end t.ran)
-      go None is h = runs.ByPart found.bytes_behind found.made.script plays found.given found.made.script_is (found.made.part is)
-      go (Some end) is h = runs.ByScript found.bytes_behind found.made.script h.said end plays found.given found.made.script_is h.played
+      go None is h =
+          runs.ByPart found.bytes_behind found.made.script plays found.given found.made.script_is (found.made.part is)
+      go (Some end) is h =
+          runs.ByScript found.bytes_behind found.made.script h.said end plays found.given found.made.script_is h.played

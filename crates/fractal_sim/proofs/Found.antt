@@ -28,7 +28,8 @@ use Rattle.fractal_sim.specs.Runs.{IsReported, RunsRead}
 -- ---- reports
 
 -- an accepted report's run is one of the serial machine
-holds-report : (image : ImageValue) (commits budget : ℕ) (report : Report) (closed : SerialRun) (accepted : IsReportOf image commits budget report) → IsClosedReport accepted.state report closed
+holds-report : (image : ImageValue) (commits budget : ℕ) (report : Report) (closed : SerialRun) (accepted : IsReportOf image commits budget report)
+    → IsClosedReport accepted.state report closed
     → IsRunOf image commits budget closed
 holds-report image commits budget report closed a k = record {
   state = a.state;
@@ -42,11 +43,14 @@ holds-report image commits budget report closed a k = record {
 -- ---- findings
 
 -- what is found behind the image that was read is found
-pub found_given : (input : Input) (request : Request) (image : ImageValue) (rest : List ℕ) (f : Finding) → ReadsImage front input request image rest
+pub found_given : (input : Input) (request : Request) (image : ImageValue) (rest : List ℕ) (f : Finding)
+    → ReadsImage front input request image rest
     → IsFoundBehind request image rest input.placers input.taps f → IsFound input f
 found_given input request image rest finding.Memory g h = read_as_asked front input request g.bytes g.read
-found_given input request image rest (finding.Refused line) g h = record { request = request; image = image; bytes_behind = rest; given = g; command = h.0; wrong = h.1 }
-found_given input request image rest (finding.NoScript line) g h = record { request = request; image = image; bytes_behind = rest; given = g; command = h.0; wrong = h.1 }
+found_given input request image rest (finding.Refused line) g h =
+    record { request = request; image = image; bytes_behind = rest; given = g; command = h.0; wrong = h.1 }
+found_given input request image rest (finding.NoScript line) g h =
+    record { request = request; image = image; bytes_behind = rest; given = g; command = h.0; wrong = h.1 }
 found_given input request image rest (finding.Accepted closed) g h = record {
   request = request;
   image = image;
@@ -69,11 +73,13 @@ found_given input request image rest (finding.Loaded load image' ran steps) g h 
 found_given input request image rest (finding.Played image' played) g h =
     let same : IsPlayed input image played = record { request = request; bytes_behind = rest; given = g; command = h.0; made = h.2 } in
     subst (λ i. IsPlayed input i played) (sym h.1) same
-found_given input request image rest (finding.Traced traced) g h = record { request = request; image = image; bytes_behind = rest; given = g; command = h.0; made = h.1 }
+found_given input request image rest (finding.Traced traced) g h =
+    record { request = request; image = image; bytes_behind = rest; given = g; command = h.0; made = h.1 }
 
 -- what is found where the words ask for a run that can go on is found behind the image
 pub saved_behind : (request : Request) (image : ImageValue) (rest : List ℕ) (placers : List Policy) (taps : List TapValue) (f : Finding)
-    → request.command ≡ commands.Save → IsSavedSo image request.settings placers taps f → IsFoundBehind request image rest placers taps f
+    → request.command ≡ commands.Save → IsSavedSo image request.settings placers taps f
+    → IsFoundBehind request image rest placers taps f
 saved_behind request image rest placers taps finding.Memory is h = tt
 saved_behind request image rest placers taps (finding.Refused line) is h = absurd h
 saved_behind request image rest placers taps (finding.NoScript line) is h = absurd h

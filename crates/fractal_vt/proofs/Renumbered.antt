@@ -1,6 +1,7 @@
 -- Keys renumbered by a table compare as before, and domains begin each other, and keys, as
 -- before; numbers of a table stay apart.
-use Rattle.std.proofs.Common.{◌≡◌, ◌↔◌, ℕ, zero, suc, ◌+◌, ◌<◌, ◌≤◌, Bool, true, false, cond, List, [], ◌∷◌, ◌++◌, length, get_or, map, Option, Some, None, refl, sym, ap, subst, ◌∙◌, arith}
+use Rattle.std.proofs.Common.{◌≡◌, ◌↔◌, ℕ, zero, suc, ◌+◌, ◌<◌, ◌≤◌, Bool, true, false, cond, List, [], ◌∷◌, ◌++◌}
+use Rattle.std.proofs.Common.{length, get_or, map, Option, Some, None, refl, sym, ap, subst, ◌∙◌, arith}
 use Rattle.std.proofs.Common.{◌⊎◌, inl, inr, Result, Ok, Err}
 use Rattle.std.specs.Prelude.{nat_lt, AllPairs, if◌then◌else◌}
 use Rattle.std.specs.Result.{MatchResult}
@@ -20,7 +21,9 @@ use Rattle.fractal_vt.specs.declared.level.Level.{Level}
 use Rattle.fractal_vt.specs.Levels.{Open, closed_level, tie_cmp, level_cmp, levels_cmp}
 use Rattle.fractal_vt.specs.Keys.{last, levels}
 use Rattle.fractal_vt.specs.Paths.{Begins}
-use Rattle.fractal_vt.specs.Renumbered.{place_in, with_number, renumbered_level, renumbered_levels, renumbered_key, IsHeld, HoldsDomain, RenumberingKeepsKeyOrder, RenumberingKeepsPrefixes, RenumberingKeepsDomains, NumbersStayApart, PlacesAreWhereNumbersStand}
+use Rattle.fractal_vt.specs.Renumbered.{place_in, with_number, renumbered_level, renumbered_levels, renumbered_key}
+use Rattle.fractal_vt.specs.Renumbered.{IsHeld, HoldsDomain, RenumberingKeepsKeyOrder, RenumberingKeepsPrefixes}
+use Rattle.fractal_vt.specs.Renumbered.{RenumberingKeepsDomains, NumbersStayApart, PlacesAreWhereNumbersStand}
 use Rattle.fractal_vt.proofs.Total.{level_cmp_total}
 use Rattle.fractal_vt.proofs.KeyLaws.{level_cmp-same, closed_level-same}
 use Rattle.fractal_vt.proofs.Orderings.{same_number}
@@ -61,7 +64,8 @@ place_upto (t ∷ ts) m n upto = sums (one_upto t m n upto) (place_upto ts m n u
     sums here there = omega arith
 
 -- a number of the table is at a lesser place than each that is greater
-place_below : (table : List ℕ) (m n k : ℕ) → m < n → k < length table → get_or table k m ≡ m → below_in table m < below_in table n
+place_below : (table : List ℕ) (m n k : ℕ) → m < n → k < length table → get_or table k m ≡ m
+    → below_in table m < below_in table n
 place_below [] m n k less inside at = absurd (omega arith)
 place_below (t ∷ ts) m n zero less inside at =
     sums (one_above t m (omega arith)) (one_below t n (omega arith)) (place_upto ts m n (omega arith))
@@ -74,8 +78,11 @@ place_below (t ∷ ts) m n (suc k) less inside at =
     sums : {a b p q : ℕ} → a ≤ b → p < q → a + p < b + q
     sums upto less = omega arith
 
-pub place_cmp : (table : List ℕ) (m n : ℕ) → Contains table m → Contains table n → nat_cmp (place_in table m) (place_in table n) ≡ nat_cmp m n
-place_cmp table m n in_m in_n = ap (λ p. nat_cmp p (place_in table n)) (place_is table m) ∙ ap (nat_cmp (below_in table m)) (place_is table n) ∙ kept
+pub place_cmp : (table : List ℕ) (m n : ℕ) → Contains table m → Contains table n
+    → nat_cmp (place_in table m) (place_in table n) ≡ nat_cmp m n
+place_cmp table m n in_m in_n =
+    ap (λ p. nat_cmp p (place_in table n)) (place_is table m) ∙ ap (nat_cmp (below_in table m)) (place_is table n)
+    ∙ kept
   where
     below : m < n → below_in table m < below_in table n
     below less = place_below table m n in_m.0 less in_m.1 in_m.2
@@ -92,7 +99,8 @@ place_cmp table m n in_m in_n = ap (λ p. nat_cmp p (place_in table n)) (place_i
     kept : nat_cmp (below_in table m) (below_in table n) ≡ nat_cmp m n
     kept = numbers (below_in table m) (below_in table n) below above same
 
-tie_kept : (table : List ℕ) (a b : Option ℕ) → IfSome a (Contains table) → IfSome b (Contains table) → tie_cmp (option_map (place_in table) a) (option_map (place_in table) b) ≡ tie_cmp a b
+tie_kept : (table : List ℕ) (a b : Option ℕ) → IfSome a (Contains table) → IfSome b (Contains table)
+    → tie_cmp (option_map (place_in table) a) (option_map (place_in table) b) ≡ tie_cmp a b
 tie_kept table None None in_a in_b = refl
 tie_kept table None (Some n) in_a in_b = refl
 tie_kept table (Some m) None in_a in_b = refl
@@ -102,10 +110,12 @@ tie_kept table (Some m) (Some n) in_a in_b = place_cmp table m n in_a in_b
 abbrev open_placed : List ℕ → Open → Open
 open_placed table = with_number (place_in table)
 
-level_kept : (table : List ℕ) (a b : Open) → IsHeld table a → IsHeld table b → level_cmp (open_placed table a) (open_placed table b) ≡ level_cmp a b
+level_kept : (table : List ℕ) (a b : Open) → IsHeld table a → IsHeld table b
+    → level_cmp (open_placed table a) (open_placed table b) ≡ level_cmp a b
 level_kept table a b in_a in_b = ap (ordering_then (nat_cmp a.ts b.ts)) (tie_kept table a.tb b.tb in_a in_b)
 
-levels_kept : (table : List ℕ) (xs ys : List Open) → All (IsHeld table) xs → All (IsHeld table) ys → levels_cmp (map (open_placed table) xs) (map (open_placed table) ys) ≡ levels_cmp xs ys
+levels_kept : (table : List ℕ) (xs ys : List Open) → All (IsHeld table) xs → All (IsHeld table) ys
+    → levels_cmp (map (open_placed table) xs) (map (open_placed table) ys) ≡ levels_cmp xs ys
 levels_kept table [] [] in_x in_y = refl
 levels_kept table [] (y ∷ ys) in_x in_y = refl
 levels_kept table (x ∷ xs) [] in_x in_y = refl
@@ -114,11 +124,13 @@ levels_kept table (x ∷ xs) (y ∷ ys) in_x in_y =
     ∙ ap (ordering_then (level_cmp x y)) (levels_kept table xs ys (All-tail (IsHeld table) x xs in_x) (All-tail (IsHeld table) y ys in_y))
 
 -- the levels of the renumbered key are those of the key, each renumbered
-levels_placed : (table : List ℕ) (ds : List Level) (o : Open) → map closed_level (renumbered_levels table ds) ++ open_placed table o ∷ [] ≡ map (open_placed table) (map closed_level ds ++ o ∷ [])
+levels_placed : (table : List ℕ) (ds : List Level) (o : Open)
+    → map closed_level (renumbered_levels table ds) ++ open_placed table o ∷ [] ≡ map (open_placed table) (map closed_level ds ++ o ∷ [])
 levels_placed table [] o = refl
 levels_placed table (d ∷ ds) o = ap (λ xs. closed_level (renumbered_level table d) ∷ xs) (levels_placed table ds o)
 
-domain_placed : (table : List ℕ) (ds : List Level) → map closed_level (renumbered_levels table ds) ≡ map (open_placed table) (map closed_level ds)
+domain_placed : (table : List ℕ) (ds : List Level)
+    → map closed_level (renumbered_levels table ds) ≡ map (open_placed table) (map closed_level ds)
 domain_placed table [] = refl
 domain_placed table (d ∷ ds) = ap (λ xs. closed_level (renumbered_level table d) ∷ xs) (domain_placed table ds)
 
@@ -136,7 +148,8 @@ stay_apart table m n in_m in_n = (
   λ same. ap (place_in table) same,
 )
 
-level_apart : (table : List ℕ) (a b : Open) → IsHeld table a → IsHeld table b → open_placed table a ≡ open_placed table b → a ≡ b
+level_apart : (table : List ℕ) (a b : Open) → IsHeld table a → IsHeld table b
+    → open_placed table a ≡ open_placed table b → a ≡ b
 level_apart table a b in_a in_b same =
     level_cmp-same a b (sym (level_kept table a b in_a in_b) ∙ ap (λ l. level_cmp l (open_placed table b)) same ∙ tied_itself level_cmp_total (open_placed table b))
 
@@ -207,10 +220,12 @@ below_within (t ∷ ts) n (suc k) inside at = sums (one_most t n) (below_within 
 
 -- a number of the table has a place in it
 pub place_within : (table : List ℕ) (number : ℕ) → Contains table number → place_in table number < length table
-place_within table number held = subst (λ p. p < length table) (sym (place_is table number)) (below_within table number held.0 held.1 held.2)
+place_within table number held =
+    subst (λ p. p < length table) (sym (place_is table number)) (below_within table number held.0 held.1 held.2)
 
 -- where the numbers before a place are below, and the others are not, the place is how many are below
-found : (table : List ℕ) (number at : ℕ) → at ≤ length table → ((k : ℕ) → k < at → get_or table k 0 < number) → ((k : ℕ) → at ≤ k → k < length table → number ≤ get_or table k 0) → below_in table number ≡ at
+found : (table : List ℕ) (number at : ℕ) → at ≤ length table → ((k : ℕ) → k < at → get_or table k 0 < number)
+    → ((k : ℕ) → at ≤ k → k < length table → number ≤ get_or table k 0) → below_in table number ≡ at
 found [] number at upto below above = omega arith
 found (t ∷ ts) number zero upto below above =
     sums (one_above t number (above 0 (omega arith) (omega arith))) (found ts number 0 (omega arith) (λ k less. absurd (omega arith)) (λ k beyond inside. above (suc k) (omega arith) (omega arith)))
@@ -223,18 +238,23 @@ found (t ∷ ts) number (suc at) upto below above =
     sums : {a p : ℕ} → a ≡ 1 → p ≡ at → a + p ≡ suc at
     sums one more = omega arith
 
-pub place_found : (table : List ℕ) (number at : ℕ) → at ≤ length table → ((k : ℕ) → k < at → get_or table k 0 < number) → ((k : ℕ) → at ≤ k → k < length table → number ≤ get_or table k 0) → place_in table number ≡ at
+pub place_found : (table : List ℕ) (number at : ℕ) → at ≤ length table → ((k : ℕ) → k < at → get_or table k 0 < number)
+    → ((k : ℕ) → at ≤ k → k < length table → number ≤ get_or table k 0) → place_in table number ≡ at
 place_found table number at upto below above = place_is table number ∙ found table number at upto below above
 
-rising_upto : (table : List ℕ) → AllPairs (λ x y. x < y) table → (i j : ℕ) → i ≤ j → j < length table → get_or table i 0 ≤ get_or table j 0
+rising_upto : (table : List ℕ) → AllPairs (λ x y. x < y) table → (i j : ℕ) → i ≤ j → j < length table
+    → get_or table i 0 ≤ get_or table j 0
 rising_upto table rises i j upto inside = by_case (cases_lt i j)
   where
     by_case : (i < j) ⊎ (j ≤ i) → get_or table i 0 ≤ get_or table j 0
     by_case (inl less) = let step = rises i j 0 less inside in omega arith
-    by_case (inr back) = let same : i ≡ j = omega arith in subst (λ k. get_or table i 0 ≤ get_or table k 0) same (omega arith)
+    by_case (inr back) =
+        let same : i ≡ j = omega arith in subst (λ k. get_or table i 0 ≤ get_or table k 0) same (omega arith)
 
 -- what a binary search of a rising table answers is the place
-pub place_searched : (table : List ℕ) (number : ℕ) (answer : Result ℕ ℕ) → IsStrictlyIncreasing table → IsBinarySearchResult (λ y. nat_cmp y number) table answer → MatchResult answer (λ at. place_in table number ≡ at) (λ at. place_in table number ≡ at)
+pub place_searched : (table : List ℕ) (number : ℕ) (answer : Result ℕ ℕ) → IsStrictlyIncreasing table
+    → IsBinarySearchResult (λ y. nat_cmp y number) table answer
+    → MatchResult answer (λ at. place_in table number ≡ at) (λ at. place_in table number ≡ at)
 place_searched table number (Ok at) rising is =
     let rises = AllPairs-from_increasing table rising in
     let found = searched table number (Ok at) is (λ i j upto inside. rising_upto table rises i j upto inside) in

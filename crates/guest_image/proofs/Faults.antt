@@ -5,7 +5,8 @@ use Rattle.std.proofs.lemmas.Bool.Decides.{nat_tests}
 use Rattle.std.specs.Prelude.{IsErrAnd}
 use Rattle.guest_image.specs.declared.image.Image.{Image}
 use Rattle.guest_image.specs.declared.fault.ImageFault.{ImageFault}
-use Rattle.guest_image.specs.declared.fault.ImageFault.TheVariants.{Short, Magic, Version, RootKind, Limit, Window, NoTask, Memory}
+use Rattle.guest_image.specs.declared.fault.ImageFault.TheVariants.{Short, Magic, Version, RootKind, Limit, Window}
+use Rattle.guest_image.specs.declared.fault.ImageFault.TheVariants.{NoTask, Memory}
 use Rattle.guest_image.specs.ImageValue.{ImageValue}
 use Rattle.guest_image.specs.Reading.{GivesImage, Fails, image_of, header_fault}
 
@@ -20,14 +21,16 @@ fails (Limit field value) read own is = is
 fails Window read own is = is
 fails NoTask read own is = is
 
-image_of-fault : (bytes : List ℕ) (e : ImageFault) → 32 ≤ length bytes → header_fault bytes ≡ Err e → image_of bytes ≡ Err e
+image_of-fault : (bytes : List ℕ) (e : ImageFault) → 32 ≤ length bytes → header_fault bytes ≡ Err e
+    → image_of bytes ≡ Err e
 unfolding image_of
 image_of-fault bytes e enough is =
     let long : nat_lt (length bytes) 32 ≡ false = grind (arith, nat_tests, common_steps) in
     rw (long, is) refl
 
 -- reading hands the fault of the header on
-pub gives_fault : (bytes : List ℕ) (result : Result (Image × ℕ) ImageFault) (e : ImageFault) → IsErrAnd result (λ told. told ≡ e)
+pub gives_fault : (bytes : List ℕ) (result : Result (Image × ℕ) ImageFault) (e : ImageFault)
+    → IsErrAnd result (λ told. told ≡ e)
     → 32 ≤ length bytes → Err e ≡ header_fault bytes → e ≢ Memory → GivesImage result (image_of bytes)
 gives_fault bytes (Ok x) e told enough is own = absurd told
 gives_fault bytes (Err f) e told enough is own =

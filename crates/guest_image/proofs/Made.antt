@@ -4,7 +4,8 @@ use Rattle.guest_image.specs.declared.fault.ImageFault.{ImageFault}
 use Rattle.guest_image.specs.ImageValue.{ImageValue}
 use Rattle.guest_image.specs.Limits.{image_made, unless_fault}
 
-unless : (fault : Result (Unit {0}) ImageFault) (value image : ImageValue) → unless_fault fault value ≡ Ok image → image ≡ value
+unless : (fault : Result (Unit {0}) ImageFault) (value image : ImageValue) → unless_fault fault value ≡ Ok image
+    → image ≡ value
 unless (Ok _) value image e = cc
 unless (Err fault) value image e = cc
 

@@ -1,5 +1,7 @@
 -- An image that was written is read back.
-use Rattle.std.proofs.Common.{◌≡◌, refl, sym, ap, ◌∙◌, subst, ◌<◌, ◌+◌, ◌-◌, ◌*◌, ◌%◌, ◌^◌, ℕ, List, [], ◌++◌, length, take, drop, map, Ok, arith, append_assoc, append-nil, length-append, true, false, nat_lt, ◌==◌, ◌||◌, inl, inr}
+use Rattle.std.proofs.Common.{◌≡◌, refl, sym, ap, ◌∙◌, subst, ◌<◌, ◌+◌, ◌-◌, ◌*◌, ◌%◌, ◌^◌, ℕ, List, [], ◌++◌, length}
+use Rattle.std.proofs.Common.{take, drop, map, Ok, arith, append_assoc, append-nil, length-append, true, false, nat_lt}
+use Rattle.std.proofs.Common.{◌==◌, ◌||◌, inl, inr}
 use Rattle.std.proofs.lemmas.Grind.{common_steps}
 use Rattle.std.proofs.lemmas.Bool.Decides.{nat_tests}
 use Rattle.std.proofs.lemmas.List.Elements.{recursion_from_All}
@@ -11,7 +13,8 @@ use Rattle.guest_image.specs.declared.image.Kind.TheVariants.{Unordered, Ordered
 use Rattle.guest_image.specs.Numbers.{word_at, half_at, word_bytes, half_bytes}
 use Rattle.guest_image.specs.ImageValue.{ImageValue, IsImage, IsVersion}
 use Rattle.guest_image.specs.Limits.{limits_fault, AreWithinLimits}
-use Rattle.guest_image.specs.Reading.{image_of, words_from, tasks_from, image_task_at, value_in_bytes, header_fault, whole_length, root_kind}
+use Rattle.guest_image.specs.Reading.{image_of, words_from, tasks_from, image_task_at, value_in_bytes, header_fault}
+use Rattle.guest_image.specs.Reading.{whole_length, root_kind}
 use Rattle.guest_image.specs.Writing.{kind_number, header_bytes, task_bytes, image_bytes, ImageReadsBack}
 use Rattle.guest_image.proofs.WordsBack.{words_back, tasks_back, length-words, length-tasks}
 
@@ -24,7 +27,8 @@ regrouped a b c d e = simp append_assoc
 
 image_bytes-append : (i : ImageValue) (rest : List ℕ) → image_bytes i ++ rest ≡ laid i rest
 unfolding image_bytes laid
-image_bytes-append i rest = regrouped (header_bytes i) (flat_map word_bytes i.text) i.initial (flat_map task_bytes i.tasks) rest
+image_bytes-append i rest =
+    regrouped (header_bytes i) (flat_map word_bytes i.text) i.initial (flat_map task_bytes i.tasks) rest
 
 -- how many bytes an image has
 abbrev size_of : ImageValue → ℕ
@@ -40,7 +44,8 @@ length-image_bytes i h =
 
 length-laid : (i : ImageValue) (rest : List ℕ) → IsImage i → length (laid i rest) ≡ size_of i + length rest
 length-laid i rest h =
-    sym (ap length (image_bytes-append i rest)) ∙ length-append (image_bytes i) rest ∙ ap (λ n. n + length rest) (length-image_bytes i h)
+    sym (ap length (image_bytes-append i rest)) ∙ length-append (image_bytes i) rest
+    ∙ ap (λ n. n + length rest) (length-image_bytes i h)
 
 -- the numbers of the image's header stand in the bytes, each at its offset
 record Header (i : ImageValue) (bytes : List ℕ) : Type 0 where
@@ -73,7 +78,8 @@ header_back i rest h =
     let one : List ℕ → List ℕ = λ (r : List ℕ). word_bytes n1 ++ two r in
     record {
       magic = refl;
-      version = little_number-reads_back 2 i.version (half_bytes (kind_number i.kind) ++ one back) (small i.version h.version);
+      version =
+          little_number-reads_back 2 i.version (half_bytes (kind_number i.kind) ++ one back) (small i.version h.version);
       kind = little_number-reads_back 2 (kind_number i.kind) (one back) (kind-fits i.kind);
       text = little_number-reads_back 4 n1 (two back) (omega (arith, h.text));
       initial = little_number-reads_back 4 n2 (three back) (omega (arith, h.initial, h.data_size));
@@ -133,13 +139,15 @@ unfolding laid words_from
 text_back i rest h =
     words_back (header_bytes i) (i.initial ++ (flat_map task_bytes i.tasks ++ rest)) i.text 32 0 refl (recursion_from_All _ i.text h.words)
 
-part : (front mid back : List ℕ) (a b : ℕ) → a ≡ length front → b ≡ length mid → slice_range (front ++ (mid ++ back)) a (a + b) ≡ mid
+part : (front mid back : List ℕ) (a b : ℕ) → a ≡ length front → b ≡ length mid
+    → slice_range (front ++ (mid ++ back)) a (a + b) ≡ mid
 part front mid back a b e f =
     let d : drop a (front ++ (mid ++ back)) ≡ mid ++ back = rw e (drop-append_seam front (mid ++ back)) in
     let k : a + b - a ≡ b = omega arith in
     ap (λ n. take n (drop a (front ++ (mid ++ back)))) k ∙ ap (take b) d ∙ rw f (take-append_seam mid back)
 
-initial_back : (i : ImageValue) (rest : List ℕ) → slice_range (laid i rest) (32 + 4 * length i.text) (32 + 4 * length i.text + length i.initial) ≡ i.initial
+initial_back : (i : ImageValue) (rest : List ℕ)
+    → slice_range (laid i rest) (32 + 4 * length i.text) (32 + 4 * length i.text + length i.initial) ≡ i.initial
 unfolding laid
 initial_back i rest =
     let T = flat_map word_bytes i.text in
@@ -148,7 +156,8 @@ initial_back i rest =
     let count : 32 + 4 * length i.text ≡ length (header_bytes i ++ T) = omega (arith, length-append (header_bytes i) T, length-words i.text) in
     subst (λ bs. slice_range bs (32 + 4 * length i.text) (32 + 4 * length i.text + length i.initial) ≡ i.initial) bytes (part (header_bytes i ++ T) i.initial back (32 + 4 * length i.text) (length i.initial) count refl)
 
-first_tasks_back : (i : ImageValue) (rest : List ℕ) → IsImage i → tasks_from (laid i rest) (32 + 4 * length i.text + length i.initial) (length i.tasks) ≡ i.tasks
+first_tasks_back : (i : ImageValue) (rest : List ℕ) → IsImage i
+    → tasks_from (laid i rest) (32 + 4 * length i.text + length i.initial) (length i.tasks) ≡ i.tasks
 unfolding laid tasks_from
 first_tasks_back i rest h =
     let T = flat_map word_bytes i.text in
@@ -183,6 +192,8 @@ read_back i rest h =
     ap image_of (image_bytes-append i rest) ∙ laid_back i rest h ∙ ap (λ n. Ok (i, n)) (sym (length-image_bytes i h))
 
 -- the same of its bytes alone
-pub read_back_alone : (i : ImageValue) (bytes : List ℕ) (n : ℕ) → IsImage i → bytes ≡ image_bytes i → n ≡ length bytes → image_of bytes ≡ Ok (i, n)
+pub read_back_alone : (i : ImageValue) (bytes : List ℕ) (n : ℕ) → IsImage i → bytes ≡ image_bytes i → n ≡ length bytes
+    → image_of bytes ≡ Ok (i, n)
 read_back_alone i bytes n h is count =
-    ap image_of (is ∙ sym (append-nil (image_bytes i))) ∙ read_back i [] h ∙ ap (λ k. Ok (i, k)) (sym (count ∙ ap length is))
+    ap image_of (is ∙ sym (append-nil (image_bytes i))) ∙ read_back i [] h
+    ∙ ap (λ k. Ok (i, k)) (sym (count ∙ ap length is))

@@ -1,5 +1,6 @@
 -- One bit of a row of words, and a bit that two rows share.
-use Rattle.std.proofs.Common.{◌≡◌, ◌≢◌, ◌==◌, ◌||◌, ◌↔◌, ℕ, ◌+◌, ◌*◌, ◌/◌, ◌%◌, ◌^◌, ◌<◌, Bool, true, not, List, length, get_or, set, bit_and, bit_or, sym, ap, ◌∙◌, inl, inr, arith, w64}
+use Rattle.std.proofs.Common.{◌≡◌, ◌≢◌, ◌==◌, ◌||◌, ◌↔◌, ℕ, ◌+◌, ◌*◌, ◌/◌, ◌%◌, ◌^◌, ◌<◌, Bool, true, not, List, length}
+use Rattle.std.proofs.Common.{get_or, set, bit_and, bit_or, sym, ap, ◌∙◌, inl, inr, arith, w64}
 use Rattle.std.specs.Int.{bit_at, trailing_zeros}
 use Rattle.std.specs.List.{list_any, zip}
 use Rattle.std.proofs.lemmas.Bool.{cases_eq, eq-eqb, eqb-true}
@@ -8,21 +9,27 @@ use Rattle.std.proofs.lemmas.List.{get_or_read, get_or-set_other, get_or-set_sam
 use Rattle.std.proofs.lemmas.List.Folds.{Any-from_list_any, list_any_at}
 use Rattle.std.proofs.lemmas.Nat.{and_le_l}
 use Rattle.std.proofs.lemmas.Slice.Zip.{get_or-zip, length-zip}
-use Rattle.std.proofs.lemmas.Nat.Bits.{bit_at_and, bit_at-lt, bit_at-trailing_zeros, bit_at-zero, bit_at_set_other, bit_at_set_same}
+use Rattle.std.proofs.lemmas.Nat.Bits.{bit_at_and, bit_at-lt, bit_at-trailing_zeros, bit_at-zero, bit_at_set_other}
+use Rattle.std.proofs.lemmas.Nat.Bits.{bit_at_set_same}
 
 -- the words with a bit of one of them set
 abbrev pub with_bit : List ℕ → ℕ → ℕ → List ℕ
 with_bit words word bit = set words word (bit_or (get_or words word 0) (1 * 2 ^ bit % 2 ^ 64))
 
-bit-with_same : (words : List ℕ) (word bit : ℕ) → word < length words → bit < 64 → bit_at (get_or (with_bit words word bit) word 0) bit ≡ 1
+bit-with_same : (words : List ℕ) (word bit : ℕ) → word < length words → bit < 64
+    → bit_at (get_or (with_bit words word bit) word 0) bit ≡ 1
 bit-with_same words word bit within low =
-    ap (λ n. bit_at n bit) (get_or-set_same words word (bit_or (get_or words word 0) (1 * 2 ^ bit % 2 ^ 64)) 0 within) ∙ bit_at_set_same w64 (get_or words word 0) bit low
+    ap (λ n. bit_at n bit) (get_or-set_same words word (bit_or (get_or words word 0) (1 * 2 ^ bit % 2 ^ 64)) 0 within)
+    ∙ bit_at_set_same w64 (get_or words word 0) bit low
 
-bit-with_other : (words : List ℕ) (word bit place : ℕ) → word < length words → bit < 64 → place ≢ bit → bit_at (get_or (with_bit words word bit) word 0) place ≡ bit_at (get_or words word 0) place
+bit-with_other : (words : List ℕ) (word bit place : ℕ) → word < length words → bit < 64 → place ≢ bit
+    → bit_at (get_or (with_bit words word bit) word 0) place ≡ bit_at (get_or words word 0) place
 bit-with_other words word bit place within low other =
-    ap (λ n. bit_at n place) (get_or-set_same words word (bit_or (get_or words word 0) (1 * 2 ^ bit % 2 ^ 64)) 0 within) ∙ bit_at_set_other w64 (get_or words word 0) bit low place other
+    ap (λ n. bit_at n place) (get_or-set_same words word (bit_or (get_or words word 0) (1 * 2 ^ bit % 2 ^ 64)) 0 within)
+    ∙ bit_at_set_other w64 (get_or words word 0) bit low place other
 
-bit-with_elsewhere : (words : List ℕ) (word bit at place : ℕ) → at ≢ word → bit_at (get_or (with_bit words word bit) at 0) place ≡ bit_at (get_or words at 0) place
+bit-with_elsewhere : (words : List ℕ) (word bit at place : ℕ) → at ≢ word
+    → bit_at (get_or (with_bit words word bit) at 0) place ≡ bit_at (get_or words at 0) place
 bit-with_elsewhere words word bit at place other =
     ap (λ n. bit_at n place) (get_or-set_other words word at (bit_or (get_or words word 0) (1 * 2 ^ bit % 2 ^ 64)) 0 other)
 
@@ -33,11 +40,13 @@ is_one-other : (new old a b : ℕ) → new ≡ old → a ≢ b → (new == 1) �
 is_one-other new old a b stays other = grind (arith, nat_tests)
 
 bit-with_at : (words : List ℕ) (word bit at place : ℕ)
-    → word < length words → bit < 64 → at ≡ word → place ≡ bit → bit_at (get_or (with_bit words word bit) at 0) place ≡ 1
+    → word < length words → bit < 64 → at ≡ word → place ≡ bit
+    → bit_at (get_or (with_bit words word bit) at 0) place ≡ 1
 bit-with_at words word bit at place within low here there = rw (here, there) (bit-with_same words word bit within low)
 
 bit-with_off : (words : List ℕ) (word bit at place : ℕ)
-    → word < length words → bit < 64 → (at ≡ word → place ≢ bit) → bit_at (get_or (with_bit words word bit) at 0) place ≡ bit_at (get_or words at 0) place
+    → word < length words → bit < 64 → (at ≡ word → place ≢ bit)
+    → bit_at (get_or (with_bit words word bit) at 0) place ≡ bit_at (get_or words at 0) place
 bit-with_off words word bit at place within low off = elim (cases_eq at word) [
   | inl here ↦ rw here (bit-with_other words word bit place within low (off here))
   | inr other ↦ bit-with_elsewhere words word bit at place other
@@ -47,7 +56,8 @@ low_bits : (n : ℕ) → n % 1024 % 64 ≡ n % 64
 low_bits n = omega arith
 
 -- a bit of a row is its word and its place there
-one_bit : (line other : ℕ) → other % 1024 / 64 ≡ line % 1024 / 64 → other % 64 ≡ line % 1024 % 64 → line % 1024 ≡ other % 1024
+one_bit : (line other : ℕ) → other % 1024 / 64 ≡ line % 1024 / 64 → other % 64 ≡ line % 1024 % 64
+    → line % 1024 ≡ other % 1024
 one_bit line other word place = omega (arith, word, place)
 
 -- setting the bit of one line sets that of the lines that have it, and of no other
@@ -85,7 +95,8 @@ abbrev pub some_word : ℕ × ℕ → Bool
 some_word p = not (bit_and p.0 p.1 == 0)
 
 module _ (one two : List ℕ) (long : length one ≡ 16) (too : length two ≡ 16) where
-  bit_from_words : ((k : ℕ) → k < 16 → get_or one k 0 < 2 ^ 64) → (k : ℕ) → k < 16 → bit_and (get_or one k 0) (get_or two k 0) ≢ 0
+  bit_from_words : ((k : ℕ) → k < 16 → get_or one k 0 < 2 ^ 64) → (k : ℕ) → k < 16
+      → bit_and (get_or one k 0) (get_or two k 0) ≢ 0
       → (line : ℕ) × ((bit_at (get_or one (line % 1024 / 64) 0) (line % 64) == 1) ≡ true) × ((bit_at (get_or two (line % 1024 / 64) 0) (line % 64) == 1) ≡ true)
   bit_from_words small k within some =
       let shared = shared_bit (get_or one k 0) (get_or two k 0) (small k within) some in
@@ -96,7 +107,8 @@ module _ (one two : List ℕ) (long : length one ≡ 16) (too : length two ≡ 1
         rw (word, place) (eq-eqb (bit_at (get_or two k 0) shared.0) 1 shared.3),
       )
 
-  words_from_any : list_any some_word (zip one two) ≡ true → (k : ℕ) × (k < 16) × (bit_and (get_or one k 0) (get_or two k 0) ≢ 0)
+  words_from_any : list_any some_word (zip one two) ≡ true
+      → (k : ℕ) × (k < 16) × (bit_and (get_or one k 0) (get_or two k 0) ≢ 0)
   words_from_any any =
       let found = Any-from_list_any some_word (zip one two) any in
       let within : found.0 < 16 = omega (arith, found.2, length-zip one two, long, too) in
@@ -105,7 +117,8 @@ module _ (one two : List ℕ) (long : length one ≡ 16) (too : length two ≡ 1
       let right = get_or_read two found.0 found.1.1 (omega (arith, within, too)) (ap (λ (p : ℕ × ℕ). p.1) (sym found.3 ∙ pair)) 0 in
       (found.0, within, λ none. absurd (grind (arith, nat_tests, left, right, none, found.4)))
 
-  any_from_bit : (line : ℕ) → (bit_at (get_or one (line % 1024 / 64) 0) (line % 64) == 1) ≡ true → (bit_at (get_or two (line % 1024 / 64) 0) (line % 64) == 1) ≡ true
+  any_from_bit : (line : ℕ) → (bit_at (get_or one (line % 1024 / 64) 0) (line % 64) == 1) ≡ true
+      → (bit_at (get_or two (line % 1024 / 64) 0) (line % 64) == 1) ≡ true
       → list_any some_word (zip one two) ≡ true
   any_from_bit line left right =
       let word : line % 1024 / 64 < 16 = omega arith in

@@ -1,5 +1,6 @@
 -- When two maps of lines meet.
-use Rattle.std.proofs.Common.{◌≡◌, ◌&&◌, ◌↔◌, ℕ, Bool, true, false, List, Option, Some, None, unwrap_or, All, refl, sym, ap, subst, ◌∙◌, arith}
+use Rattle.std.proofs.Common.{◌≡◌, ◌&&◌, ◌↔◌, ℕ, Bool, true, false, List, Option, Some, None, unwrap_or, All, refl, sym}
+use Rattle.std.proofs.Common.{ap, subst, ◌∙◌, arith}
 use Rattle.std.specs.BTreeMap.{is_at}
 use Rattle.std.specs.List.{list_any}
 use Rattle.std.specs.Ordering.{nat_cmp}
@@ -20,17 +21,20 @@ same_key : (line key : ℕ) → is_at (nat_cmp line) key ≡ true → line ≡ k
 same_key line key is = grind (arith, nat_tests)
 
 module _ (lines later : List (ℕ × Bool)) where
-  from_pair : All (λ e. written_at lines e.0 ≡ Some e.1) lines → list_any (meets_pair later) lines ≡ true → Meet (wrote_of lines) (touched_of later)
+  from_pair : All (λ e. written_at lines e.0 ≡ Some e.1) lines → list_any (meets_pair later) lines ≡ true
+      → Meet (wrote_of lines) (touched_of later)
   from_pair found any =
       let one = Any-from_list_any (meets_pair later) lines any in
       let kept = All-contains (λ e. written_at lines e.0 ≡ Some e.1) lines one.1 found (one.0, one.2, one.3) in
       let parts = and_parts one.1.1 (touched_of later one.1.0) one.4 in
       (one.1.0, ap (λ o. unwrap_or o false) kept ∙ parts.0, parts.1)
 
-  to_pair : (line : ℕ) → wrote_of lines line ≡ true → touched_of later line ≡ true → list_any (meets_pair later) lines ≡ true
+  to_pair : (line : ℕ) → wrote_of lines line ≡ true → touched_of later line ≡ true
+      → list_any (meets_pair later) lines ≡ true
   to_pair line wrote touched = go (written_at lines line) refl wrote
     where
-      go : (at : Option Bool) → written_at lines line ≡ at → unwrap_or at false ≡ true → list_any (meets_pair later) lines ≡ true
+      go : (at : Option Bool) → written_at lines line ≡ at → unwrap_or at false ≡ true
+          → list_any (meets_pair later) lines ≡ true
       go None is wrote = absurd (cc wrote)
       go (Some false) is wrote = absurd (cc wrote)
       go (Some true) is wrote =
@@ -39,5 +43,6 @@ module _ (lines later : List (ℕ × Bool)) where
           (subst (λ key. touched_of later key ≡ true) (same_key line place.1 place.3) touched)
 
   -- the maps meet exactly where some pair of the first does
-  pub pairs-meet : All (λ e. written_at lines e.0 ≡ Some e.1) lines → (r : Bool) → r ≡ list_any (meets_pair later) lines → (r ≡ true) ↔ Meet (wrote_of lines) (touched_of later)
+  pub pairs-meet : All (λ e. written_at lines e.0 ≡ Some e.1) lines → (r : Bool) → r ≡ list_any (meets_pair later) lines
+      → (r ≡ true) ↔ Meet (wrote_of lines) (touched_of later)
   pairs-meet found r is = (λ yes. from_pair found (sym is ∙ yes), λ meet. is ∙ to_pair meet.0 meet.1 meet.2)

@@ -1,5 +1,6 @@
 -- What a note adds to a signature, and when two signatures meet.
-use Rattle.std.proofs.Common.{◌≡◌, ◌==◌, ◌&&◌, ◌||◌, ◌↔◌, ℕ, ◌/◌, ◌%◌, ◌<◌, Bool, true, false, List, [], ◌∷◌, ◌++◌, refl, sym, ap, ◌∙◌, arith, get_or}
+use Rattle.std.proofs.Common.{◌≡◌, ◌==◌, ◌&&◌, ◌||◌, ◌↔◌, ℕ, ◌/◌, ◌%◌, ◌<◌, Bool, true, false, List, [], ◌∷◌, ◌++◌}
+use Rattle.std.proofs.Common.{refl, sym, ap, ◌∙◌, arith, get_or}
 use Rattle.std.specs.Int.{bit_at}
 use Rattle.std.specs.List.{list_any, range_with_len}
 use Rattle.std.proofs.lemmas.Bool.{and_parts}
@@ -15,7 +16,8 @@ or_false true = refl
 or_false false = refl
 
 -- one more note
-any-more : (p : Note → Bool) (notes : List Note) (note : Note) → list_any p (notes ++ note ∷ []) ≡ (list_any p notes || p note)
+any-more : (p : Note → Bool) (notes : List Note) (note : Note)
+    → list_any p (notes ++ note ∷ []) ≡ (list_any p notes || p note)
 any-more p notes note = list_any-append p notes (note ∷ []) ∙ ap (λ b. list_any p notes || b) (or_false (p note))
 
 -- a note sets the bit of its line among those of touches, and that of a store among those of writes
@@ -34,7 +36,8 @@ IsSignature-more old new line write notes touched wrote is =
     }
 
 -- a line and the one below 1,024 that equals it modulo 1,024 have one bit
-set_below : (words : List ℕ) (line : ℕ) → is_set (record { words = words }) (line % 1024) ≡ is_set (record { words = words }) line
+set_below : (words : List ℕ) (line : ℕ)
+    → is_set (record { words = words }) (line % 1024) ≡ is_set (record { words = words }) line
 set_below words line =
     let word : line % 1024 % 1024 / 64 ≡ line % 1024 / 64 = ap (λ n. n / 64) (omega arith) in
     let place : line % 1024 % 64 ≡ line % 64 = omega arith in
@@ -46,16 +49,19 @@ same_truth P true b first second = sym (second.1 (first.0 refl))
 same_truth P false true first second = first.1 (second.0 refl)
 same_truth P false false first second = refl
 
-any_below : (test : ℕ → Bool) (bound line : ℕ) → line < bound → test line ≡ true → list_any test (range_with_len 0 bound) ≡ true
+any_below : (test : ℕ → Bool) (bound line : ℕ) → line < bound → test line ≡ true
+    → list_any test (range_with_len 0 bound) ≡ true
 any_below test bound line below is =
     list_any_at test (range_with_len 0 bound) line 0 (rw (length-range_with_len 0 bound) below)
     (ap test (get_or-range_with_len 0 bound line 0 below ∙ omega arith) ∙ is)
 
-some_line : (test : ℕ → Bool) (bound : ℕ) → list_any test (range_with_len 0 bound) ≡ true → (line : ℕ) × (test line ≡ true)
+some_line : (test : ℕ → Bool) (bound : ℕ) → list_any test (range_with_len 0 bound) ≡ true
+    → (line : ℕ) × (test line ≡ true)
 some_line test bound any = let one = Any-from_list_any test (range_with_len 0 bound) any in (one.1, one.4)
 
 -- two signatures meet exactly where they do at a line below 1,024
-pub meets_of-Meet : (earlier later : Signature) → (meets_of earlier later ≡ true) ↔ Meet (wrote_of earlier) (touched_of later)
+pub meets_of-Meet : (earlier later : Signature)
+    → (meets_of earlier later ≡ true) ↔ Meet (wrote_of earlier) (touched_of later)
 unfolding meets_of
 meets_of-Meet earlier later = (
   λ any.
@@ -67,5 +73,7 @@ meets_of-Meet earlier later = (
       (ap (λ b. b && touched_of later (meet.0 % 1024)) (set_below earlier.wrote.words meet.0 ∙ meet.1) ∙ (set_below later.touched.words meet.0 ∙ meet.2)),
 )
 
-pub meets_of-is : (earlier later : Signature) (r : Bool) → (r ≡ true) ↔ Meet (wrote_of earlier) (touched_of later) → r ≡ meets_of earlier later
-meets_of-is earlier later r is = same_truth (Meet (wrote_of earlier) (touched_of later)) r (meets_of earlier later) is (meets_of-Meet earlier later)
+pub meets_of-is : (earlier later : Signature) (r : Bool) → (r ≡ true) ↔ Meet (wrote_of earlier) (touched_of later)
+    → r ≡ meets_of earlier later
+meets_of-is earlier later r is =
+    same_truth (Meet (wrote_of earlier) (touched_of later)) r (meets_of earlier later) is (meets_of-Meet earlier later)

@@ -12,7 +12,8 @@ range_more a (suc n) =
     ∙ ap (λ xs. a ∷ xs) (range_more (a + 1) n) ∙ ap (λ k. a ∷ range_with_len (a + 1) n ++ k ∷ []) (let e : a + 1 + n ≡ a + suc n = omega arith in e)
 
 -- the table of one more node
-one_more_node : (seed size node : ℕ) → flat_map word_bytes (flat_map (λ k. edges size (random seed k) k) (range_with_len 0 (node + 1))) ≡ flat_map word_bytes (flat_map (λ k. edges size (random seed k) k) (range_with_len 0 node)) ++ flat_map word_bytes (edges size (random seed node) node)
+one_more_node : (seed size node : ℕ)
+    → flat_map word_bytes (flat_map (λ k. edges size (random seed k) k) (range_with_len 0 (node + 1))) ≡ flat_map word_bytes (flat_map (λ k. edges size (random seed k) k) (range_with_len 0 node)) ++ flat_map word_bytes (edges size (random seed node) node)
 one_more_node seed size node =
     ap (λ xs. flat_map word_bytes (flat_map (λ k. edges size (random seed k) k) xs)) (range_more 0 node)
     ∙ ap (flat_map word_bytes) (flat_map-append (λ k. edges size (random seed k) k) (range_with_len 0 node) ((0 + node) ∷ []))
@@ -20,7 +21,10 @@ one_more_node seed size node =
     ∙ ap (λ k. flat_map word_bytes (flat_map (λ k. edges size (random seed k) k) (range_with_len 0 node)) ++ flat_map word_bytes (edges size (random seed k) k)) (let e : 0 + node ≡ node = omega arith in e)
 
 -- once more through the loop: the next number, and the table of one more node
-pub next_node : (seed size node number next : ℕ) (old three new : List ℕ) → number ≡ random seed node → old ≡ flat_map word_bytes (flat_map (λ k. edges size (random seed k) k) (range_with_len 0 node)) → three ≡ edges size number node → new ≡ old ++ flat_map word_bytes three → next ≡ next_random number → (next ≡ random seed (node + 1)) × (new ≡ flat_map word_bytes (flat_map (λ k. edges size (random seed k) k) (range_with_len 0 (node + 1))))
+pub next_node : (seed size node number next : ℕ) (old three new : List ℕ) → number ≡ random seed node
+    → old ≡ flat_map word_bytes (flat_map (λ k. edges size (random seed k) k) (range_with_len 0 node))
+    → three ≡ edges size number node → new ≡ old ++ flat_map word_bytes three → next ≡ next_random number
+    → (next ≡ random seed (node + 1)) × (new ≡ flat_map word_bytes (flat_map (λ k. edges size (random seed k) k) (range_with_len 0 (node + 1))))
 next_node seed size node number next old three new at was own put step = (
   step ∙ ap next_random at ∙ ap (random seed) (let e : suc node ≡ node + 1 = omega arith in e),
   put ∙ ap (λ xs. xs ++ flat_map word_bytes three) was
@@ -28,7 +32,8 @@ next_node seed size node number next old three new at was own put step = (
       ∙ sym (one_more_node seed size node),
 )
 
-length_from : (seed size a n : ℕ) → length (flat_map word_bytes (flat_map (λ k. edges size (random seed k) k) (range_with_len a n))) ≡ 12 * n
+length_from : (seed size a n : ℕ)
+    → length (flat_map word_bytes (flat_map (λ k. edges size (random seed k) k) (range_with_len a n))) ≡ 12 * n
 length_from seed size a zero = refl
 length_from seed size a (suc n) = omega (arith, length_from seed size (a + 1) n)
 

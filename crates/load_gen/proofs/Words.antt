@@ -1,13 +1,17 @@
 -- Two words that stand for one instruction of the programs are one word, so their words are those written out.
-use Rattle.std.proofs.Common.{◌≡◌, ℕ, ◌+◌, ◌*◌, ◌^◌, ◌<◌, ◌==◌, ◌&&◌, ℤ, pos, true, false, Option, Some, None, List, [], ◌∷◌, map, slice_get, zero, suc, refl, ap, sym, ◌∙◌, if◌then◌else◌, arith, rules}
+use Rattle.std.proofs.Common.{◌≡◌, ℕ, ◌+◌, ◌*◌, ◌^◌, ◌<◌, ◌==◌, ◌&&◌, ℤ, pos, true, false, Option, Some, None, List, []}
+use Rattle.std.proofs.Common.{◌∷◌, map, slice_get, zero, suc, refl, ap, sym, ◌∙◌, if◌then◌else◌, arith, rules}
 use Rattle.std.specs.List.{range_with_len, AllByRecursion}
 use Rattle.std.specs.Option.{option_map}
 use Rattle.std.proofs.lemmas.Bool.{eqb-true, and_parts}
 use Rattle.std.proofs.lemmas.Option.{slice_get-map}
-use Rattle.rv_table.specs.Fields.{opcode, rd, funct3, rs1, rs2, funct7, shamt, bits, signed, i_immediate, s_immediate, b_immediate, u_immediate}
-use Rattle.rv_table.specs.Table.{Row, table, fits, first_fit, instr_of_word, i_type, r_type, s_type, b_type, u_type, shift, one_word}
+use Rattle.rv_table.specs.Fields.{opcode, rd, funct3, rs1, rs2, funct7, shamt, bits, signed, i_immediate, s_immediate}
+use Rattle.rv_table.specs.Fields.{b_immediate, u_immediate}
+use Rattle.rv_table.specs.Table.{Row, table, fits, first_fit, instr_of_word, i_type, r_type, s_type, b_type, u_type}
+use Rattle.rv_table.specs.Table.{shift, one_word}
 use Rattle.rv_table.specs.declared.instr.Instr.{Instr}
-use Rattle.rv_table.specs.declared.instr.Instr.TheVariants.{Lui, Auipc, Jal, Jalr, Branch, Load, Store, OpImm, Op, Fence, Ecall, Ebreak}
+use Rattle.rv_table.specs.declared.instr.Instr.TheVariants.{Lui, Auipc, Jal, Jalr, Branch, Load, Store, OpImm, Op}
+use Rattle.rv_table.specs.declared.instr.Instr.TheVariants.{Fence, Ecall, Ebreak}
 use Rattle.rv_table.specs.declared.instr.Cond.{Cond}
 use Rattle.rv_table.specs.declared.instr.LoadWidth.{LoadWidth}
 use Rattle.rv_table.specs.declared.instr.StoreWidth.{StoreWidth}
@@ -109,7 +113,8 @@ place_is : (w : ℕ) (i : Instr) (f : Found table w i) → row_of i ≡ f.place
 place_is w i f =
     let
     at : slice_get (range_with_len 0 40) f.place ≡ Some (row_of i)
-    = ap (λ xs. slice_get xs f.place) (sym (rows_in_order w)) ∙ slice_get-map (λ row. row_of (row.instr w)) table f.place
+    = ap (λ xs. slice_get xs f.place) (sym (rows_in_order w))
+    ∙ slice_get-map (λ row. row_of (row.instr w)) table f.place
     ∙ ap (option_map (λ row. row_of (row.instr w))) f.stands ∙ ap (λ j. Some (row_of j)) f.gives
     in omega (arith, range_at 0 40 f.place (row_of i) at)
 
@@ -124,7 +129,8 @@ found_row : (w : ℕ) (i : Instr) (row : Row) (f : Found table w i) → slice_ge
 found_row w i row f own = some_is f.row row (sym f.stands ∙ ap (slice_get table) (sym (place_is w i f)) ∙ own)
 
 -- a word fits the row of its instruction
-fits_row : (w : ℕ) (i : Instr) (row : Row) → instr_of_word w ≡ Some i → slice_get table (row_of i) ≡ Some row → RowFits row w i
+fits_row : (w : ℕ) (i : Instr) (row : Row) → instr_of_word w ≡ Some i → slice_get table (row_of i) ≡ Some row
+    → RowFits row w i
 fits_row w i row e own =
     let f : Found table w i = found table w i e in
     record {
@@ -133,7 +139,8 @@ fits_row w i row e own =
     }
 
 -- a word by its six fields
-by_fields : (w v : ℕ) → w < 2 ^ 32 → v < 2 ^ 32 → opcode w ≡ opcode v → rd w ≡ rd v → funct3 w ≡ funct3 v → rs1 w ≡ rs1 v → rs2 w ≡ rs2 v → funct7 w ≡ funct7 v → w ≡ v
+by_fields : (w v : ℕ) → w < 2 ^ 32 → v < 2 ^ 32 → opcode w ≡ opcode v → rd w ≡ rd v → funct3 w ≡ funct3 v
+    → rs1 w ≡ rs1 v → rs2 w ≡ rs2 v → funct7 w ≡ funct7 v → w ≡ v
 by_fields w v wlt vlt op d f3 s1 s2 f7 = omega (arith, wlt, vlt, op, d, f3, s1, s2, f7)
 
 signed_12 : (x y : ℕ) → x < 4096 → y < 4096 → signed 12 x ≡ signed 12 y → x ≡ y
@@ -146,22 +153,27 @@ fit_3 : (f3 op w : ℕ) → ((funct3 w == f3) && (opcode w == op)) ≡ true → 
 fit_3 f3 op w e = let b = and_parts (funct3 w == f3) (opcode w == op) e in (eqb-true _ _ b.0, eqb-true _ _ b.1)
 
 -- an I-type word
-i_word : (w v : ℕ) → w < 2 ^ 32 → v < 2 ^ 32 → opcode w ≡ opcode v → funct3 w ≡ funct3 v → rd w ≡ rd v → rs1 w ≡ rs1 v → i_immediate w ≡ i_immediate v → w ≡ v
+i_word : (w v : ℕ) → w < 2 ^ 32 → v < 2 ^ 32 → opcode w ≡ opcode v → funct3 w ≡ funct3 v → rd w ≡ rd v → rs1 w ≡ rs1 v
+    → i_immediate w ≡ i_immediate v → w ≡ v
 i_word w v wlt vlt op f3 d s1 imm =
     let
     top : bits 31 20 w ≡ bits 31 20 v
     = signed_12 (bits 31 20 w) (bits 31 20 v) (omega arith) (omega arith) imm
     in omega (arith, wlt, vlt, op, f3, d, s1, top)
 
-s_word : (w v : ℕ) → w < 2 ^ 32 → v < 2 ^ 32 → opcode w ≡ opcode v → funct3 w ≡ funct3 v → rs1 w ≡ rs1 v → rs2 w ≡ rs2 v → s_immediate w ≡ s_immediate v → w ≡ v
+s_word : (w v : ℕ) → w < 2 ^ 32 → v < 2 ^ 32 → opcode w ≡ opcode v → funct3 w ≡ funct3 v → rs1 w ≡ rs1 v → rs2 w ≡ rs2 v
+    → s_immediate w ≡ s_immediate v → w ≡ v
 s_word w v wlt vlt op f3 s1 s2 imm =
     let
     both : bits 31 25 w * 2 ^ 5 + bits 11 7 w ≡ bits 31 25 v * 2 ^ 5 + bits 11 7 v
     = signed_12 _ _ (omega arith) (omega arith) imm
     in omega (arith, wlt, vlt, op, f3, s1, s2, both)
 
-digits : (a b c d e f g h : ℕ) → b < 2 → c < 64 → d < 16 → f < 2 → g < 64 → h < 16 → a * 2 ^ 12 + b * 2 ^ 11 + c * 2 ^ 5 + d * 2 ≡ e * 2 ^ 12 + f * 2 ^ 11 + g * 2 ^ 5 + h * 2 → (a ≡ e) × (b ≡ f) × (c ≡ g) × (d ≡ h)
-digits a b c d e f g h bl cl dl fl gl hl sum = (omega (arith, bl, cl, dl, fl, gl, hl, sum), omega (arith, bl, cl, dl, fl, gl, hl, sum), omega (arith, bl, cl, dl, fl, gl, hl, sum), omega (arith, bl, cl, dl, fl, gl, hl, sum))
+digits : (a b c d e f g h : ℕ) → b < 2 → c < 64 → d < 16 → f < 2 → g < 64 → h < 16
+    → a * 2 ^ 12 + b * 2 ^ 11 + c * 2 ^ 5 + d * 2 ≡ e * 2 ^ 12 + f * 2 ^ 11 + g * 2 ^ 5 + h * 2
+    → (a ≡ e) × (b ≡ f) × (c ≡ g) × (d ≡ h)
+digits a b c d e f g h bl cl dl fl gl hl sum =
+    (omega (arith, bl, cl, dl, fl, gl, hl, sum), omega (arith, bl, cl, dl, fl, gl, hl, sum), omega (arith, bl, cl, dl, fl, gl, hl, sum), omega (arith, bl, cl, dl, fl, gl, hl, sum))
 
 record SamePieces (w v : ℕ) : Type 0 where
   b31 : bits 31 31 w ≡ bits 31 31 v
@@ -184,7 +196,8 @@ b_low w v seven eleven = omega (arith, seven, eleven)
 b_high : (w v : ℕ) → bits 31 31 w ≡ bits 31 31 v → bits 30 25 w ≡ bits 30 25 v → funct7 w ≡ funct7 v
 b_high w v top thirty = omega (arith, top, thirty)
 
-b_word : (w v : ℕ) → w < 2 ^ 32 → v < 2 ^ 32 → opcode w ≡ opcode v → funct3 w ≡ funct3 v → rs1 w ≡ rs1 v → rs2 w ≡ rs2 v → b_immediate w ≡ b_immediate v → w ≡ v
+b_word : (w v : ℕ) → w < 2 ^ 32 → v < 2 ^ 32 → opcode w ≡ opcode v → funct3 w ≡ funct3 v → rs1 w ≡ rs1 v → rs2 w ≡ rs2 v
+    → b_immediate w ≡ b_immediate v → w ≡ v
 b_word w v wlt vlt op f3 s1 s2 imm =
     let p : SamePieces w v = pieces w v imm in
     by_fields w v wlt vlt op (b_low w v p.b7 p.b11) f3 s1 s2 (b_high w v p.b31 p.b30)
@@ -192,13 +205,15 @@ b_word w v wlt vlt op f3 s1 s2 imm =
 u_word : (w v : ℕ) → w < 2 ^ 32 → v < 2 ^ 32 → opcode w ≡ opcode v → rd w ≡ rd v → u_immediate w ≡ u_immediate v → w ≡ v
 u_word w v wlt vlt op d imm = omega (arith, wlt, vlt, op, d, imm)
 
-fit_7 : (f7 f3 op w : ℕ) → ((funct7 w == f7) && (funct3 w == f3) && (opcode w == op)) ≡ true → (funct7 w ≡ f7) × (funct3 w ≡ f3) × (opcode w ≡ op)
+fit_7 : (f7 f3 op w : ℕ) → ((funct7 w == f7) && (funct3 w == f3) && (opcode w == op)) ≡ true
+    → (funct7 w ≡ f7) × (funct3 w ≡ f3) × (opcode w ≡ op)
 fit_7 f7 f3 op w e =
     let b = and_parts ((funct7 w == f7) && (funct3 w == f3)) (opcode w == op) e in
     let c = and_parts (funct7 w == f7) (funct3 w == f3) b.0 in
     (eqb-true _ _ c.0, eqb-true _ _ c.1, eqb-true _ _ b.1)
 
-lui_word : (w v d imm : ℕ) → w < 2 ^ 32 → v < 2 ^ 32 → instr_of_word w ≡ Some (Lui d imm) → instr_of_word v ≡ Some (Lui d imm) → w ≡ v
+lui_word : (w v d imm : ℕ) → w < 2 ^ 32 → v < 2 ^ 32 → instr_of_word w ≡ Some (Lui d imm)
+    → instr_of_word v ≡ Some (Lui d imm) → w ≡ v
 lui_word w v d imm wlt vlt e f =
     let ew : RowFits (u_type 0b0110111 Lui) w (Lui d imm) = fits_row w _ _ e refl in
     let ev : RowFits (u_type 0b0110111 Lui) v (Lui d imm) = fits_row v _ _ f refl in
@@ -207,7 +222,8 @@ lui_word w v d imm wlt vlt e f =
     let i_is : u_immediate w ≡ u_immediate v = cc in
     u_word w v wlt vlt (eqb-true _ _ ew.fit ∙ sym (eqb-true _ _ ev.fit)) d_is i_is
 
-addi_word : (w v d s : ℕ) (imm : ℤ) → w < 2 ^ 32 → v < 2 ^ 32 → instr_of_word w ≡ Some (OpImm imm_op.Add d s imm) → instr_of_word v ≡ Some (OpImm imm_op.Add d s imm) → w ≡ v
+addi_word : (w v d s : ℕ) (imm : ℤ) → w < 2 ^ 32 → v < 2 ^ 32 → instr_of_word w ≡ Some (OpImm imm_op.Add d s imm)
+    → instr_of_word v ≡ Some (OpImm imm_op.Add d s imm) → w ≡ v
 addi_word w v d s imm wlt vlt e f =
     let ew : RowFits (i_type 0b000 0b0010011 (OpImm imm_op.Add)) w (OpImm imm_op.Add d s imm) = fits_row w _ _ e refl in
     let ev : RowFits (i_type 0b000 0b0010011 (OpImm imm_op.Add)) v (OpImm imm_op.Add d s imm) = fits_row v _ _ f refl in
@@ -219,7 +235,8 @@ addi_word w v d s imm wlt vlt e f =
     let i_is : i_immediate w ≡ i_immediate v = cc in
     i_word w v wlt vlt (fw.1 ∙ sym fv.1) (fw.0 ∙ sym fv.0) d_is s_is i_is
 
-lw_word : (w v d s : ℕ) (imm : ℤ) → w < 2 ^ 32 → v < 2 ^ 32 → instr_of_word w ≡ Some (Load load.W d s imm) → instr_of_word v ≡ Some (Load load.W d s imm) → w ≡ v
+lw_word : (w v d s : ℕ) (imm : ℤ) → w < 2 ^ 32 → v < 2 ^ 32 → instr_of_word w ≡ Some (Load load.W d s imm)
+    → instr_of_word v ≡ Some (Load load.W d s imm) → w ≡ v
 lw_word w v d s imm wlt vlt e f =
     let ew : RowFits (i_type 0b010 0b0000011 (Load load.W)) w (Load load.W d s imm) = fits_row w _ _ e refl in
     let ev : RowFits (i_type 0b010 0b0000011 (Load load.W)) v (Load load.W d s imm) = fits_row v _ _ f refl in
@@ -231,7 +248,8 @@ lw_word w v d s imm wlt vlt e f =
     let i_is : i_immediate w ≡ i_immediate v = cc in
     i_word w v wlt vlt (fw.1 ∙ sym fv.1) (fw.0 ∙ sym fv.0) d_is s_is i_is
 
-sw_word : (w v s t : ℕ) (imm : ℤ) → w < 2 ^ 32 → v < 2 ^ 32 → instr_of_word w ≡ Some (Store store.W s t imm) → instr_of_word v ≡ Some (Store store.W s t imm) → w ≡ v
+sw_word : (w v s t : ℕ) (imm : ℤ) → w < 2 ^ 32 → v < 2 ^ 32 → instr_of_word w ≡ Some (Store store.W s t imm)
+    → instr_of_word v ≡ Some (Store store.W s t imm) → w ≡ v
 sw_word w v s t imm wlt vlt e f =
     let ew : RowFits (s_type 0b010 0b0100011 (Store store.W)) w (Store store.W s t imm) = fits_row w _ _ e refl in
     let ev : RowFits (s_type 0b010 0b0100011 (Store store.W)) v (Store store.W s t imm) = fits_row v _ _ f refl in
@@ -243,7 +261,8 @@ sw_word w v s t imm wlt vlt e f =
     let i_is : s_immediate w ≡ s_immediate v = cc in
     s_word w v wlt vlt (fw.1 ∙ sym fv.1) (fw.0 ∙ sym fv.0) s_is t_is i_is
 
-bne_word : (w v s t : ℕ) (imm : ℤ) → w < 2 ^ 32 → v < 2 ^ 32 → instr_of_word w ≡ Some (Branch cond.Ne s t imm) → instr_of_word v ≡ Some (Branch cond.Ne s t imm) → w ≡ v
+bne_word : (w v s t : ℕ) (imm : ℤ) → w < 2 ^ 32 → v < 2 ^ 32 → instr_of_word w ≡ Some (Branch cond.Ne s t imm)
+    → instr_of_word v ≡ Some (Branch cond.Ne s t imm) → w ≡ v
 bne_word w v s t imm wlt vlt e f =
     let ew : RowFits (b_type 0b001 0b1100011 (Branch cond.Ne)) w (Branch cond.Ne s t imm) = fits_row w _ _ e refl in
     let ev : RowFits (b_type 0b001 0b1100011 (Branch cond.Ne)) v (Branch cond.Ne s t imm) = fits_row v _ _ f refl in
@@ -255,7 +274,8 @@ bne_word w v s t imm wlt vlt e f =
     let i_is : b_immediate w ≡ b_immediate v = cc in
     b_word w v wlt vlt (fw.1 ∙ sym fv.1) (fw.0 ∙ sym fv.0) s_is t_is i_is
 
-blt_word : (w v s t : ℕ) (imm : ℤ) → w < 2 ^ 32 → v < 2 ^ 32 → instr_of_word w ≡ Some (Branch cond.Lt s t imm) → instr_of_word v ≡ Some (Branch cond.Lt s t imm) → w ≡ v
+blt_word : (w v s t : ℕ) (imm : ℤ) → w < 2 ^ 32 → v < 2 ^ 32 → instr_of_word w ≡ Some (Branch cond.Lt s t imm)
+    → instr_of_word v ≡ Some (Branch cond.Lt s t imm) → w ≡ v
 blt_word w v s t imm wlt vlt e f =
     let ew : RowFits (b_type 0b100 0b1100011 (Branch cond.Lt)) w (Branch cond.Lt s t imm) = fits_row w _ _ e refl in
     let ev : RowFits (b_type 0b100 0b1100011 (Branch cond.Lt)) v (Branch cond.Lt s t imm) = fits_row v _ _ f refl in
@@ -267,7 +287,8 @@ blt_word w v s t imm wlt vlt e f =
     let i_is : b_immediate w ≡ b_immediate v = cc in
     b_word w v wlt vlt (fw.1 ∙ sym fv.1) (fw.0 ∙ sym fv.0) s_is t_is i_is
 
-slli_word : (w v d s : ℕ) (imm : ℤ) → w < 2 ^ 32 → v < 2 ^ 32 → instr_of_word w ≡ Some (OpImm imm_op.Sll d s imm) → instr_of_word v ≡ Some (OpImm imm_op.Sll d s imm) → w ≡ v
+slli_word : (w v d s : ℕ) (imm : ℤ) → w < 2 ^ 32 → v < 2 ^ 32 → instr_of_word w ≡ Some (OpImm imm_op.Sll d s imm)
+    → instr_of_word v ≡ Some (OpImm imm_op.Sll d s imm) → w ≡ v
 slli_word w v d s imm wlt vlt e f =
     let ew : RowFits (shift 0b0000000 0b001 0b0010011 (OpImm imm_op.Sll)) w (OpImm imm_op.Sll d s imm) = fits_row w _ _ e refl in
     let ev : RowFits (shift 0b0000000 0b001 0b0010011 (OpImm imm_op.Sll)) v (OpImm imm_op.Sll d s imm) = fits_row v _ _ f refl in
@@ -279,7 +300,8 @@ slli_word w v d s imm wlt vlt e f =
     let i_is : rs2 w ≡ rs2 v = cc in
     by_fields w v wlt vlt (fw.2 ∙ sym fv.2) d_is (fw.1 ∙ sym fv.1) s_is i_is (fw.0 ∙ sym fv.0)
 
-add_word : (w v d s t : ℕ) → w < 2 ^ 32 → v < 2 ^ 32 → instr_of_word w ≡ Some (Op reg_op.Add d s t) → instr_of_word v ≡ Some (Op reg_op.Add d s t) → w ≡ v
+add_word : (w v d s t : ℕ) → w < 2 ^ 32 → v < 2 ^ 32 → instr_of_word w ≡ Some (Op reg_op.Add d s t)
+    → instr_of_word v ≡ Some (Op reg_op.Add d s t) → w ≡ v
 add_word w v d s t wlt vlt e f =
     let ew : RowFits (r_type 0b0000000 0b000 0b0110011 (Op reg_op.Add)) w (Op reg_op.Add d s t) = fits_row w _ _ e refl in
     let ev : RowFits (r_type 0b0000000 0b000 0b0110011 (Op reg_op.Add)) v (Op reg_op.Add d s t) = fits_row v _ _ f refl in
@@ -310,7 +332,8 @@ IsUsed (Op reg_op.Add rd rs1 rs2) = Unit {0}
 IsUsed Ecall = Unit {0}
 IsUsed _ = ⊥
 
-one_encoding : (w v : ℕ) (i : Instr) → w < 2 ^ 32 → v < 2 ^ 32 → IsUsed i → instr_of_word w ≡ Some i → instr_of_word v ≡ Some i → w ≡ v
+one_encoding : (w v : ℕ) (i : Instr) → w < 2 ^ 32 → v < 2 ^ 32 → IsUsed i → instr_of_word w ≡ Some i
+    → instr_of_word v ≡ Some i → w ≡ v
 one_encoding w v (Lui d imm) wlt vlt used e f = lui_word w v d imm wlt vlt e f
 one_encoding w v (Branch cond.Ne s t imm) wlt vlt used e f = bne_word w v s t imm wlt vlt e f
 one_encoding w v (Branch cond.Lt s t imm) wlt vlt used e f = blt_word w v s t imm wlt vlt e f
@@ -329,7 +352,9 @@ rest_same : (a b : Option Instr) (xs ys : List (Option Instr)) → (a ∷ xs) �
 rest_same a b xs ys e = cc
 
 -- two lists of words that stand for one program are one list
-same_words : (ws vs : List ℕ) (program : List Instr) → AllByRecursion (λ w. w < 2 ^ 32) ws → AllByRecursion (λ w. w < 2 ^ 32) vs → AllByRecursion IsUsed program → map instr_of_word ws ≡ map Some program → map instr_of_word vs ≡ map Some program → ws ≡ vs
+same_words : (ws vs : List ℕ) (program : List Instr) → AllByRecursion (λ w. w < 2 ^ 32) ws
+    → AllByRecursion (λ w. w < 2 ^ 32) vs → AllByRecursion IsUsed program → map instr_of_word ws ≡ map Some program
+    → map instr_of_word vs ≡ map Some program → ws ≡ vs
 same_words [] [] program ws_small vs_small used e f = refl
 same_words [] (v ∷ vs) [] ws_small vs_small used e f = cc
 same_words [] (v ∷ vs) (i ∷ program) ws_small vs_small used e f = cc
@@ -352,11 +377,14 @@ unfolding nested_additions nest_words
 nest_decodes = refl
 
 -- the words of the walk are those written out
-pub walk_words_are : (ws : List ℕ) → AllByRecursion (λ w. w < 2 ^ 32) ws → map instr_of_word ws ≡ map Some breadth_first_walk → ws ≡ walk_words
+pub walk_words_are : (ws : List ℕ) → AllByRecursion (λ w. w < 2 ^ 32) ws
+    → map instr_of_word ws ≡ map Some breadth_first_walk → ws ≡ walk_words
 unfolding breadth_first_walk walk_words
-walk_words_are ws small e = same_words ws walk_words breadth_first_walk small (search rules) (search rules) e walk_decodes
+walk_words_are ws small e =
+    same_words ws walk_words breadth_first_walk small (search rules) (search rules) e walk_decodes
 
 -- the words of the nested additions are those written out
-pub nest_words_are : (ws : List ℕ) → AllByRecursion (λ w. w < 2 ^ 32) ws → map instr_of_word ws ≡ map Some nested_additions → ws ≡ nest_words
+pub nest_words_are : (ws : List ℕ) → AllByRecursion (λ w. w < 2 ^ 32) ws
+    → map instr_of_word ws ≡ map Some nested_additions → ws ≡ nest_words
 unfolding nested_additions nest_words
 nest_words_are ws small e = same_words ws nest_words nested_additions small (search rules) (search rules) e nest_decodes

@@ -1,6 +1,7 @@
 -- A run that met its commit limit leaves the tasks that pend; where no end is told of a run, it is still one by
 -- events of the least tasks.
-use Rattle.std.proofs.Common.{◌≡◌, ◌<◌, ◌==◌, refl, ap, ◌∙◌, subst, zero, suc, ℕ, true, List, [], ◌∷◌, length, map, Option, Some, None, if◌then◌else◌, arith}
+use Rattle.std.proofs.Common.{◌≡◌, ◌<◌, ◌==◌, refl, ap, ◌∙◌, subst, zero, suc, ℕ, true, List, [], ◌∷◌, length, map}
+use Rattle.std.proofs.Common.{Option, Some, None, if◌then◌else◌, arith}
 use Rattle.std.specs.Prelude.{IfSome}
 use Rattle.std.proofs.lemmas.Bool.Decides.{nat_tests}
 use Rattle.std.proofs.lemmas.Grind.{common_steps}
@@ -54,17 +55,21 @@ some_pend image commits budget closed pendings run left =
     run.end_is.0 (subst (λ (s : SerialState). inner s.stack ≡ []) same empty))
 
 -- what met its commit limit is stopped with these tasks
-pub stopped : (image : ImageValue) (commits budget : ℕ) (ran : Ran) (pendings : List Pending) → ran.end ≡ Some ends.Limit
+pub stopped : (image : ImageValue) (commits budget : ℕ) (ran : Ran) (pendings : List Pending)
+    → ran.end ≡ Some ends.Limit
     → IsRunOf image commits budget (run_of_closed ran.closed ran.end)
-    → RunLeaves image budget ran.closed.journal ran.closed.memory ran.closed.output pendings → IsStoppedWith image budget ran pendings
+    → RunLeaves image budget ran.closed.journal ran.closed.memory ran.closed.output pendings
+    → IsStoppedWith image budget ran pendings
 stopped image commits budget ran pendings limit run left = record {
   end_is = limit;
   left = left;
-  some = some_pend image commits budget ran.closed pendings (subst (λ end. IsRunOf image commits budget (run_of_closed ran.closed end)) limit run) left;
+  some =
+      some_pend image commits budget ran.closed pendings (subst (λ end. IsRunOf image commits budget (run_of_closed ran.closed end)) limit run) left;
 }
 
 -- an end that is told is that of the book
-pub told_has : (view : View) (end told : Option End) → IfSome end (HasEnd view) → IfSome told (λ e. end ≡ Some e) → IfSome told (HasEnd view)
+pub told_has : (view : View) (end told : Option End) → IfSome end (HasEnd view) → IfSome told (λ e. end ≡ Some e)
+    → IfSome told (HasEnd view)
 told_has view end None has same = tt
 told_has view end (Some e) has same = subst (λ o. IfSome o (HasEnd view)) same has
 
@@ -78,6 +83,12 @@ with_end N image settings placers taps closed end told same run = record {
   is_opening = run.is_opening;
   last = run.last;
   advances = run.advances;
-  leaves = record { journal_is = run.leaves.journal_is; output_is = run.leaves.output_is; memory_is = run.leaves.memory_is; events_are = run.leaves.events_are };
+  leaves =
+      record {
+        journal_is = run.leaves.journal_is;
+        output_is = run.leaves.output_is;
+        memory_is = run.leaves.memory_is;
+        events_are = run.leaves.events_are;
+      };
   end_is = told_has run.last.view end told run.end_is same;
 }

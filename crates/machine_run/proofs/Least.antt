@@ -20,7 +20,8 @@ use Rattle.event_def.specs.Opening.{IsOpening, PlacesAll, opening_book}
 use Rattle.event_def.specs.Advancing.{AdvanceAnswers, AdvancesBy}
 use Rattle.event_def.specs.Closing.{Closes}
 use Rattle.event_def.specs.End.{HasEnd}
-use Rattle.event_law.proofs.Proved.{all_kept, IsUntouched, least_events_are_few, none_touched, opening_is_sound, rest_is_there}
+use Rattle.event_law.proofs.Proved.{all_kept, IsUntouched, least_events_are_few, none_touched, opening_is_sound}
+use Rattle.event_law.proofs.Proved.{rest_is_there}
 use Rattle.conflict_book.specs.Halting.{RunsLeast, last_answer}
 use Rattle.tile_worker.specs.Halts.{HaltsAt}
 use Rattle.machine_run.specs.Least.{IsLeastRun, end_of_halt, run_of_closed}
@@ -30,27 +31,33 @@ one_more : (n m : ℕ) → m + suc n ≤ 1000000000000 → next_count (m + n) �
 one_more n m h = omega arith
 
 -- each event is counted
-counts : (N : Type 0) (image : ImageValue) (n : ℕ) (old new : BookView) → AdvancesBy N image n old new → old.steps + n ≤ 1000000000000 → new.steps ≡ old.steps + n
-counts N image zero old new h few = let same : new.steps ≡ old.steps = ap (λ (b : BookView). b.steps) (sym h) in omega (arith, same)
+counts : (N : Type 0) (image : ImageValue) (n : ℕ) (old new : BookView) → AdvancesBy N image n old new
+    → old.steps + n ≤ 1000000000000 → new.steps ≡ old.steps + n
+counts N image zero old new h few =
+    let same : new.steps ≡ old.steps = ap (λ (b : BookView). b.steps) (sym h) in omega (arith, same)
 counts N image (suc n) old new h few =
     let before : h.0.steps ≡ old.steps + n = counts N image n old h.0 h.2 (omega (arith, few)) in
     h.3.happens.steps ∙ ap next_count before ∙ one_more n old.steps few
 
 -- so many events are few
-few_events : (n left commits budget : ℕ) → n + left ≤ (commits + 1) * (budget + 4) → commits ≤ 1000000 → budget ≤ 65536 → n ≤ 1000000000000
+few_events : (n left commits budget : ℕ) → n + left ≤ (commits + 1) * (budget + 4) → commits ≤ 1000000 → budget ≤ 65536
+    → n ≤ 1000000000000
 few_events n left commits budget h c b =
     let most : (commits + 1) * (budget + 4) ≤ 1000001 * 65540 = mul-le (commits + 1) (budget + 4) 1000001 65540 (omega (arith, c)) (omega (arith, b)) in
     omega (arith, h, most)
 
-at_most : (commits before after limit : ℕ) → after ≡ before + commits → after ≤ limit → limit ≤ 1000000 → commits ≤ 1000000
+at_most : (commits before after limit : ℕ) → after ≡ before + commits → after ≤ limit → limit ≤ 1000000
+    → commits ≤ 1000000
 at_most commits before after limit longer few most = omega (arith, longer, few, most)
 
-placed_steps : (kind : Kind) (es : List (ℕ × ImageTask)) (old new : BookView) → PlacesAll kind es old new → new.steps ≡ old.steps
+placed_steps : (kind : Kind) (es : List (ℕ × ImageTask)) (old new : BookView) → PlacesAll kind es old new
+    → new.steps ≡ old.steps
 placed_steps kind [] old new same = ap (λ (b : BookView). b.steps) (sym same)
 placed_steps kind (e ∷ es) old new h = placed_steps kind es h.0 new h.2 ∙ ap (λ (b : BookView). b.steps) h.1.same
 
 -- a run that halted at an end has it
-pub halted : (N : Type 0) (image : ImageValue) (book : BookView) (halt : Halt) → AdvanceAnswers N image book (last_answer halt) book
+pub halted : (N : Type 0) (image : ImageValue) (book : BookView) (halt : Halt)
+    → AdvanceAnswers N image book (last_answer halt) book
     → IfSome (end_of_halt halt) (HasEnd book.view)
 halted N image book (halts.Ended end) answers = answers.1
 halted N image book halts.Memory answers = tt
@@ -69,7 +76,8 @@ module _ (image : ImageValue) (settings : Settings) (placers : List Policy) (tap
 
   -- at the opening no event was made
   pub opening_steps : opening.steps ≡ 0
-  opening_steps = placed_steps image.kind (enumerate_from 0 image.tasks) (opening_book is_opening.empty placers taps) opening is_opening.placed
+  opening_steps =
+      placed_steps image.kind (enumerate_from 0 image.tasks) (opening_book is_opening.empty placers taps) opening is_opening.placed
 
   -- and its settings are those with which it began
   pub opening_settings : opening.view.settings ≡ settings
@@ -97,7 +105,8 @@ module _ (image : ImageValue) (settings : Settings) (placers : List Policy) (tap
       opening = opening;
       is_opening = is_opening;
       last = last;
-      advances = subst (λ n. AdvancesBy N image n opening last) (sym (closes.steps ∙ events_are runs.made runs.advances)) runs.advances;
+      advances =
+          subst (λ n. AdvancesBy N image n opening last) (sym (closes.steps ∙ events_are runs.made runs.advances)) runs.advances;
       leaves = run_left last closed closes (end_of_halt halt);
       end_is = halted N image last halt runs.halts;
     }

@@ -33,7 +33,8 @@ module _ (last : BookView) (closed : Closed) (closes : Closes last closed) where
 
   -- and the count of events is the book's, whatever end is told
   pub run_left : (end : Option End) → LeavesRun last closed.steps (run_of_closed closed end)
-  run_left end = record { journal_is = journal_left; output_is = output_left; memory_is = memory_left; events_are = closes.steps }
+  run_left end =
+      record { journal_is = journal_left; output_is = output_left; memory_is = memory_left; events_are = closes.steps }
 
 if-some : {A : Type 0} (P Q : A → Type 0) (o : Option A) → ((a : A) → P a → Q a) → IfSome o P → IfSome o Q
 if-some P Q None f h = tt
@@ -41,8 +42,10 @@ if-some P Q (Some a) f h = f a h
 
 -- what a sound book leaves once it is closed is a run of the serial machine, with the limit and the budget of its settings, whose end is how
 -- the book stands
-pub left_is_run : (image : ImageValue) (last : BookView) (closed : Closed) (end : Option End) → IsImage image → Sound image last.view → Closes last closed
-    → IfSome end (StandsAt last.view) → IsRunOf image last.view.settings.commits last.view.settings.budget (run_of_closed closed end)
+pub left_is_run : (image : ImageValue) (last : BookView) (closed : Closed) (end : Option End) → IsImage image
+    → Sound image last.view → Closes last closed
+    → IfSome end (StandsAt last.view)
+    → IsRunOf image last.view.settings.commits last.view.settings.budget (run_of_closed closed end)
 left_is_run image last closed end within sound closes stands =
     let commits = last.view.settings.commits in
     let budget = last.view.settings.budget in
@@ -64,8 +67,10 @@ left_is_sized image closed end commits budget within run =
     ap length run.memory_is ∙ run_sized image budget closed.journal run.state within run.is_run
 
 -- so too with a limit and a budget that are those of its settings
-pub left_is_run_of : (image : ImageValue) (commits budget : ℕ) (last : BookView) (closed : Closed) (end : Option End) → IsImage image → Sound image last.view
-    → Closes last closed → IfSome end (StandsAt last.view) → last.view.settings.commits ≡ commits → last.view.settings.budget ≡ budget
+pub left_is_run_of : (image : ImageValue) (commits budget : ℕ) (last : BookView) (closed : Closed) (end : Option End)
+    → IsImage image → Sound image last.view
+    → Closes last closed → IfSome end (StandsAt last.view) → last.view.settings.commits ≡ commits
+    → last.view.settings.budget ≡ budget
     → IsRunOf image commits budget (run_of_closed closed end)
 left_is_run_of image commits budget last closed end within sound closes stands same_commits same_budget =
     let run = run_of_closed closed end in

@@ -63,7 +63,8 @@ module _ (a b : BookView) (same : AreSameBooks a b) (events other : ℕ) (run ot
       one.memory_is two.memory_is
 
   run_one : other_run.end ≡ run.end → other_run ≡ run
-  run_one end_one = λ i. record { journal = journal_one i; memory = memory_one i; output = output_one i; end = end_one i }
+  run_one end_one =
+      λ i. record { journal = journal_one i; memory = memory_one i; output = output_one i; end = end_one i }
 
   events_one : other ≡ events
   events_one = two.events_are ∙ (same.1.steps ∙ sym one.events_are)

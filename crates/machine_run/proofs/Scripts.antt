@@ -28,7 +28,8 @@ stays_within image settings script placers taps opening is_opening within =
     subst (λ (s : Settings). All (ActIsInRange s.tiles s.cores) script) (sym (opening_settings image settings placers taps opening is_opening)) within
 
 -- a script that was played whole was played in part
-whole_part : (N : Type 0) (image : ImageValue) (script : List Act) (old new : BookView) (said : List Said) → Plays N image script old said new
+whole_part : (N : Type 0) (image : ImageValue) (script : List Act) (old new : BookView) (said : List Said)
+    → Plays N image script old said new
     → PlaysSome N image script old new
 whole_part N image script old new said plays = record {
   count = length script;
@@ -58,17 +59,20 @@ module _ (N : Type 0) (image : ImageValue) (settings : Settings) (script : List 
   }
 
   -- wherever an end is told
-  pub left_is_played : (said : List Said) (told : Option End) → Plays N image script opening said last → IfSome told (StandsAt last.view)
+  pub left_is_played : (said : List Said) (told : Option End) → Plays N image script opening said last
+      → IfSome told (StandsAt last.view)
       → IfSome told
       (λ end. IsPlayedRun N image settings script placers taps said closed.steps end (run_of_closed closed told))
   left_is_played said None plays stands = tt
   left_is_played said (Some end) plays stands = played_at said end plays stands
 
   -- and so where its taps were read before
-  pub left_is_traced : (lists : List (List ℕ)) (told : Option End) → LeavesTapLists N image script opening lists last → IfSome told (StandsAt last.view)
+  pub left_is_traced : (lists : List (List ℕ)) (told : Option End) → LeavesTapLists N image script opening lists last
+      → IfSome told (StandsAt last.view)
       → IfSome told (λ end. IsTracedRun N image settings script placers taps lists closed.steps end (run_of_closed closed told))
   left_is_traced lists None seen stands = tt
-  left_is_traced lists (Some end) seen stands = record { said = seen.said; played = played_at seen.said end seen.plays stands; lists_are = seen.lists_are }
+  left_is_traced lists (Some end) seen stands =
+      record { said = seen.said; played = played_at seen.said end seen.plays stands; lists_are = seen.lists_are }
 
   -- and where memory ran out, that of the acts that were played
   pub left_in_part : (told : Option End) → PlaysSome N image script opening last → told ≡ None

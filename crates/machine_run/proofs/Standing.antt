@@ -23,11 +23,13 @@ open_is_serial image view sound open_yet =
     ((λ empty. some (all_committed image view sound empty)), below)
 
 -- so how a view stands, the serial machine does
-pub stands_serially : (image : ImageValue) (view : View) (end : End) → IsImage image → (sound : Sound image view) → StandsAt view end
+pub stands_serially : (image : ImageValue) (view : View) (end : End) → IsImage image → (sound : Sound image view)
+    → StandsAt view end
     → IsEnd image view.settings.budget view.settings.commits view.history sound.serial end
 stands_serially image view ends.Normal within sound stands = end_is_serial image view ends.Normal within sound stands
 stands_serially image view ends.Limit within sound stands = end_is_serial image view ends.Limit within sound stands
-stands_serially image view (ends.Trap name cause pc) within sound stands = end_is_serial image view (ends.Trap name cause pc) within sound stands
+stands_serially image view (ends.Trap name cause pc) within sound stands =
+    end_is_serial image view (ends.Trap name cause pc) within sound stands
 stands_serially image view ends.Unfinished within sound stands = open_is_serial image view sound stands
 
 -- a run that is over stands at its end

@@ -8,7 +8,8 @@ use Rattle.run_journal.specs.declared.journal.Entry.{Entry}
 use Rattle.tile_worker.specs.Readings.{IsReading, AreReadings, OpeningIsReading}
 
 -- where the opening is a reading of every journal, so is all that a new writer has told
-pub opening_told : OpeningIsReading → (image : ImageValue) (budget : ℕ) (journal : List Entry) (told : List Reading) → told ≡ opening_reading ∷ []
+pub opening_told : OpeningIsReading → (image : ImageValue) (budget : ℕ) (journal : List Entry) (told : List Reading)
+    → told ≡ opening_reading ∷ []
     → AreReadings image budget journal told
 opening_told every image budget journal told is =
     let P : Reading → Type 0 = λ reading. ∥ IsReading image budget journal reading ∥₁ in

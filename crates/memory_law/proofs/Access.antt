@@ -1,5 +1,6 @@
 -- An access joins a task's log where no later task conflicts.
-use Rattle.std.proofs.Common.{Less, ◌≡◌, ◌≢◌, ◌⊎◌, ℕ, ◌/◌, Bool, true, false, List, [], ◌∷◌, ◌++◌, length, Option, Some, None, refl, sym, ap, subst, ◌∙◌, inl, inr, append_assoc}
+use Rattle.std.proofs.Common.{Less, ◌≡◌, ◌≢◌, ◌⊎◌, ℕ, ◌/◌, Bool, true, false, List, [], ◌∷◌, ◌++◌, length, Option, Some}
+use Rattle.std.proofs.Common.{None, refl, sym, ap, subst, ◌∙◌, inl, inr, append_assoc}
 use Rattle.std.proofs.lemmas.Bool.{cases_eq}
 use Rattle.fractal_vt.specs.Levels.{levels_cmp}
 use Rattle.undo_log.specs.declared.access.Access.{Access}
@@ -8,26 +9,31 @@ use Rattle.memory_law.specs.Accesses.{after_accesses, Replays, Apart}
 use Rattle.memory_law.proofs.Marks.{Untouched, Unwritten, ApartIfStore}
 use Rattle.memory_law.proofs.Lines.{lines_apart}
 use Rattle.memory_law.proofs.Joins.{load_joins, store_joins, length-after_accesses}
-use Rattle.memory_law.specs.Tasks.{Logged, IsLineSize, IsNoted, AreNotedInFilter, IsWroteIfStore, log_of, logs, In, Earlier, Ascends, IsByKey}
+use Rattle.memory_law.specs.Tasks.{Logged, IsLineSize, IsNoted, AreNotedInFilter, IsWroteIfStore, log_of, logs, In}
+use Rattle.memory_law.specs.Tasks.{Earlier, Ascends, IsByKey}
 use Rattle.memory_law.specs.Chain.{IsReplay}
 use Rattle.memory_law.specs.Events.{AccessesInLogs, NoLaterWrote, NoLaterTouched}
 use Rattle.memory_law.proofs.Latest.{not_self}
 
 module _ (size line : ℕ) (sized : IsLineSize line) (o w : ℕ) (accessible : IsAccessible size o w) where
-  untouched_line : (touched wrote : ℕ → Bool) → touched (o / line) ≡ false → (log : List Access) → AreNotedInFilter size line touched wrote log → Untouched o w log
+  untouched_line : (touched wrote : ℕ → Bool) → touched (o / line) ≡ false → (log : List Access)
+      → AreNotedInFilter size line touched wrote log → Untouched o w log
   untouched_line touched wrote none [] noted = tt
   untouched_line touched wrote none (a ∷ log) noted = (
     lines_apart size o w a.offset a.width line sized accessible noted.0 (λ same. absurd (cc (ap touched same, noted.1, none))),
     untouched_line touched wrote none log noted.3,
   )
 
-  unwritten_line : (touched wrote : ℕ → Bool) → wrote (o / line) ≡ false → (log : List Access) → AreNotedInFilter size line touched wrote log → Unwritten o w log
+  unwritten_line : (touched wrote : ℕ → Bool) → wrote (o / line) ≡ false → (log : List Access)
+      → AreNotedInFilter size line touched wrote log → Unwritten o w log
   unwritten_line touched wrote none [] noted = tt
-  unwritten_line touched wrote none (a ∷ log) noted = (by_store a.new noted.2, unwritten_line touched wrote none log noted.3)
+  unwritten_line touched wrote none (a ∷ log) noted =
+      (by_store a.new noted.2, unwritten_line touched wrote none log noted.3)
     where
       by_store : (n : Option ℕ) → IsWroteIfStore wrote (a.offset / line) n → ApartIfStore o w a.offset a.width n
       by_store None at = tt
-      by_store (Some v) at = lines_apart size o w a.offset a.width line sized accessible noted.0 (λ same. absurd (cc (ap wrote same, at, none)))
+      by_store (Some v) at =
+          lines_apart size o w a.offset a.width line sized accessible noted.0 (λ same. absurd (cc (ap wrote same, at, none)))
 
 pub Untouched-append : (o w : ℕ) (us vs : List Access) → Untouched o w us → Untouched o w vs → Untouched o w (us ++ vs)
 Untouched-append o w [] vs p q = q
@@ -64,19 +70,23 @@ module _ (line : ℕ) (memory : List ℕ) (old new : ℕ → Option Logged) (id 
       let rest = logs_others ids (λ at. out (inr at)) in
       cc
 
-  pub splits : (Rest : List Access → Type 0) → Rest [] → ((xs ys : List Access) → Rest xs → Rest ys → Rest (xs ++ ys)) → ((k : ℕ) (y : Logged) → old k ≡ Some y → y.dispatched ≡ true → Earlier was y → Rest y.log) → (ids : List ℕ) → Ascends old ids → In id ids → Splits old new ids access Rest
+  pub splits : (Rest : List Access → Type 0) → Rest [] → ((xs ys : List Access) → Rest xs → Rest ys → Rest (xs ++ ys))
+      → ((k : ℕ) (y : Logged) → old k ≡ Some y → y.dispatched ≡ true → Earlier was y → Rest y.log) → (ids : List ℕ)
+      → Ascends old ids → In id ids → Splits old new ids access Rest
   splits Rest none more clear [] ascends at = absurd at
   splits Rest none more clear (k ∷ ids) ascends at = by_case (cases_eq k id) (splits Rest none more clear ids ascends.4)
     where
       -- all later ones are clear
-      later : (rest : List ℕ) → ((j : ℕ) (other : Logged) → In j rest → old j ≡ Some other → Earlier was other) → Ascends old rest → Rest (logs old rest)
+      later : (rest : List ℕ) → ((j : ℕ) (other : Logged) → In j rest → old j ≡ Some other → Earlier was other)
+          → Ascends old rest → Rest (logs old rest)
       later [] above up = none
       later (j ∷ rest) above up =
           more (log_of (old j)) (logs old rest)
           (subst (λ t. Rest (log_of t)) (sym up.1) (clear j up.0 up.1 up.2 (above j up.0 (inl refl) up.1)))
           (later rest (λ i other in'. above i other (inr in')) up.4)
 
-      by_case : (k ≡ id) ⊎ (k ≢ id) → (In id ids → Splits old new ids access Rest) → Splits old new (k ∷ ids) access Rest
+      by_case : (k ≡ id) ⊎ (k ≢ id) → (In id ids → Splits old new ids access Rest)
+          → Splits old new (k ∷ ids) access Rest
       by_case (inl here) go =
           let there' : old k ≡ Some was = ap old here ∙ grows.there in
           let same : Some ascends.0 ≡ Some was = sym ascends.1 ∙ there' in
@@ -89,7 +99,9 @@ module _ (line : ℕ) (memory : List ℕ) (old new : ℕ → Option Logged) (id 
             front = was.log;
             back = logs old ids;
             before = ap (λ l. l ++ logs old ids) log_old;
-            after = ap (λ l. l ++ logs new ids) log_new ∙ append_assoc was.log (access ∷ []) (logs new ids) ∙ ap (λ r. was.log ++ access ∷ r) (logs_others ids out);
+            after =
+                ap (λ l. l ++ logs new ids) log_new ∙ append_assoc was.log (access ∷ []) (logs new ids)
+                ∙ ap (λ r. was.log ++ access ∷ r) (logs_others ids out);
             rest = later ids above ascends.4;
           }
       by_case (inr other) go =
@@ -97,8 +109,11 @@ module _ (line : ℕ) (memory : List ℕ) (old new : ℕ → Option Logged) (id 
           record {
             front = log_of (old k) ++ inner.front;
             back = inner.back;
-            before = ap (λ r. log_of (old k) ++ r) inner.before ∙ sym (append_assoc (log_of (old k)) inner.front inner.back);
-            after = ap (λ t. log_of t ++ logs new ids) (grows.others k other) ∙ ap (λ r. log_of (old k) ++ r) inner.after ∙ sym (append_assoc (log_of (old k)) inner.front (access ∷ inner.back));
+            before =
+                ap (λ r. log_of (old k) ++ r) inner.before ∙ sym (append_assoc (log_of (old k)) inner.front inner.back);
+            after =
+                ap (λ t. log_of t ++ logs new ids) (grows.others k other) ∙ ap (λ r. log_of (old k) ++ r) inner.after
+                ∙ sym (append_assoc (log_of (old k)) inner.front (access ∷ inner.back));
             rest = inner.rest;
           }
         where
@@ -116,7 +131,8 @@ module _ (line : ℕ) (memory : List ℕ) (old new : ℕ → Option Logged) (id 
         | inr other ↦ (y, sym (grows.others j other) ∙ at, refl)
       ]
 
-      above : (task : Logged) → task.levels ≡ ascends.0.levels → (j : ℕ) (other : Logged) → In j ids → new j ≡ Some other → Earlier task other
+      above : (task : Logged) → task.levels ≡ ascends.0.levels → (j : ℕ) (other : Logged) → In j ids
+          → new j ≡ Some other → Earlier task other
       above task same j other in' at =
           let z = levels_of_new j other at in
           subst (λ l. levels_cmp l other.levels ≡ Less) (sym same) (subst (λ l. levels_cmp ascends.0.levels l ≡ Less) z.2 (ascends.3 j z.0 in' z.1))
@@ -142,7 +158,9 @@ module _ (line : ℕ) (memory : List ℕ) (old new : ℕ → Option Logged) (id 
       }
 
   -- the filters of all tasks leave nothing out
-  noted_grown : (serial : List ℕ) → length memory ≡ length serial → ((k : ℕ) (task : Logged) → old k ≡ Some task → IsNoted (length serial) line task) → (k : ℕ) (task : Logged) → new k ≡ Some task → IsNoted (length serial) line task
+  noted_grown : (serial : List ℕ) → length memory ≡ length serial
+      → ((k : ℕ) (task : Logged) → old k ≡ Some task → IsNoted (length serial) line task) → (k : ℕ) (task : Logged)
+      → new k ≡ Some task → IsNoted (length serial) line task
   noted_grown serial long noted k task there = elim (cases_eq k id) [
     | inl here ↦
         let same : Some now ≡ Some task = sym grows.changed ∙ sym (ap new here) ∙ there in
@@ -152,7 +170,8 @@ module _ (line : ℕ) (memory : List ℕ) (old new : ℕ → Option Logged) (id 
   ]
 
   -- no later task wrote the line: a load keeps the replay
-  pub load_keeps : (serial : List ℕ) → IsLineSize line → access.new ≡ None → NoLaterWrote old was (access.offset / line) → IsReplay line old serial memory → IsReplay line new serial memory
+  pub load_keeps : (serial : List ℕ) → IsLineSize line → access.new ≡ None → NoLaterWrote old was (access.offset / line)
+      → IsReplay line old serial memory → IsReplay line new serial memory
   load_keeps serial sized is_load none replay =
       let long : length memory ≡ length serial = ap length replay.memory_is ∙ length-after_accesses serial (logs old replay.ids) in
       let accessible : IsAccessible (length serial) access.offset access.width = subst (λ n. IsAccessible n access.offset access.width) long grows.accessible in
@@ -169,7 +188,9 @@ module _ (line : ℕ) (memory : List ℕ) (old new : ℕ → Option Logged) (id 
       }
 
   -- no later task touched the line: a store keeps the replay, with the number written
-  pub store_keeps : (serial : List ℕ) (v : ℕ) → IsLineSize line → access.new ≡ Some v → NoLaterTouched old was (access.offset / line) → IsReplay line old serial memory → IsReplay line new serial (after_write memory access.offset access.width v)
+  pub store_keeps : (serial : List ℕ) (v : ℕ) → IsLineSize line → access.new ≡ Some v
+      → NoLaterTouched old was (access.offset / line) → IsReplay line old serial memory
+      → IsReplay line new serial (after_write memory access.offset access.width v)
   store_keeps serial v sized is_store none replay =
       let long : length memory ≡ length serial = ap length replay.memory_is ∙ length-after_accesses serial (logs old replay.ids) in
       let accessible : IsAccessible (length serial) access.offset access.width = subst (λ n. IsAccessible n access.offset access.width) long grows.accessible in
@@ -180,7 +201,9 @@ module _ (line : ℕ) (memory : List ℕ) (old new : ℕ → Option Logged) (id 
         ids = replay.ids;
         by_key = IsByKey_grown replay.ids replay.by_key;
         replays = subst (Replays serial) (sym split.after) joined.0;
-        memory_is = ap (λ m. after_write m access.offset access.width v) is ∙ sym joined.1 ∙ ap (after_accesses serial) (sym split.after);
+        memory_is =
+            ap (λ m. after_write m access.offset access.width v) is ∙ sym joined.1
+            ∙ ap (after_accesses serial) (sym split.after);
         noted = noted_grown serial long replay.noted;
         bytes = replay.bytes;
       }

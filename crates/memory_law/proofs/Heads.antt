@@ -1,5 +1,6 @@
 -- A task joins the ids where it is dispatched, and the first one leaves them where it commits.
-use Rattle.std.proofs.Common.{◌≡◌, ◌≢◌, ◌⊎◌, ℕ, false, List, [], ◌∷◌, ◌++◌, length, Option, Some, refl, sym, ap, subst, ◌∙◌, inl, inr}
+use Rattle.std.proofs.Common.{◌≡◌, ◌≢◌, ◌⊎◌, ℕ, false, List, [], ◌∷◌, ◌++◌, length, Option, Some, refl, sym, ap, subst}
+use Rattle.std.proofs.Common.{◌∙◌, inl, inr}
 use Rattle.std.proofs.lemmas.Bool.{cases_eq}
 use Rattle.fractal_vt.specs.Levels.{level_cmp}
 use Rattle.fractal_vt.proofs.Proved.{level_cmp_total, levels_cmp_total, not_both}
@@ -60,7 +61,8 @@ module _ (old new : ℕ → Option Logged) (id : ℕ) (now : Logged) (starts : D
         holds = λ k at. absurd at;
         only = λ k at. elim at [ inl e ↦ inl e | inr no_more ↦ absurd no_more ];
       }
-  inserts (k ∷ ids) up = by_order (starts.ordered k up.0 (listed_other k (k ∷ ids) up (inl refl)) up.1 up.2) (inserts ids up.4)
+  inserts (k ∷ ids) up =
+      by_order (starts.ordered k up.0 (listed_other k (k ∷ ids) up (inl refl)) up.1 up.2) (inserts ids up.4)
     where
       by_order : Earlier up.0 now ⊎ Earlier now up.0 → Inserts old new id ids → Inserts old new id (k ∷ ids)
       by_order (inl before) rest =
@@ -76,7 +78,8 @@ module _ (old new : ℕ → Option Logged) (id : ℕ) (now : Logged) (starts : D
               ],
               rest.ascends,
             );
-            same_logs = (let one = starts.others k (listed_other k (k ∷ ids) up (inl refl)) in let r = rest.same_logs in cc);
+            same_logs =
+                (let one = starts.others k (listed_other k (k ∷ ids) up (inl refl)) in let r = rest.same_logs in cc);
             here = inr rest.here;
             holds = λ j at. elim at [ inl e ↦ inl e | inr later ↦ inr (rest.holds j later) ];
             only = λ j at. elim at [
@@ -108,7 +111,8 @@ module _ (old new : ℕ → Option Logged) (id : ℕ) (now : Logged) (starts : D
             only = λ j at. elim at [ inl e ↦ inl e | inr m ↦ inr m ];
           }
 
-  pub dispatch_keeps : (line : ℕ) (serial memory : List ℕ) → IsReplay line old serial memory → IsReplay line new serial memory
+  pub dispatch_keeps : (line : ℕ) (serial memory : List ℕ) → IsReplay line old serial memory
+      → IsReplay line new serial memory
   dispatch_keeps line serial memory replay =
       let ins = inserts replay.ids replay.by_key.ascends in
       record {
@@ -142,10 +146,13 @@ module _ (old new : ℕ → Option Logged) (id : ℕ) (task : Logged) (leaves : 
         (let r = rest.1 in cc),
       )
 
-  pub commit_keeps : (line : ℕ) (serial memory : List ℕ) → IsReplay line old serial memory → Replays serial task.log × IsReplay line new (after_accesses serial task.log) memory
-  commit_keeps line serial memory replay = by_line replay.ids refl replay.by_key.ascends (replay.by_key.complete id task leaves.there leaves.dispatched)
+  pub commit_keeps : (line : ℕ) (serial memory : List ℕ) → IsReplay line old serial memory
+      → Replays serial task.log × IsReplay line new (after_accesses serial task.log) memory
+  commit_keeps line serial memory replay =
+      by_line replay.ids refl replay.by_key.ascends (replay.by_key.complete id task leaves.there leaves.dispatched)
     where
-      by_line : (ids : List ℕ) → replay.ids ≡ ids → Ascends old ids → In id ids → Replays serial task.log × IsReplay line new (after_accesses serial task.log) memory
+      by_line : (ids : List ℕ) → replay.ids ≡ ids → Ascends old ids → In id ids
+          → Replays serial task.log × IsReplay line new (after_accesses serial task.log) memory
       by_line [] is up at = absurd at
       by_line (k ∷ ids) is up at = by_head (cases_eq k id)
         where
@@ -173,8 +180,12 @@ module _ (old new : ℕ → Option Logged) (id : ℕ) (task : Logged) (leaves : 
                           elim was [ inl e ↦ absurd (differs (e ∙ here)) | inr later ↦ later ]
                     ];
                   };
-                  replays = subst (Replays (after_accesses serial task.log)) (sym rest.1) (Replays-back serial task.log (logs old ids) chain);
-                  memory_is = replay.memory_is ∙ ap (after_accesses serial) all ∙ after_accesses-append serial task.log (logs old ids) ∙ ap (after_accesses (after_accesses serial task.log)) (sym rest.1);
+                  replays =
+                      subst (Replays (after_accesses serial task.log)) (sym rest.1) (Replays-back serial task.log (logs old ids) chain);
+                  memory_is =
+                      replay.memory_is ∙ ap (after_accesses serial) all
+                      ∙ after_accesses-append serial task.log (logs old ids)
+                      ∙ ap (after_accesses (after_accesses serial task.log)) (sym rest.1);
                   noted = λ j x there. elim (cases_eq j id) [
                     | inl gone ↦ absurd (cc (leaves.gone, ap new gone, there))
                     | inr differs ↦ subst (λ n. IsNoted n line x) (sym (length-after_accesses serial task.log)) (replay.noted j x (sym (leaves.others j differs) ∙ there))

@@ -12,12 +12,14 @@ pub noted_empty : (size line : ℕ) (task : Logged) → task.log ≡ [] → IsNo
 noted_empty size line task empty = subst (AreNotedInFilter size line task.touched task.wrote) (sym empty) tt
 
 module _ (old new : ℕ → Option Logged) (keeps : KeepsDispatched old new) where
-  stays_there : (id : ℕ) (ids : List ℕ) → Ascends old ids → In id ids → (task : Logged) × (old id ≡ Some task) × (new id ≡ Some task)
+  stays_there : (id : ℕ) (ids : List ℕ) → Ascends old ids → In id ids
+      → (task : Logged) × (old id ≡ Some task) × (new id ≡ Some task)
   stays_there id ids up at =
       let runs = member_dispatched old id ids at up in
       (runs.0, runs.1, (keeps.stay id runs.0 runs.2).0 runs.1)
 
-  was_there : (id : ℕ) (other : Logged) (ids : List ℕ) → Ascends old ids → In id ids → new id ≡ Some other → old id ≡ Some other
+  was_there : (id : ℕ) (other : Logged) (ids : List ℕ) → Ascends old ids → In id ids → new id ≡ Some other
+      → old id ≡ Some other
   was_there id other ids up at there =
       let stays = stays_there id ids up at in
       stays.1 ∙ sym stays.2 ∙ there
@@ -39,7 +41,8 @@ module _ (old new : ℕ → Option Logged) (keeps : KeepsDispatched old new) whe
     same_ascent ids up.4,
   )
 
-  pub idle_keeps : (line : ℕ) (serial memory : List ℕ) → IsReplay line old serial memory → IsReplay line new serial memory
+  pub idle_keeps : (line : ℕ) (serial memory : List ℕ) → IsReplay line old serial memory
+      → IsReplay line new serial memory
   idle_keeps line serial memory replay =
       let same = same_logs replay.ids replay.by_key.ascends in
       record {
@@ -54,11 +57,14 @@ module _ (old new : ℕ → Option Logged) (keeps : KeepsDispatched old new) whe
         bytes = replay.bytes;
       }
     where
-      by_place : (id : ℕ) (task : Logged) → new id ≡ Some task → (b : Bool) → task.dispatched ≡ b → IsNoted (length serial) line task
+      by_place : (id : ℕ) (task : Logged) → new id ≡ Some task → (b : Bool) → task.dispatched ≡ b
+          → IsNoted (length serial) line task
       by_place id task there true runs = replay.noted id task ((keeps.stay id task runs).1 there)
       by_place id task there false idle = noted_empty (length serial) line task (keeps.idle id task there idle)
 
-pub none_chained : (line : ℕ) (tasks : ℕ → Option Logged) (serial : List ℕ) → AreBytes serial → ((id : ℕ) (task : Logged) → tasks id ≡ Some task → (task.dispatched ≡ false) × (task.log ≡ [])) → IsReplay line tasks serial serial
+pub none_chained : (line : ℕ) (tasks : ℕ → Option Logged) (serial : List ℕ) → AreBytes serial
+    → ((id : ℕ) (task : Logged) → tasks id ≡ Some task → (task.dispatched ≡ false) × (task.log ≡ []))
+    → IsReplay line tasks serial serial
 none_chained line tasks serial bytes idle =
     record {
       ids = [];

@@ -24,7 +24,8 @@ before_later size o w b c some access earlier =
     let below : o < 4 * (c * (o / (4 * c) + 1)) = omega (arith, div-add-mod o (4 * c)) in
     omega (arith, ends_within size o w (c * (o / (4 * c) + 1)) access below)
 
-fours_apart : (size o w b u c : ℕ) → 0 < c → IsAccessible size o w → IsAccessible size b u → o / (4 * c) ≢ b / (4 * c) → Apart o w b u
+fours_apart : (size o w b u c : ℕ) → 0 < c → IsAccessible size o w → IsAccessible size b u → o / (4 * c) ≢ b / (4 * c)
+    → Apart o w b u
 fours_apart size o w b u c some first second differ =
     let split : (o / (4 * c) < b / (4 * c)) ⊎ (b / (4 * c) < o / (4 * c)) = grind arith in
     elim split [
@@ -32,7 +33,8 @@ fours_apart size o w b u c some first second differ =
       | inr later ↦ inr (before_later size b u o c some second later)
     ]
 
-pub lines_apart : (size o w b u line : ℕ) → IsLineSize line → IsAccessible size o w → IsAccessible size b u → o / line ≢ b / line → Apart o w b u
+pub lines_apart : (size o w b u line : ℕ) → IsLineSize line → IsAccessible size o w → IsAccessible size b u
+    → o / line ≢ b / line → Apart o w b u
 lines_apart size o w b u line sized first second differ =
     let quarters : 4 * (line / 4) ≡ line = omega (arith, div-add-mod line 4, sized.fours) in
     let some : 0 < line / 4 = omega (arith, sized.some, quarters) in

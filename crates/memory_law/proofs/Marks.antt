@@ -17,7 +17,8 @@ ApartIfStore offset width at size (Some value) = Apart offset width at size
 -- no store of the log shares a byte with the range
 abbrev pub Unwritten : ℕ → ℕ → List Access → Type 0
 Unwritten offset width [] = Unit {0}
-Unwritten offset width (access ∷ log) = ApartIfStore offset width access.offset access.width access.new × Unwritten offset width log
+Unwritten offset width (access ∷ log) =
+    ApartIfStore offset width access.offset access.width access.new × Unwritten offset width log
 
 -- no access of the later log shares a byte with this one, if it is a store
 abbrev pub UntouchedIfStore : ℕ → ℕ → Option ℕ → List Access → Type 0

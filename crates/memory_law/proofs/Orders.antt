@@ -16,20 +16,23 @@ module _ (tasks : ℕ → Option Logged) where
       not_self up.0 (up.3 k up.0 at (ap tasks same ∙ up.1))
 
   -- what stands in both lists, and is not first, stands behind the firsts
-  rest_within : (x : ℕ) (ids others : List ℕ) → Ascends tasks (x ∷ ids) → Within (x ∷ ids) (x ∷ others) → Within ids others
+  rest_within : (x : ℕ) (ids others : List ℕ) → Ascends tasks (x ∷ ids) → Within (x ∷ ids) (x ∷ others)
+      → Within ids others
   rest_within x ids others up within k at = elim (within k (inr at)) [
     | inl here ↦ absurd (not_again x k ids up at here)
     | inr later ↦ later
   ]
 
   -- the firsts are one, since each would be earlier than the other
-  same_first : (x y : ℕ) (ids others : List ℕ) → Ascends tasks (x ∷ ids) → Ascends tasks (y ∷ others) → In x (y ∷ others) → In y (x ∷ ids) → x ≡ y
+  same_first : (x y : ℕ) (ids others : List ℕ) → Ascends tasks (x ∷ ids) → Ascends tasks (y ∷ others)
+      → In x (y ∷ others) → In y (x ∷ ids) → x ≡ y
   same_first x y ids others up up' (inl here) there = here
   same_first x y ids others up up' (inr later) (inl here) = sym here
   same_first x y ids others up up' (inr later) (inr later') =
       absurd (not_both level_cmp level_cmp_total up.0.levels up'.0.levels (up.3 y up'.0 later' up'.1) (up'.3 x up.0 later up.1))
 
-  same_order : (ids others : List ℕ) → Ascends tasks ids → Ascends tasks others → Within ids others → Within others ids → ids ≡ others
+  same_order : (ids others : List ℕ) → Ascends tasks ids → Ascends tasks others → Within ids others → Within others ids
+      → ids ≡ others
   same_order [] [] up up' one two = refl
   same_order [] (y ∷ others) up up' one two = absurd (two y (inl refl))
   same_order (x ∷ ids) [] up up' one two = absurd (one x (inl refl))
@@ -48,4 +51,5 @@ module _ (tasks : ℕ → Option Logged) where
       two.complete k runs.0 runs.1 runs.2
 
   pub one_order : (ids others : List ℕ) → IsByKey tasks ids → IsByKey tasks others → ids ≡ others
-  one_order ids others one two = same_order ids others one.ascends two.ascends (all_within ids others one two) (all_within others ids two one)
+  one_order ids others one two =
+      same_order ids others one.ascends two.ascends (all_within ids others one two) (all_within others ids two one)

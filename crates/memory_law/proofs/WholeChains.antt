@@ -5,7 +5,9 @@ use Rattle.memory_law.specs.ByteChain.{byte_accesses, IsByteChain}
 use Rattle.memory_law.specs.Accesses.{after_accesses}
 use Rattle.memory_law.specs.Tasks.{Logged, logs, undone_set}
 use Rattle.memory_law.specs.Chain.{IsChained, IsReplay}
-use Rattle.memory_law.specs.Laws.{ChainIsReplay, LoadKeepsChain, StoreKeepsChain, AbortKeepsChain, DispatchKeepsChain, CommitKeepsChain, AllLogsUndoneIsSerial, UndispatchedIsChained, IdleTasksKeepChain, LatestFirst, LinesShareNoByte, NoConflictIsLeft}
+use Rattle.memory_law.specs.Laws.{ChainIsReplay, LoadKeepsChain, StoreKeepsChain, AbortKeepsChain, DispatchKeepsChain}
+use Rattle.memory_law.specs.Laws.{CommitKeepsChain, AllLogsUndoneIsSerial, UndispatchedIsChained, IdleTasksKeepChain}
+use Rattle.memory_law.specs.Laws.{LatestFirst, LinesShareNoByte, NoConflictIsLeft}
 use Rattle.memory_law.proofs.Joins.{length-after_accesses}
 use Rattle.memory_law.proofs.ByteChains.{inside-of_replay, bytes-of_replay, replay-of_bytes}
 use Rattle.memory_law.proofs.Orders.{one_order}
@@ -29,7 +31,8 @@ module _ (line : ℕ) (tasks : ℕ → Option Logged) (serial memory : List ℕ)
         by_key = r.by_key;
         inside = inside-of_replay serial (logs tasks r.ids) r.bytes r.replays;
         size = ap length r.memory_is ∙ length-after_accesses serial (logs tasks r.ids);
-        chain = λ k. subst (λ m. IsByteChain (slice_index serial k) (byte_accesses k (logs tasks r.ids)) (slice_index m k)) (sym r.memory_is) (bytes-of_replay serial (logs tasks r.ids) k r.bytes r.replays);
+        chain =
+            λ k. subst (λ m. IsByteChain (slice_index serial k) (byte_accesses k (logs tasks r.ids)) (slice_index m k)) (sym r.memory_is) (bytes-of_replay serial (logs tasks r.ids) k r.bytes r.replays);
         noted = r.noted;
         bytes = r.bytes;
       }
@@ -67,7 +70,8 @@ all_undone_is_serial line tasks ids serial memory by_key chained =
     subst (λ order. undone_set (λ id. true) tasks order memory ≡ serial) same (all_back line tasks serial memory replay)
 
 pub undispatched_is_chained : UndispatchedIsChained
-undispatched_is_chained line tasks serial bytes idle = to_chain line tasks serial serial (none_chained line tasks serial bytes idle)
+undispatched_is_chained line tasks serial bytes idle =
+    to_chain line tasks serial serial (none_chained line tasks serial bytes idle)
 
 pub idle_tasks_keep_chain : IdleTasksKeepChain
 idle_tasks_keep_chain line old new serial memory keeps chained =
@@ -78,7 +82,8 @@ latest_is_first set tasks id task ids memory by_key latest =
     latest_first set tasks id task latest ids memory by_key.ascends (by_key.complete id task latest.there latest.dispatched)
 
 pub lines_share_no_byte : LinesShareNoByte
-lines_share_no_byte size line offset width other wide sized first second differ = lines_apart size offset width other wide line sized first second differ
+lines_share_no_byte size line offset width other wide sized first second differ =
+    lines_apart size offset width other wide line sized first second differ
 
 pub no_conflict_is_left : NoConflictIsLeft
 no_conflict_is_left set old new task at takes = (
@@ -86,13 +91,15 @@ no_conflict_is_left set old new task at takes = (
   λ holds k other there runs later. by_answer k other there runs (other.touched at) (other.touched at) refl (holds k other (was k other there runs) runs later),
 )
   where
-    stays : (k : ℕ) (other : Logged) → new k ≡ Some other → other.dispatched ≡ true → (b : Bool) → set k ≡ b → set k ≡ false
+    stays : (k : ℕ) (other : Logged) → new k ≡ Some other → other.dispatched ≡ true → (b : Bool) → set k ≡ b
+        → set k ≡ false
     stays k other there runs true is = absurd (cc ((takes.members k other is there).0, runs))
     stays k other there runs false is = is
 
     was : (k : ℕ) (other : Logged) → new k ≡ Some other → other.dispatched ≡ true → old k ≡ Some other
     was k other there runs = sym (takes.others k (stays k other there runs (set k) refl)) ∙ there
 
-    by_answer : (k : ℕ) (other : Logged) → new k ≡ Some other → other.dispatched ≡ true → (answer : Bool) → (b : Bool) → answer ≡ b → (answer ≡ true → set k ≡ true) → answer ≡ false
+    by_answer : (k : ℕ) (other : Logged) → new k ≡ Some other → other.dispatched ≡ true → (answer : Bool) → (b : Bool)
+        → answer ≡ b → (answer ≡ true → set k ≡ true) → answer ≡ false
     by_answer k other there runs answer true is member = absurd (cc (member is, stays k other there runs (set k) refl))
     by_answer k other there runs answer false is member = is

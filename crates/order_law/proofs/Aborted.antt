@@ -1,5 +1,6 @@
 -- An abort keeps the order.
-use Rattle.std.proofs.Common.{◌≡◌, ◌⊎◌, ℕ, Bool, true, false, List, [], ◌∷◌, ◌++◌, Option, Some, None, refl, sym, ap, subst, ◌∙◌, inl, inr}
+use Rattle.std.proofs.Common.{◌≡◌, ◌⊎◌, ℕ, Bool, true, false, List, [], ◌∷◌, ◌++◌, Option, Some, None, refl, sym, ap}
+use Rattle.std.proofs.Common.{subst, ◌∙◌, inl, inr}
 use Rattle.std.specs.Ordering.{ordering_then}
 use Rattle.std.specs.declared.cmp.Ordering.TheVariants.{Less, Equal}
 use Rattle.std.specs.Cmp.Lexicographic.{slice_cmp}
@@ -11,7 +12,8 @@ use Rattle.order_law.specs.Events.{with_open_level, AbortsInKeys}
 use Rattle.fractal_vt.proofs.Proved.{level_cmp_total, levels_cmp_total, same_front, same_number}
 
 -- a key is below the same key with an open tiebreaker
-pub rises : (ds : List Open) (l : Open) (n : ℕ) → l.tb ≡ Some n → slice_cmp level_cmp (ds ++ l ∷ []) (ds ++ record { ts = l.ts; tb = None } ∷ []) ≡ Less
+pub rises : (ds : List Open) (l : Open) (n : ℕ) → l.tb ≡ Some n
+    → slice_cmp level_cmp (ds ++ l ∷ []) (ds ++ record { ts = l.ts; tb = None } ∷ []) ≡ Less
 rises ds l n closed =
     same_front level_cmp level_cmp_total ds (l ∷ []) (record { ts = l.ts; tb = None } ∷ [])
     ∙ ap (λ o. ordering_then o Equal) (last ∙ refl)
@@ -20,38 +22,53 @@ rises ds l n closed =
     last = ap (λ o. ordering_then o (tie_cmp l.tb None)) (same_number l.ts) ∙ ap (λ t. tie_cmp t None) closed
 
 -- what is below a task is below it once it is open again
-pub below_reopened : (xs : List Open) (task : Keyed) → levels_cmp xs (levels_of task) ≡ Less → levels_cmp xs (levels_of (with_open_level task)) ≡ Less
+pub below_reopened : (xs : List Open) (task : Keyed) → levels_cmp xs (levels_of task) ≡ Less
+    → levels_cmp xs (levels_of (with_open_level task)) ≡ Less
 below_reopened xs task below = by_tie task.last.tb refl
   where
     by_tie : (t : Option ℕ) → task.last.tb ≡ t → levels_cmp xs (levels_of (with_open_level task)) ≡ Less
-    by_tie None open' = sym (ap (λ t. levels_cmp xs (task.domain ++ record { ts = task.last.ts; tb = t } ∷ [])) open') ∙ below
-    by_tie (Some n) closed = levels_cmp_total.trans xs (levels_of task) (levels_of (with_open_level task)) below (rises task.domain task.last n closed)
+    by_tie None open' =
+        sym (ap (λ t. levels_cmp xs (task.domain ++ record { ts = task.last.ts; tb = t } ∷ [])) open') ∙ below
+    by_tie (Some n) closed =
+        levels_cmp_total.trans xs (levels_of task) (levels_of (with_open_level task)) below (rises task.domain task.last n closed)
 
-path_reopened : (path ds : List Open) (l : Open) → OnPath level_cmp path ds l → OnPath level_cmp path ds (record { ts = l.ts; tb = None })
+path_reopened : (path ds : List Open) (l : Open) → OnPath level_cmp path ds l
+    → OnPath level_cmp path ds (record { ts = l.ts; tb = None })
 path_reopened [] [] l on = tt
 path_reopened (p ∷ path) [] l on = by_tie l.tb refl
   where
     by_tie : (t : Option ℕ) → l.tb ≡ t → level_cmp p (record { ts = l.ts; tb = None }) ≡ Less
     by_tie None open' = sym (ap (λ t. level_cmp p (record { ts = l.ts; tb = t })) open') ∙ on
-    by_tie (Some n) closed = level_cmp_total.trans p l (record { ts = l.ts; tb = None }) on (ap (λ o. ordering_then o (tie_cmp l.tb None)) (same_number l.ts) ∙ ap (λ t. tie_cmp t None) closed)
+    by_tie (Some n) closed =
+        level_cmp_total.trans p l (record { ts = l.ts; tb = None }) on (ap (λ o. ordering_then o (tie_cmp l.tb None)) (same_number l.ts) ∙ ap (λ t. tie_cmp t None) closed)
 path_reopened [] (d ∷ ds) l on = absurd on
 path_reopened (p ∷ path) (d ∷ ds) l on = (on.0, path_reopened path ds l on.1)
 
 module _ (set : ℕ → Bool) (old new : ℕ → Option Keyed) (path : List Open) (next : ℕ) (aborts : AbortsInKeys set old new) (ordered : IsOrdered old path next) where
   -- what a task is now, it was before, or it is a member that stays
-  which : (k : ℕ) (x : Keyed) → new k ≡ Some x → ((set k ≡ false) × (old k ≡ Some x)) ⊎ ((y : Keyed) × (set k ≡ true) × (old k ≡ Some y) × (x ≡ with_open_level y) × ((c : ℕ) → y.creator ≡ Some c → set c ≡ false))
+  which : (k : ℕ) (x : Keyed) → new k ≡ Some x
+      → ((set k ≡ false) × (old k ≡ Some x)) ⊎ ((y : Keyed) × (set k ≡ true) × (old k ≡ Some y) × (x ≡ with_open_level y) × ((c : ℕ) → y.creator ≡ Some c → set c ≡ false))
   which k x at = by_mark (set k) refl
     where
-      by_mark : (b : Bool) → set k ≡ b → ((set k ≡ false) × (old k ≡ Some x)) ⊎ ((y : Keyed) × (set k ≡ true) × (old k ≡ Some y) × (x ≡ with_open_level y) × ((c : ℕ) → y.creator ≡ Some c → set c ≡ false))
+      by_mark : (b : Bool) → set k ≡ b
+          → ((set k ≡ false) × (old k ≡ Some x)) ⊎ ((y : Keyed) × (set k ≡ true) × (old k ≡ Some y) × (x ≡ with_open_level y) × ((c : ℕ) → y.creator ≡ Some c → set c ≡ false))
       by_mark true is = let m = aborts.members k x is at in inr (m.0, is, m.1, m.2, m.3)
       by_mark false is = inl (is, sym (aborts.others k is) ∙ at)
 
   no_number : (x y : Keyed) (n : ℕ) → x ≡ with_open_level y → HasNumber x n → ⊥
   no_number x y n is has = let off : None ≡ Some n = sym (ap (λ z. z.last.tb) is) ∙ has in cc
 
-  kept_creator : (creator : ℕ) (child : Keyed) → set creator ≡ false → HasCreator old creator child → HasCreator new creator child
+  kept_creator : (creator : ℕ) (child : Keyed) → set creator ≡ false → HasCreator old creator child
+      → HasCreator new creator child
   kept_creator creator child out has =
-      record { task = has.task; there = aborts.others creator out ∙ has.there; number = has.number; dispatched = has.dispatched; below = has.below; kin = has.kin }
+      record {
+        task = has.task;
+        there = aborts.others creator out ∙ has.there;
+        number = has.number;
+        dispatched = has.dispatched;
+        below = has.below;
+        kin = has.kin;
+      }
 
   out_of_child : (k c : ℕ) (x : Keyed) → old k ≡ Some x → x.creator ≡ Some c → set k ≡ false → set c ≡ false
   out_of_child k c x at parent out = by_mark (set c) refl
@@ -105,5 +122,6 @@ module _ (set : ℕ → Bool) (old new : ℕ → Option Keyed) (path : List Open
         ];
       }
 
-pub abort_law : (set : ℕ → Bool) (old new : ℕ → Option Keyed) (path : List Open) (next : ℕ) → AbortsInKeys set old new → IsOrdered old path next → IsOrdered new path next
+pub abort_law : (set : ℕ → Bool) (old new : ℕ → Option Keyed) (path : List Open) (next : ℕ) → AbortsInKeys set old new
+    → IsOrdered old path next → IsOrdered new path next
 abort_law = abort_keeps_order

@@ -10,7 +10,8 @@ use Rattle.order_law.specs.Heir.{IsAbove, PullsLater}
 
 module _ (tasks : ℕ → Option Keyed) (count : ℕ) (pull : ℕ → ℕ → Bool) (path : List Open) (next : ℕ) (ordered : IsOrdered tasks path next) (later : PullsLater tasks pull) (firsts : ℕ → Type 0) (low : List Open) (first_above : (k : ℕ) → firsts k → IsAbove tasks low k) where
   -- a child is above its creator too
-  rises : (a b : ℕ) → pull a b ≡ true → (x : Keyed) × (y : Keyed) × (tasks a ≡ Some x) × (tasks b ≡ Some y) × (levels_cmp (levels_of x) (levels_of y) ≡ Less)
+  rises : (a b : ℕ) → pull a b ≡ true
+      → (x : Keyed) × (y : Keyed) × (tasks a ≡ Some x) × (tasks b ≡ Some y) × (levels_cmp (levels_of x) (levels_of y) ≡ Less)
   rises a b pulled =
       let up = later a b pulled in
       elim up.4 [
@@ -29,7 +30,8 @@ module _ (tasks : ℕ → Option Keyed) (count : ℕ) (pull : ℕ → ℕ → Bo
       (up.1, up.3, levels_cmp_total.trans low (levels_of up.0) (levels_of up.1) (subst (λ t. levels_cmp low (levels_of t) ≡ Less) eq before.2) up.4)
 
   -- a task with these levels is in no such cascade
-  pub low_stays : (marks : List Bool) (id : ℕ) (task : Keyed) → tasks id ≡ Some task → levels_of task ≡ low → IsLeastClosed count pull firsts marks → Marked marks id → ⊥
+  pub low_stays : (marks : List Bool) (id : ℕ) (task : Keyed) → tasks id ≡ Some task → levels_of task ≡ low
+      → IsLeastClosed count pull firsts marks → Marked marks id → ⊥
   low_stays marks id task there is least marked =
       let above = reached_above id (least.reached id marked) in
       let both : Some above.0 ≡ Some task = sym above.1 ∙ there in
@@ -38,13 +40,15 @@ module _ (tasks : ℕ → Option Keyed) (count : ℕ) (pull : ℕ → ℕ → Bo
       not_both level_cmp level_cmp_total low low self self
 
 pub cascade_law : (tasks : ℕ → Option Keyed) (path : List Open) (next count : ℕ) (pull : ℕ → ℕ → Bool) (firsts : ℕ → Type 0) (marks : List Bool) (low : List Open)
-    → IsOrdered tasks path next → PullsLater tasks pull → IsLeastClosed count pull firsts marks → ((k : ℕ) → firsts k → IsAbove tasks low k)
+    → IsOrdered tasks path next → PullsLater tasks pull → IsLeastClosed count pull firsts marks
+    → ((k : ℕ) → firsts k → IsAbove tasks low k)
     → (k : ℕ) → Marked marks k → IsAbove tasks low k
 cascade_law tasks path next count pull firsts marks low ordered later least first_above k marked =
     reached_above tasks count pull path next ordered later firsts low first_above k (least.reached k marked)
 
 pub spares_law : (tasks : ℕ → Option Keyed) (path : List Open) (next count : ℕ) (pull : ℕ → ℕ → Bool) (firsts : ℕ → Type 0) (marks : List Bool) (id : ℕ) (task : Keyed)
-    → IsOrdered tasks path next → PullsLater tasks pull → IsLeastClosed count pull firsts marks → tasks id ≡ Some task → ((k : ℕ) → firsts k → IsAbove tasks (levels_of task) k)
+    → IsOrdered tasks path next → PullsLater tasks pull → IsLeastClosed count pull firsts marks → tasks id ≡ Some task
+    → ((k : ℕ) → firsts k → IsAbove tasks (levels_of task) k)
     → Marked marks id → ⊥
 spares_law tasks path next count pull firsts marks id task ordered later least there first_above =
     low_stays tasks count pull path next ordered later firsts

@@ -1,5 +1,6 @@
 -- A commit of the least task keeps the order.
-use Rattle.std.proofs.Common.{◌≡◌, ◌≢◌, ◌⊎◌, ℕ, ◌<◌, List, [], ◌∷◌, ◌++◌, Option, Some, None, refl, sym, ap, subst, ◌∙◌, inl, inr, arith}
+use Rattle.std.proofs.Common.{◌≡◌, ◌≢◌, ◌⊎◌, ℕ, ◌<◌, List, [], ◌∷◌, ◌++◌, Option, Some, None, refl, sym, ap, subst, ◌∙◌}
+use Rattle.std.proofs.Common.{inl, inr, arith}
 use Rattle.std.proofs.lemmas.List.{length-append}
 use Rattle.std.proofs.lemmas.Bool.{cases_eq}
 use Rattle.std.specs.declared.cmp.Ordering.TheVariants.{Less}
@@ -8,20 +9,23 @@ use Rattle.fractal_vt.specs.Paths.{OnPath, Below}
 use Rattle.order_law.specs.Tasks.{Keyed, levels_of, HasNumber, Kin}
 use Rattle.order_law.specs.Ordered.{TieBelow, LevelsBelow, IsNumberOf, HasCreator, IsShaped, IsOrdered}
 use Rattle.order_law.specs.Events.{without_creator, CommitsInKeys, IsLeastInKeys}
-use Rattle.fractal_vt.proofs.Proved.{level_cmp_total, not_both, same_child_on_path, stays_on_path, sub_child_on_path, super_child_on_path}
+use Rattle.fractal_vt.proofs.Proved.{level_cmp_total, not_both, same_child_on_path, stays_on_path, sub_child_on_path}
+use Rattle.fractal_vt.proofs.Proved.{super_child_on_path}
 use Rattle.fractal_vt.proofs.Proved.{cases_some}
 use Rattle.order_law.proofs.Least.{IsBelowAll, least_is_below}
 use Rattle.order_law.proofs.Numbers.{LevelsBelow-append, number_in, differ_more, domain_in_path, domain_differs}
 
 module _ (old new : ℕ → Option Keyed) (path : List Open) (next id n : ℕ) (task : Keyed) (there : old id ≡ Some task) (number : HasNumber task n) (least : IsBelowAll old id task) (commits : CommitsInKeys old new id) (ordered : IsOrdered old path next) where
   -- what a task is now, it was before, or it was a child
-  which : (k : ℕ) (x : Keyed) → new k ≡ Some x → ((k ≢ id) × (old k ≡ Some x) × (x.creator ≢ Some id)) ⊎ ((y : Keyed) × (k ≢ id) × (old k ≡ Some y) × (y.creator ≡ Some id) × (x ≡ without_creator y))
+  which : (k : ℕ) (x : Keyed) → new k ≡ Some x
+      → ((k ≢ id) × (old k ≡ Some x) × (x.creator ≢ Some id)) ⊎ ((y : Keyed) × (k ≢ id) × (old k ≡ Some y) × (y.creator ≡ Some id) × (x ≡ without_creator y))
   which k x at = elim (cases_eq k id) [
     | inl here ↦ absurd (cc (commits.gone, ap new here, at))
     | inr other ↦ by_old (old k) refl other
   ]
     where
-      by_old : (o : Option Keyed) → old k ≡ o → k ≢ id → ((k ≢ id) × (old k ≡ Some x) × (x.creator ≢ Some id)) ⊎ ((y : Keyed) × (k ≢ id) × (old k ≡ Some y) × (y.creator ≡ Some id) × (x ≡ without_creator y))
+      by_old : (o : Option Keyed) → old k ≡ o → k ≢ id
+          → ((k ≢ id) × (old k ≡ Some x) × (x.creator ≢ Some id)) ⊎ ((y : Keyed) × (k ≢ id) × (old k ≡ Some y) × (y.creator ≡ Some id) × (x ≡ without_creator y))
       by_old None was other = absurd (cc (commits.none k was, at))
       by_old (Some y) was other = elim (cases_some y.creator id) [
         | inl child ↦ let same : Some (without_creator y) ≡ Some x = sym (commits.children k y other was child) ∙ at in inr (y, other, was, child, cc)
@@ -48,13 +52,15 @@ module _ (old new : ℕ → Option Keyed) (path : List Open) (next id n : ℕ) (
             | inr other ↦ absurd (not_both level_cmp level_cmp_total (levels_of task) (levels_of has.task) (least c has.task other has.there) has.below)
           ]
 
-  kept_creator : (creator : ℕ) (child : Keyed) → creator ≢ id → HasCreator old creator child → HasCreator new creator child
+  kept_creator : (creator : ℕ) (child : Keyed) → creator ≢ id → HasCreator old creator child
+      → HasCreator new creator child
   kept_creator creator child other has = elim (cases_some has.task.creator id) [
     | inl parent ↦ record { task = without_creator has.task; there = commits.children creator has.task other has.there parent; number = has.number; dispatched = has.dispatched; below = has.below; kin = has.kin }
     | inr free ↦ record { task = has.task; there = commits.others creator has.task other has.there free; number = has.number; dispatched = has.dispatched; below = has.below; kin = has.kin }
   ]
 
-  child_on_path : (child : Keyed) → Kin task child → levels_cmp (levels_of task) (levels_of child) ≡ Less → OnPath level_cmp (levels_of task) child.domain child.last
+  child_on_path : (child : Keyed) → Kin task child → levels_cmp (levels_of task) (levels_of child) ≡ Less
+      → OnPath level_cmp (levels_of task) child.domain child.last
   child_on_path child kin below = elim kin [
     | inl same ↦
         let below' : Below level_cmp task.domain task.last task.domain child.last = ap (λ d. levels_cmp (levels_of task) (d ++ child.last ∷ [])) (sym same.0) ∙ below in
@@ -88,7 +94,8 @@ module _ (old new : ℕ → Option Keyed) (path : List Open) (next id n : ℕ) (
         path_numbers =
             let below : n < next = ordered.number_below id task n there number in
             LevelsBelow-append next task.domain task.last (ordered.domain_numbers id task there) (subst (TieBelow next) (sym number) below);
-        path_differs = differ_more task.domain task.last (domain_differs level_cmp path task.domain task.last task_on_path ordered.path_differs)
+        path_differs =
+            differ_more task.domain task.last (domain_differs level_cmp path task.domain task.last task_on_path ordered.path_differs)
             (λ m has inside. ordered.off_path id task m there has (domain_in_path level_cmp path task.domain task.last m task_on_path inside));
         off_path = λ k x m at has on. elim (which k x at) [
           | inl was ↦ off_new_path k x m was.0 was.1 has on
@@ -131,6 +138,8 @@ module _ (old new : ℕ → Option Keyed) (path : List Open) (next id n : ℕ) (
         ];
       }
 
-pub commit_law : (old new : ℕ → Option Keyed) (path : List Open) (next id n : ℕ) (task : Keyed) → IsLeastInKeys old id task → HasNumber task n → CommitsInKeys old new id → IsOrdered old path next → IsOrdered new (levels_of task) next
+pub commit_law : (old new : ℕ → Option Keyed) (path : List Open) (next id n : ℕ) (task : Keyed)
+    → IsLeastInKeys old id task → HasNumber task n → CommitsInKeys old new id → IsOrdered old path next
+    → IsOrdered new (levels_of task) next
 commit_law old new path next id n task least number commits ordered =
     commit_keeps_order old new path next id n task least.there number (least_is_below old path next id n task ordered least number) commits ordered

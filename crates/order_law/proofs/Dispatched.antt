@@ -1,5 +1,6 @@
 -- A dispatch keeps the order.
-use Rattle.std.proofs.Common.{◌≡◌, ◌≢◌, ◌⊎◌, ℕ, ◌+◌, ◌<◌, List, [], ◌∷◌, ◌++◌, Option, Some, None, refl, sym, ap, subst, ◌∙◌, inl, inr, arith}
+use Rattle.std.proofs.Common.{◌≡◌, ◌≢◌, ◌⊎◌, ℕ, ◌+◌, ◌<◌, List, [], ◌∷◌, ◌++◌, Option, Some, None, refl, sym, ap, subst}
+use Rattle.std.proofs.Common.{◌∙◌, inl, inr, arith}
 use Rattle.std.proofs.lemmas.Bool.{cases_eq}
 use Rattle.std.proofs.lemmas.Bool.Decides.{nat_tests}
 use Rattle.std.specs.Ordering.{nat_cmp, ordering_then}
@@ -17,27 +18,31 @@ abbrev pub Alike : {X : Type 0} → (X → X → Ordering) → X → X → List 
 Alike R l m [] = Unit {0}
 Alike R l m (x ∷ xs) = (R x l ≡ R x m) × Alike R l m xs
 
-pub cmp_alike : {X : Type 0} (R : X → X → Ordering) (l m : X) (xs ds : List X) → Alike R l m xs → slice_cmp R xs (ds ++ l ∷ []) ≡ slice_cmp R xs (ds ++ m ∷ [])
+pub cmp_alike : {X : Type 0} (R : X → X → Ordering) (l m : X) (xs ds : List X) → Alike R l m xs
+    → slice_cmp R xs (ds ++ l ∷ []) ≡ slice_cmp R xs (ds ++ m ∷ [])
 cmp_alike R l m [] [] alike = refl
 cmp_alike R l m [] (d ∷ ds) alike = refl
 cmp_alike R l m (x ∷ xs) [] alike = ap (λ o. ordering_then o (slice_cmp R xs [])) alike.0
 cmp_alike R l m (x ∷ xs) (d ∷ ds) alike = ap (ordering_then (R x d)) (cmp_alike R l m xs ds alike.1)
 
-pub path_alike : {X : Type 0} (R : X → X → Ordering) (l m : X) (path ds : List X) → Alike R l m path → OnPath R path ds l → OnPath R path ds m
+pub path_alike : {X : Type 0} (R : X → X → Ordering) (l m : X) (path ds : List X) → Alike R l m path
+    → OnPath R path ds l → OnPath R path ds m
 path_alike R l m [] [] alike on = tt
 path_alike R l m (p ∷ path) [] alike on = sym alike.0 ∙ on
 path_alike R l m [] (d ∷ ds) alike on = absurd on
 path_alike R l m (p ∷ path) (d ∷ ds) alike on = (on.0, path_alike R l m path ds alike.1 on.1)
 
 -- a number that is next compares with earlier ones as an open tiebreaker does
-next_alike : (ts next : ℕ) (x : Open) → TieBelow next x.tb → level_cmp x (record { ts = ts; tb = None }) ≡ level_cmp x (record { ts = ts; tb = Some next })
+next_alike : (ts next : ℕ) (x : Open) → TieBelow next x.tb
+    → level_cmp x (record { ts = ts; tb = None }) ≡ level_cmp x (record { ts = ts; tb = Some next })
 next_alike ts next x below = ap (ordering_then (nat_cmp x.ts ts)) (ties x.tb below)
   where
     ties : (tie : Option ℕ) → TieBelow next tie → tie_cmp tie None ≡ tie_cmp tie (Some next)
     ties None below' = absurd below'
     ties (Some n) below' = grind (arith, nat_tests)
 
-pub levels_alike : (ts next : ℕ) (xs : List Open) → LevelsBelow next xs → Alike level_cmp (record { ts = ts; tb = None }) (record { ts = ts; tb = Some next }) xs
+pub levels_alike : (ts next : ℕ) (xs : List Open) → LevelsBelow next xs
+    → Alike level_cmp (record { ts = ts; tb = None }) (record { ts = ts; tb = Some next }) xs
 levels_alike ts next [] below = tt
 levels_alike ts next (x ∷ xs) below = (next_alike ts next x below.0, levels_alike ts next xs below.1)
 
@@ -57,10 +62,18 @@ module _ (old new : ℕ → Option Keyed) (path : List Open) (next id : ℕ) (ta
   kept_creator : (creator : ℕ) (child : Keyed) → HasCreator old creator child → HasCreator new creator child
   kept_creator creator child has =
       let other : creator ≢ id = λ here. absurd (cc (has.there, has.dispatched, there, idle, ap old here)) in
-      record { task = has.task; there = changes.others creator other ∙ has.there; number = has.number; dispatched = has.dispatched; below = has.below; kin = has.kin }
+      record {
+        task = has.task;
+        there = changes.others creator other ∙ has.there;
+        number = has.number;
+        dispatched = has.dispatched;
+        below = has.below;
+        kin = has.kin;
+      }
 
   -- the levels of a creator have earlier numbers
-  creator_numbers : (creator : ℕ) (child : Keyed) (has : HasCreator old creator child) → LevelsBelow next (levels_of has.task)
+  creator_numbers : (creator : ℕ) (child : Keyed) (has : HasCreator old creator child)
+      → LevelsBelow next (levels_of has.task)
   creator_numbers creator child has =
       let below : has.number < next = ordered.number_below creator has.task has.number has.there has.dispatched in
       let tie : TieBelow next has.task.last.tb = subst (TieBelow next) (sym has.dispatched) below in
@@ -139,5 +152,7 @@ module _ (old new : ℕ → Option Keyed) (path : List Open) (next id : ℕ) (ta
         ];
       }
 
-pub dispatch_law : (old new : ℕ → Option Keyed) (path : List Open) (next : ℕ) → DispatchesInKeys old new next → IsOrdered old path next → IsOrdered new path (next + 1)
-dispatch_law old new path next d ordered = dispatch_keeps_order old new path next d.id d.task d.there d.idle d.changes ordered
+pub dispatch_law : (old new : ℕ → Option Keyed) (path : List Open) (next : ℕ) → DispatchesInKeys old new next
+    → IsOrdered old path next → IsOrdered new path (next + 1)
+dispatch_law old new path next d ordered =
+    dispatch_keeps_order old new path next d.id d.task d.there d.idle d.changes ordered

@@ -1,5 +1,6 @@
 -- The least task becomes the heir once it is dispatched, and stays so.
-use Rattle.std.proofs.Common.{◌≡◌, ◌≢◌, ℕ, Bool, true, false, List, [], ◌∷◌, ◌++◌, Option, Some, None, refl, sym, ap, subst, ◌∙◌, inl, inr}
+use Rattle.std.proofs.Common.{◌≡◌, ◌≢◌, ℕ, Bool, true, false, List, [], ◌∷◌, ◌++◌, Option, Some, None, refl, sym, ap}
+use Rattle.std.proofs.Common.{subst, ◌∙◌, inl, inr}
 use Rattle.std.proofs.lemmas.Bool.{cases_eq}
 use Rattle.std.specs.Ordering.{nat_cmp, ordering_then, ordering_reverse}
 use Rattle.std.specs.declared.cmp.Ordering.{Ordering}
@@ -18,29 +19,40 @@ use Rattle.order_law.proofs.Spawned.{enqueued_creator}
 use Rattle.order_law.proofs.Least.{least_is_below}
 use Rattle.order_law.proofs.Moved.{Renames, moved_renames}
 
-pub least_heir : (tasks : ℕ → Option Keyed) (path : List Open) (next id n : ℕ) (task : Keyed) → IsOrdered tasks path next → IsLeastInKeys tasks id task → HasNumber task n → IsHeirInKeys tasks id task
+pub least_heir : (tasks : ℕ → Option Keyed) (path : List Open) (next id n : ℕ) (task : Keyed)
+    → IsOrdered tasks path next → IsLeastInKeys tasks id task → HasNumber task n → IsHeirInKeys tasks id task
 least_heir tasks path next id n task ordered least number =
-    record { there = least.there; number = n; dispatched = number; least = least_is_below tasks path next id n task ordered least number }
+    record {
+      there = least.there;
+      number = n;
+      dispatched = number;
+      least = least_is_below tasks path next id n task ordered least number;
+    }
 
 less_upto : (a b c : List Open) → levels_cmp a b ≡ Less → levels_cmp b c ≢ Greater → levels_cmp a c ≡ Less
 less_upto a b c less upto = by_order (levels_cmp b c) refl
   where
     by_order : (o : Ordering) → levels_cmp b c ≡ o → levels_cmp a c ≡ Less
     by_order Less is = levels_cmp_total.trans a b c less is
-    by_order Equal is = tied (levels_cmp_total.antisymm a c) (levels_cmp_total.antisymm a b) (levels_cmp_total.congr c b a (levels_cmp_total.antisymm c b ∙ ap Rattle.std.specs.Ordering.ordering_reverse is))
+    by_order Equal is =
+        tied (levels_cmp_total.antisymm a c) (levels_cmp_total.antisymm a b) (levels_cmp_total.congr c b a (levels_cmp_total.antisymm c b ∙ ap Rattle.std.specs.Ordering.ordering_reverse is))
       where
-        tied : levels_cmp a c ≡ Rattle.std.specs.Ordering.ordering_reverse (levels_cmp c a) → levels_cmp a b ≡ Rattle.std.specs.Ordering.ordering_reverse (levels_cmp b a) → levels_cmp c a ≡ levels_cmp b a → levels_cmp a c ≡ Less
+        tied : levels_cmp a c ≡ Rattle.std.specs.Ordering.ordering_reverse (levels_cmp c a)
+            → levels_cmp a b ≡ Rattle.std.specs.Ordering.ordering_reverse (levels_cmp b a)
+            → levels_cmp c a ≡ levels_cmp b a → levels_cmp a c ≡ Less
         tied one two same = one ∙ ap Rattle.std.specs.Ordering.ordering_reverse same ∙ sym two ∙ less
     by_order Greater is = absurd (upto is)
 
 -- a dispatch makes the least task the heir: its number is below the open tiebreaker that it had
-pub dispatched_least_heir : (old new : ℕ → Option Keyed) (next : ℕ) (d : DispatchesInKeys old new next) → IsLeastInKeys old d.id d.task → IsHeirInKeys new d.id (with_dispatch_number d.task next)
+pub dispatched_least_heir : (old new : ℕ → Option Keyed) (next : ℕ) (d : DispatchesInKeys old new next)
+    → IsLeastInKeys old d.id d.task → IsHeirInKeys new d.id (with_dispatch_number d.task next)
 dispatched_least_heir old new next d least =
     record {
       there = d.changes.changed;
       number = next;
       dispatched = refl;
-      least = λ k x other at. less_upto (levels_of (with_dispatch_number d.task next)) (levels_of d.task) (levels_of x) falls (least.least k x (sym (d.changes.others k other) ∙ at));
+      least =
+          λ k x other at. less_upto (levels_of (with_dispatch_number d.task next)) (levels_of d.task) (levels_of x) falls (least.least k x (sym (d.changes.others k other) ∙ at));
     }
   where
     falls : levels_cmp (levels_of (with_dispatch_number d.task next)) (levels_of d.task) ≡ Less
@@ -55,7 +67,8 @@ module _ (old new : ℕ → Option Keyed) (path : List Open) (next heir : ℕ) (
       (subst (TieBelow next) (sym is.dispatched) (ordered.number_below heir task is.number is.there is.dispatched))
 
   -- a dispatch of another task
-  pub dispatch_keeps_heir : (id : ℕ) (x : Keyed) → old id ≡ Some x → x.last.tb ≡ None → Changes old new id (Some (with_dispatch_number x next)) → IsHeirInKeys new heir task
+  pub dispatch_keeps_heir : (id : ℕ) (x : Keyed) → old id ≡ Some x → x.last.tb ≡ None
+      → Changes old new id (Some (with_dispatch_number x next)) → IsHeirInKeys new heir task
   dispatch_keeps_heir id x there idle changes =
       let differs : heir ≢ id = λ here. absurd (cc (is.there, is.dispatched, ap old here, there, idle)) in
       record {
@@ -75,7 +88,8 @@ module _ (old new : ℕ → Option Keyed) (path : List Open) (next heir : ℕ) (
       }
 
   -- a new child
-  pub enqueue_leaves_heir : (id creator : ℕ) (child : Keyed) → old id ≡ None → Changes old new id (Some child) → HasCreator old creator child → IsHeirInKeys new heir task
+  pub enqueue_leaves_heir : (id creator : ℕ) (child : Keyed) → old id ≡ None → Changes old new id (Some child)
+      → HasCreator old creator child → IsHeirInKeys new heir task
   enqueue_leaves_heir id creator child vacant changes has =
       let differs : heir ≢ id = λ here. absurd (cc (is.there, ap old here, vacant)) in
       record {
@@ -107,7 +121,8 @@ module _ (old new : ℕ → Option Keyed) (path : List Open) (next heir : ℕ) (
         least = λ k y other at. by_mark k y other at (set k) refl;
       }
     where
-      by_mark : (k : ℕ) (y : Keyed) → k ≢ heir → new k ≡ Some y → (b : Bool) → set k ≡ b → levels_cmp (levels_of task) (levels_of y) ≡ Less
+      by_mark : (k : ℕ) (y : Keyed) → k ≢ heir → new k ≡ Some y → (b : Bool) → set k ≡ b
+          → levels_cmp (levels_of task) (levels_of y) ≡ Less
       by_mark k y other at true marked =
           let m = aborts.members k y marked at in
           subst (λ z. levels_cmp (levels_of task) (levels_of z) ≡ Less) (sym m.2) (below_reopened (levels_of task) m.0 (is.least k m.0 other m.1))
@@ -130,18 +145,26 @@ module _ (old new : ℕ → Option Keyed) (path : List Open) (next heir : ℕ) (
         ]);
       }
 
-pub dispatch_heir : (old new : ℕ → Option Keyed) (path : List Open) (next heir : ℕ) (task : Keyed) → DispatchesInKeys old new next → IsOrdered old path next → IsHeirInKeys old heir task → IsHeirInKeys new heir task
-dispatch_heir old new path next heir task d ordered is = dispatch_keeps_heir old new path next heir task ordered is d.id d.task d.there d.idle d.changes
+pub dispatch_heir : (old new : ℕ → Option Keyed) (path : List Open) (next heir : ℕ) (task : Keyed)
+    → DispatchesInKeys old new next → IsOrdered old path next → IsHeirInKeys old heir task → IsHeirInKeys new heir task
+dispatch_heir old new path next heir task d ordered is =
+    dispatch_keeps_heir old new path next heir task ordered is d.id d.task d.there d.idle d.changes
 
-pub enqueue_heir : (old new : ℕ → Option Keyed) (path : List Open) (next heir : ℕ) (task : Keyed) → EnqueuesInKeys old new → IsOrdered old path next → IsHeirInKeys old heir task → IsHeirInKeys new heir task
+pub enqueue_heir : (old new : ℕ → Option Keyed) (path : List Open) (next heir : ℕ) (task : Keyed)
+    → EnqueuesInKeys old new → IsOrdered old path next → IsHeirInKeys old heir task → IsHeirInKeys new heir task
 enqueue_heir old new path next heir task s ordered is =
     let stands = enqueued_creator old new path next s ordered in
     enqueue_leaves_heir old new path next heir task ordered is s.id s.creator s.child s.vacant s.changes
     (record { task = s.task; there = s.there; number = s.number; dispatched = s.dispatched; below = stands.below; kin = stands.kin })
 
-pub abort_heir : (set : ℕ → Bool) (old new : ℕ → Option Keyed) (path : List Open) (next heir : ℕ) (task : Keyed) → AbortsInKeys set old new → set heir ≡ false → IsOrdered old path next → IsHeirInKeys old heir task → IsHeirInKeys new heir task
-abort_heir set old new path next heir task aborts out ordered is = abort_keeps_heir old new path next heir task ordered is set out aborts
+pub abort_heir : (set : ℕ → Bool) (old new : ℕ → Option Keyed) (path : List Open) (next heir : ℕ) (task : Keyed)
+    → AbortsInKeys set old new → set heir ≡ false → IsOrdered old path next → IsHeirInKeys old heir task
+    → IsHeirInKeys new heir task
+abort_heir set old new path next heir task aborts out ordered is =
+    abort_keeps_heir old new path next heir task ordered is set out aborts
 
-pub move_heir : (bound : ℕ) (old new : ℕ → Option Keyed) (before after : List Keyed) (path : List Open) (next heir : ℕ) (task : Keyed) → MovesInKeys bound old new before after → IsOrdered (beside bound old before) path next → IsHeirInKeys (beside bound old before) heir task → IsHeirInKeys (beside bound new after) heir task
+pub move_heir : (bound : ℕ) (old new : ℕ → Option Keyed) (before after : List Keyed) (path : List Open) (next heir : ℕ) (task : Keyed)
+    → MovesInKeys bound old new before after → IsOrdered (beside bound old before) path next
+    → IsHeirInKeys (beside bound old before) heir task → IsHeirInKeys (beside bound new after) heir task
 move_heir bound old new before after path next heir task moves ordered is =
     rename_keeps_heir (beside bound old before) (beside bound new after) path next heir task ordered is (moved_renames bound old new before after moves)

@@ -1,5 +1,6 @@
 -- Each number of a domain is one of the path or that of a dispatched task: along creators, which are below their children.
-use Rattle.std.proofs.Common.{◌≡◌, ◌⊎◌, ℕ, zero, suc, ◌+◌, ◌<◌, ◌≤◌, Bool, true, false, List, [], ◌∷◌, ◌++◌, Option, Some, None, refl, sym, ap, subst, ◌∙◌, inl, inr, arith, if◌then◌else◌}
+use Rattle.std.proofs.Common.{◌≡◌, ◌⊎◌, ℕ, zero, suc, ◌+◌, ◌<◌, ◌≤◌, Bool, true, false, List, [], ◌∷◌, ◌++◌, Option}
+use Rattle.std.proofs.Common.{Some, None, refl, sym, ap, subst, ◌∙◌, inl, inr, arith, if◌then◌else◌}
 use Rattle.std.proofs.lemmas.Bool.{cases_eq}
 use Rattle.std.proofs.lemmas.Cmp.{tied_itself}
 use Rattle.std.specs.Ordering.{is_lt}
@@ -37,7 +38,8 @@ count_upto one two implies (suc n) =
     omega (arith, here, rest)
 
 -- fewer ids pass the first, where one that passes the second doesn't
-count_less : (one two : ℕ → Bool) → Implies one two → (k : ℕ) → one k ≡ false → two k ≡ true → (n : ℕ) → k < n → count_below one n < count_below two n
+count_less : (one two : ℕ → Bool) → Implies one two → (k : ℕ) → one k ≡ false → two k ≡ true → (n : ℕ) → k < n
+    → count_below one n < count_below two n
 count_less one two implies k out has zero low = absurd (omega (arith, low))
 count_less one two implies k out has (suc n) low = elim (cases_eq k n) [
   | inl here ↦
@@ -56,7 +58,8 @@ abbrev is_below : Keyed → Option Keyed → Bool
 is_below task None = false
 is_below task (Some x) = is_lt (levels_cmp (levels_of x) (levels_of task))
 
-below_more : (low task : Keyed) → levels_cmp (levels_of low) (levels_of task) ≡ Less → (o : Option Keyed) → is_below low o ≡ true → is_below task o ≡ true
+below_more : (low task : Keyed) → levels_cmp (levels_of low) (levels_of task) ≡ Less → (o : Option Keyed)
+    → is_below low o ≡ true → is_below task o ≡ true
 below_more low task less None is = is
 below_more low task less (Some x) is =
     ap is_lt (levels_cmp_total.trans (levels_of x) (levels_of low) (levels_of task) (less_from (levels_cmp (levels_of x) (levels_of low)) is) less)
@@ -68,9 +71,11 @@ number_in_front (x ∷ xs) l n (inl here) = inl here
 number_in_front (x ∷ xs) l n (inr later) = inr (number_in_front xs l n later)
 
 -- a number of a child's domain is one of its creator's domain, or the creator's own
-number_of_creator : (creator child : Keyed) (n : ℕ) → Kin creator child → IsNumberOf n child.domain → IsNumberOf n creator.domain ⊎ HasNumber creator n
+number_of_creator : (creator child : Keyed) (n : ℕ) → Kin creator child → IsNumberOf n child.domain
+    → IsNumberOf n creator.domain ⊎ HasNumber creator n
 number_of_creator creator child n (inl same) is = inl (subst (IsNumberOf n) same.0 is)
-number_of_creator creator child n (inr (inl sub)) is = number_in creator.domain creator.last n (subst (IsNumberOf n) sub.0 is)
+number_of_creator creator child n (inr (inl sub)) is =
+    number_in creator.domain creator.last n (subst (IsNumberOf n) sub.0 is)
 number_of_creator creator child n (inr (inr super)) is =
     inl (subst (IsNumberOf n) (sym super.1.0) (number_in_front child.domain super.0 n is))
 
@@ -97,18 +102,21 @@ module _ (bound : ℕ) (tasks : ℕ → Option Keyed) (path : List Open) (next :
       → ((c : ℕ) (has : HasCreator tasks c task) → IsNumberOf n has.task.domain → IsHeldNumber n) → IsHeldNumber n
   by_creator id task n at is before = by_option task.creator refl
     where
-      by_number : (c : ℕ) (has : HasCreator tasks c task) → IsNumberOf n has.task.domain ⊎ HasNumber has.task n → IsHeldNumber n
+      by_number : (c : ℕ) (has : HasCreator tasks c task) → IsNumberOf n has.task.domain ⊎ HasNumber has.task n
+          → IsHeldNumber n
       by_number c has (inl inside) = before c has inside
       by_number c has (inr own) = inr (c, has.task, has.there, own)
 
       by_option : (c : Option ℕ) → task.creator ≡ c → IsHeldNumber n
-      by_option None free = inl (domain_in_path level_cmp path task.domain task.last n (ordered.on_path id task at free) is)
+      by_option None free =
+          inl (domain_in_path level_cmp path task.domain task.last n (ordered.on_path id task at free) is)
       by_option (Some c) made =
           let has = ordered.creators id task c at made in
           by_number c has (number_of_creator has.task task n has.kin is)
 
   -- by the number of tasks below
-  held_within : (fuel id : ℕ) (task : Keyed) (n : ℕ) → rank_of task < fuel → tasks id ≡ Some task → IsNumberOf n task.domain → IsHeldNumber n
+  held_within : (fuel id : ℕ) (task : Keyed) (n : ℕ) → rank_of task < fuel → tasks id ≡ Some task
+      → IsNumberOf n task.domain → IsHeldNumber n
   held_within zero id task n low at is = absurd (omega (arith, low))
   held_within (suc fuel) id task n low at is =
       by_creator id task n at is (λ c has inside.

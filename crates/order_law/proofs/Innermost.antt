@@ -34,7 +34,8 @@ module _ (tasks : ℕ → Option Keyed) (path : List Open) (next id : ℕ) (task
               (deeper_is_less level_cmp level_cmp_total path task.domain x.domain task.last x.last (ordered.on_path id task least.there committed) (ordered.on_path k x at free) deeper)))
           | inr upto ↦ upto
         ];
-        same_domain = λ k x at free same. one_domain path x.domain task.domain x.last task.last (ordered.on_path k x at free) (ordered.on_path id task least.there committed) same;
+        same_domain =
+            λ k x at free same. one_domain path x.domain task.domain x.last task.last (ordered.on_path k x at free) (ordered.on_path id task least.there committed) same;
         earliest = λ k x at free same. elim (cases_lt x.last.ts task.last.ts) [
           | inl earlier ↦ absurd (least.least k x at (
               same_depth level_cmp level_cmp_total path task.domain x.domain task.last x.last (ordered.on_path id task least.there committed) (ordered.on_path k x at free) (sym same)
@@ -43,7 +44,8 @@ module _ (tasks : ℕ → Option Keyed) (path : List Open) (next id : ℕ) (task
         ];
       }
     where
-      one_domain : (path ds es : List Open) (l m : Open) → OnPath level_cmp path ds l → OnPath level_cmp path es m → length ds ≡ length es → ds ≡ es
+      one_domain : (path ds es : List Open) (l m : Open) → OnPath level_cmp path ds l → OnPath level_cmp path es m
+          → length ds ≡ length es → ds ≡ es
       one_domain path [] [] l m one two same = refl
       one_domain path [] (e ∷ es) l m one two same = absurd (omega arith)
       one_domain path (d ∷ ds) [] l m one two same = absurd (omega arith)

@@ -1,5 +1,6 @@
 -- A coalescing and a split keep the order: they only change ids, and that of no dispatched task.
-use Rattle.std.proofs.Common.{◌≡◌, ◌⊎◌, ℕ, ◌+◌, ◌-◌, ◌<◌, Bool, true, false, List, Option, Some, ap, ◌∙◌, inl, inr, arith, slice_get, if◌then◌else◌, nat_lt}
+use Rattle.std.proofs.Common.{◌≡◌, ◌⊎◌, ℕ, ◌+◌, ◌-◌, ◌<◌, Bool, true, false, List, Option, Some, ap, ◌∙◌, inl, inr}
+use Rattle.std.proofs.Common.{arith, slice_get, if◌then◌else◌, nat_lt}
 use Rattle.std.proofs.lemmas.Bool.Decides.{nat_tests}
 use Rattle.std.proofs.lemmas.Bool.{lt-ltb}
 use Rattle.fractal_vt.specs.Levels.{Open}
@@ -13,7 +14,8 @@ pub record Renames (old new : ℕ → Option Keyed) : Type 0 where
   pub stays : (k n : ℕ) (x : Keyed) → old k ≡ Some x → HasNumber x n → new k ≡ Some x
   pub was : (k n : ℕ) (x : Keyed) → new k ≡ Some x → HasNumber x n → old k ≡ Some x
 
-pub rename_keeps_order : (old new : ℕ → Option Keyed) (path : List Open) (next : ℕ) → Renames old new → IsOrdered old path next → IsOrdered new path next
+pub rename_keeps_order : (old new : ℕ → Option Keyed) (path : List Open) (next : ℕ) → Renames old new
+    → IsOrdered old path next → IsOrdered new path next
 rename_keeps_order old new path next renames ordered =
     record {
       path_numbers = ordered.path_numbers;
@@ -23,8 +25,10 @@ rename_keeps_order old new path next renames ordered =
       shaped = λ k x at. (let f = renames.from k x at in ordered.shaped f.0 x f.1);
       domain_numbers = λ k x at. (let f = renames.from k x at in ordered.domain_numbers f.0 x f.1);
       number_below = λ k x n at has. ordered.number_below k x n (renames.was k n x at has) has;
-      numbers_differ = λ a b x y n at at' has has'. ordered.numbers_differ a b x y n (renames.was a n x at has) (renames.was b n y at' has') has has';
-      creators = λ k x c at parent. (let f = renames.from k x at in let h = ordered.creators f.0 x c f.1 parent in record { task = h.task; there = renames.stays c h.number h.task h.there h.dispatched; number = h.number; dispatched = h.dispatched; below = h.below; kin = h.kin });
+      numbers_differ =
+          λ a b x y n at at' has has'. ordered.numbers_differ a b x y n (renames.was a n x at has) (renames.was b n y at' has') has has';
+      creators =
+          λ k x c at parent. (let f = renames.from k x at in let h = ordered.creators f.0 x c f.1 parent in record { task = h.task; there = renames.stays c h.number h.task h.there h.dispatched; number = h.number; dispatched = h.dispatched; below = h.below; kin = h.kin });
       on_path = λ k x at parent. (let f = renames.from k x at in ordered.on_path f.0 x f.1 parent);
     }
 
@@ -39,7 +43,8 @@ module _ (bound : ℕ) (tasks : ℕ → Option Keyed) (spilled_list : List Keyed
       → (tasks k ≡ Some x) ⊎ IsAmongSpilled x spilled_list
   beside_which k x at = by_test (nat_lt k bound) at
     where
-      by_test : (b : Bool) → (if b then tasks k else slice_get spilled_list (k - bound)) ≡ Some x → (tasks k ≡ Some x) ⊎ IsAmongSpilled x spilled_list
+      by_test : (b : Bool) → (if b then tasks k else slice_get spilled_list (k - bound)) ≡ Some x
+          → (tasks k ≡ Some x) ⊎ IsAmongSpilled x spilled_list
       by_test true e = inl e
       by_test false e = inr (k - bound, e)
 
@@ -54,7 +59,8 @@ module _ (bound : ℕ) (tasks : ℕ → Option Keyed) (spilled_list : List Keyed
       (bound + is.0, ap (λ b. if b then tasks (bound + is.0) else slice_get spilled_list (bound + is.0 - bound)) (high_test bound is.0) ∙ ap (slice_get spilled_list) same ∙ is.1)
 
 -- each queued or spilled task was one before, and the dispatched tasks have kept their ids
-pub moved_renames : (bound : ℕ) (old new : ℕ → Option Keyed) (before after : List Keyed) → MovesInKeys bound old new before after → Renames (beside bound old before) (beside bound new after)
+pub moved_renames : (bound : ℕ) (old new : ℕ → Option Keyed) (before after : List Keyed)
+    → MovesInKeys bound old new before after → Renames (beside bound old before) (beside bound new after)
 moved_renames bound old new before after moves =
     record {
       from = λ k x at. elim (beside_which bound new after k x at) [
@@ -81,11 +87,18 @@ moved_renames bound old new before after moves =
       ];
     }
 
-pub move_law : (bound : ℕ) (old new : ℕ → Option Keyed) (before after : List Keyed) (path : List Open) (next : ℕ) → MovesInKeys bound old new before after → IsOrdered (beside bound old before) path next → IsOrdered (beside bound new after) path next
+pub move_law : (bound : ℕ) (old new : ℕ → Option Keyed) (before after : List Keyed) (path : List Open) (next : ℕ)
+    → MovesInKeys bound old new before after → IsOrdered (beside bound old before) path next
+    → IsOrdered (beside bound new after) path next
 move_law bound old new before after path next moves ordered =
     rename_keeps_order (beside bound old before) (beside bound new after) path next (moved_renames bound old new before after moves) ordered
 
 -- the least task is the least one under its new id
-pub move_least : (bound : ℕ) (old new : ℕ → Option Keyed) (before after : List Keyed) (id now : ℕ) (task : Keyed) → MovesInKeys bound old new before after → IsLeastInKeys (beside bound old before) id task → beside bound new after now ≡ Some task → IsLeastInKeys (beside bound new after) now task
+pub move_least : (bound : ℕ) (old new : ℕ → Option Keyed) (before after : List Keyed) (id now : ℕ) (task : Keyed)
+    → MovesInKeys bound old new before after → IsLeastInKeys (beside bound old before) id task
+    → beside bound new after now ≡ Some task → IsLeastInKeys (beside bound new after) now task
 move_least bound old new before after id now task moves is there =
-    record { there = there; least = λ k x at. (let from = (moved_renames bound old new before after moves).from k x at in is.least from.0 x from.1) }
+    record {
+      there = there;
+      least = λ k x at. (let from = (moved_renames bound old new before after moves).from k x at in is.least from.0 x from.1);
+    }

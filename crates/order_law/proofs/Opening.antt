@@ -22,7 +22,8 @@ module _ (tasks : ℕ → Option Keyed) (roots : (id : ℕ) (task : Keyed) → t
         number_below = λ id x n at has. absurd (no_number id x n at has);
         numbers_differ = λ a b x y n at at' has has'. absurd (no_number a x n at has);
         off_path = λ id x n at has on. absurd (no_number id x n at has);
-        creators = λ id x c at made. (let off : None ≡ Some c = sym (roots id x at).committed ∙ made in absurd (cc (off)));
+        creators =
+            λ id x c at made. (let off : None ≡ Some c = sym (roots id x at).committed ∙ made in absurd (cc (off)));
         on_path = λ id x at free. subst (λ ds. OnPath level_cmp [] ds x.last) (sym (roots id x at).domain) tt;
         shaped = λ id x at.
             (let is = roots id x at in (

@@ -1,5 +1,6 @@
 -- A new child keeps the order.
-use Rattle.std.proofs.Common.{append_assoc, ◌≡◌, ◌≢◌, ◌⊎◌, ℕ, ◌<◌, ◌≤◌, Bool, true, false, List, [], ◌∷◌, ◌++◌, length, Option, Some, None, refl, sym, ap, subst, ◌∙◌, inl, inr, arith}
+use Rattle.std.proofs.Common.{append_assoc, ◌≡◌, ◌≢◌, ◌⊎◌, ℕ, ◌<◌, ◌≤◌, Bool, true, false, List, [], ◌∷◌, ◌++◌, length}
+use Rattle.std.proofs.Common.{Option, Some, None, refl, sym, ap, subst, ◌∙◌, inl, inr, arith}
 use Rattle.std.proofs.lemmas.Bool.{cases_eq}
 use Rattle.std.specs.declared.cmp.Ordering.TheVariants.{Less, Equal, Greater}
 use Rattle.std.specs.Cmp.Lexicographic.{slice_cmp}
@@ -25,7 +26,14 @@ module _ (old new : ℕ → Option Keyed) (path : List Open) (next id : ℕ) (ch
   kept_creator : (c : ℕ) (x : Keyed) → HasCreator old c x → HasCreator new c x
   kept_creator c x h =
       let other : c ≢ id = λ here. absurd (cc (h.there, ap old here, vacant)) in
-      record { task = h.task; there = changes.others c other ∙ h.there; number = h.number; dispatched = h.dispatched; below = h.below; kin = h.kin }
+      record {
+        task = h.task;
+        there = changes.others c other ∙ h.there;
+        number = h.number;
+        dispatched = h.dispatched;
+        below = h.below;
+        kin = h.kin;
+      }
 
   no_number : (x : Keyed) (n : ℕ) → x ≡ child → HasNumber x n → ⊥
   no_number x n is number = absurd (cc (ap (λ z. z.last.tb) is, number, open'))
@@ -83,36 +91,43 @@ earlier_ts l m n closed open' late = ap (ordering_then (nat_cmp l.ts m.ts)) tie 
     by_ts = grind (arith, nat_tests)
 
 -- a child above its creator: in its domain, in its subdomain, or one domain further out
-same_child_above : (ds : List Open) (l m : Open) (n : ℕ) → l.tb ≡ Some n → m.tb ≡ None → l.ts ≤ m.ts → Below level_cmp ds l ds m
+same_child_above : (ds : List Open) (l m : Open) (n : ℕ) → l.tb ≡ Some n → m.tb ≡ None → l.ts ≤ m.ts
+    → Below level_cmp ds l ds m
 same_child_above ds l m n closed open' late =
-    same_front level_cmp level_cmp_total ds (l ∷ []) (m ∷ []) ∙ ap (λ o. ordering_then o Equal) (earlier_ts l m n closed open' late)
+    same_front level_cmp level_cmp_total ds (l ∷ []) (m ∷ [])
+    ∙ ap (λ o. ordering_then o Equal) (earlier_ts l m n closed open' late)
 
 sub_child_above : (ds : List Open) (l m : Open) → Below level_cmp ds l (ds ++ l ∷ []) m
 sub_child_above ds l m = prefix_is_less level_cmp level_cmp_total (ds ++ l ∷ []) m []
 
-super_child_above : (ds : List Open) (q l m : Open) (n : ℕ) → q.tb ≡ Some n → m.tb ≡ None → q.ts ≤ m.ts → Below level_cmp (ds ++ q ∷ []) l ds m
+super_child_above : (ds : List Open) (q l m : Open) (n : ℕ) → q.tb ≡ Some n → m.tb ≡ None → q.ts ≤ m.ts
+    → Below level_cmp (ds ++ q ∷ []) l ds m
 super_child_above ds q l m n closed open' late =
     ap (λ xs. slice_cmp level_cmp xs (ds ++ m ∷ [])) (append_assoc ds (q ∷ []) (l ∷ []))
     ∙ same_front level_cmp level_cmp_total ds (q ∷ l ∷ []) (m ∷ [])
     ∙ ap (λ o. ordering_then o Greater) (earlier_ts q m n closed open' late)
 
-LevelsBelow-front : (next : ℕ) (xs : List Open) (l : Open) → LevelsBelow next (xs ++ l ∷ []) → LevelsBelow next xs × TieBelow next l.tb
+LevelsBelow-front : (next : ℕ) (xs : List Open) (l : Open) → LevelsBelow next (xs ++ l ∷ [])
+    → LevelsBelow next xs × TieBelow next l.tb
 LevelsBelow-front next [] l below = (tt, below.0)
 LevelsBelow-front next (x ∷ xs) l below = let rest = LevelsBelow-front next xs l below.1 in ((below.0, rest.0), rest.1)
 
-timely_more : (kinds : List Bool) (xs : List Open) (kind : Bool) (l : Open) → AllZip IsTimely kinds xs → IsTimely kind l → AllZip IsTimely (kinds ++ kind ∷ []) (xs ++ l ∷ [])
+timely_more : (kinds : List Bool) (xs : List Open) (kind : Bool) (l : Open) → AllZip IsTimely kinds xs → IsTimely kind l
+    → AllZip IsTimely (kinds ++ kind ∷ []) (xs ++ l ∷ [])
 timely_more [] [] kind l all last = (last, tt)
 timely_more [] (x ∷ xs) kind l all last = absurd all
 timely_more (k ∷ kinds) [] kind l all last = absurd all
 timely_more (k ∷ kinds) (x ∷ xs) kind l all last = (all.0, timely_more kinds xs kind l all.1 last)
 
-timely_front : (kinds : List Bool) (xs : List Open) (kind : Bool) (l : Open) → AllZip IsTimely (kinds ++ kind ∷ []) (xs ++ l ∷ []) → AllZip IsTimely kinds xs × IsTimely kind l
+timely_front : (kinds : List Bool) (xs : List Open) (kind : Bool) (l : Open)
+    → AllZip IsTimely (kinds ++ kind ∷ []) (xs ++ l ∷ []) → AllZip IsTimely kinds xs × IsTimely kind l
 timely_front [] [] kind l all = (tt, all.0)
 timely_front [] (x ∷ []) kind l all = absurd all.1
 timely_front [] (x ∷ y ∷ xs) kind l all = absurd all.1
 timely_front (k ∷ []) [] kind l all = absurd all.1
 timely_front (k ∷ j ∷ kinds) [] kind l all = absurd all.1
-timely_front (k ∷ kinds) (x ∷ xs) kind l all = let rest = timely_front kinds xs kind l all.1 in ((all.0, rest.0), rest.1)
+timely_front (k ∷ kinds) (x ∷ xs) kind l all =
+    let rest = timely_front kinds xs kind l all.1 in ((all.0, rest.0), rest.1)
 
 tie_some : (next : ℕ) (t : Option ℕ) → TieBelow next t → (n : ℕ) × (t ≡ Some n)
 tie_some next None below = absurd below
@@ -123,7 +138,8 @@ length_front [] l = omega arith
 length_front (x ∷ xs) l = (let less = length_front xs l in omega (arith, less))
 
 -- a bound on the timestamp of an allowed child, whatever the kind of its domain
-bound_holds : (child : Keyed) (level : Open) → IsAllowed child level.ts → IsTimely child.ordered level → level.ts ≤ child.last.ts
+bound_holds : (child : Keyed) (level : Open) → IsAllowed child level.ts → IsTimely child.ordered level
+    → level.ts ≤ child.last.ts
 bound_holds child level allowed timely = by_kind child.ordered refl
   where
     by_kind : (b : Bool) → child.ordered ≡ b → level.ts ≤ child.last.ts
@@ -142,7 +158,9 @@ module _ (next n : ℕ) (creator child : Keyed) (number : HasNumber creator n) (
   same_stands is allowed =
       let late : creator.last.ts ≤ child.last.ts = bound_holds child creator.last allowed (subst (λ k. IsTimely k creator.last) (sym is.2) good.2) in
       record {
-        below = ap (λ ds. levels_cmp (levels_of creator) (ds ++ child.last ∷ [])) is.0 ∙ same_child_above creator.domain creator.last child.last n number idle late;
+        below =
+            ap (λ ds. levels_cmp (levels_of creator) (ds ++ child.last ∷ [])) is.0
+            ∙ same_child_above creator.domain creator.last child.last n number idle late;
         kin = inl is;
         numbers = subst (LevelsBelow next) (sym is.0) numbers;
         good = (
@@ -152,12 +170,16 @@ module _ (next n : ℕ) (creator child : Keyed) (number : HasNumber creator n) (
         );
       }
 
-  sub_stands : IsSub creator child → IsTimely child.ordered child.last → length child.domain < MAX_LEVELS → Stands next creator child
+  sub_stands : IsSub creator child → IsTimely child.ordered child.last → length child.domain < MAX_LEVELS
+      → Stands next creator child
   sub_stands is timely deep =
       record {
-        below = ap (λ ds. levels_cmp (levels_of creator) (ds ++ child.last ∷ [])) is.0 ∙ sub_child_above creator.domain creator.last child.last;
+        below =
+            ap (λ ds. levels_cmp (levels_of creator) (ds ++ child.last ∷ [])) is.0
+            ∙ sub_child_above creator.domain creator.last child.last;
         kin = inr (inl is);
-        numbers = subst (LevelsBelow next) (sym is.0) (LevelsBelow-append next creator.domain creator.last numbers (subst (TieBelow next) (sym number) low));
+        numbers =
+            subst (LevelsBelow next) (sym is.0) (LevelsBelow-append next creator.domain creator.last numbers (subst (TieBelow next) (sym number) low));
         good = (
           deep,
           subst (λ ks. AllZip IsTimely ks child.domain) (sym is.1) (subst (AllZip IsTimely (creator.kinds ++ creator.ordered ∷ [])) (sym is.0) (timely_more creator.kinds creator.domain creator.ordered creator.last good.1 good.2)),
@@ -174,7 +196,9 @@ module _ (next n : ℕ) (creator child : Keyed) (number : HasNumber creator n) (
       let shorter : length child.domain < length creator.domain = subst (λ ds. length child.domain < length ds) (sym is.0) (length_front child.domain level) in
       let deep : length creator.domain < MAX_LEVELS = good.0 in
       record {
-        below = ap (λ ds. levels_cmp (ds ++ creator.last ∷ []) (levels_of child)) is.0 ∙ super_child_above child.domain level creator.last child.last tie.0 tie.1 idle late;
+        below =
+            ap (λ ds. levels_cmp (ds ++ creator.last ∷ []) (levels_of child)) is.0
+            ∙ super_child_above child.domain level creator.last child.last tie.0 tie.1 idle late;
         kin = inr (inr (level, is));
         numbers = parts.0;
         good = (omega (arith, shorter, deep), fits.0, allowed.timely);
@@ -186,11 +210,13 @@ module _ (next n : ℕ) (creator child : Keyed) (number : HasNumber creator n) (
   stands (inr (inr super)) = super_stands super.0 super.1 super.2
 
 -- a new child has this, in whichever of the three domains (`Place`) it is
-pub enqueued_creator : (old new : ℕ → Option Keyed) (path : List Open) (next : ℕ) (s : EnqueuesInKeys old new) → IsOrdered old path next → Stands next s.task s.child
+pub enqueued_creator : (old new : ℕ → Option Keyed) (path : List Open) (next : ℕ) (s : EnqueuesInKeys old new)
+    → IsOrdered old path next → Stands next s.task s.child
 enqueued_creator old new path next s ordered =
     stands next s.number s.task s.child s.dispatched (ordered.number_below s.creator s.task s.number s.there s.dispatched) (ordered.domain_numbers s.creator s.task s.there) (ordered.shaped s.creator s.task s.there) s.idle s.placed
 
-pub enqueue_law : (old new : ℕ → Option Keyed) (path : List Open) (next : ℕ) → EnqueuesInKeys old new → IsOrdered old path next → IsOrdered new path next
+pub enqueue_law : (old new : ℕ → Option Keyed) (path : List Open) (next : ℕ) → EnqueuesInKeys old new
+    → IsOrdered old path next → IsOrdered new path next
 enqueue_law old new path next s ordered =
     let is = enqueued_creator old new path next s ordered in
     enqueue_in_order old new path next s.id s.child s.vacant s.changes s.idle is.numbers is.good s.creator s.made_by

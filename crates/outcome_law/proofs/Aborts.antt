@@ -1,5 +1,6 @@
 -- What is taken back with some tasks is one set, in views that are alike.
-use Rattle.std.proofs.Common.{◌≡◌, ◌<◌, ℕ, Bool, true, false, List, [], ◌∷◌, map, length, Option, Some, None, option_map, is_some, refl, sym, ap, subst, ◌∙◌, inl, inr, arith, cond}
+use Rattle.std.proofs.Common.{◌≡◌, ◌<◌, ℕ, Bool, true, false, List, [], ◌∷◌, map, length, Option, Some, None}
+use Rattle.std.proofs.Common.{option_map, is_some, refl, sym, ap, subst, ◌∙◌, inl, inr, arith, cond}
 use Rattle.std.specs.Prelude.{filter, not, count_by, if◌then◌else◌}
 use Rattle.abort_cascade.specs.Cascade.{Reached, start, step}
 use Rattle.line_table.specs.Note.{Meet}
@@ -15,7 +16,8 @@ use Rattle.spec_state.specs.View.{View, task_at}
 use Rattle.spec_state.specs.Tasks.{is_dispatched, idle_again}
 use Rattle.spec_state.specs.Filters.{has_touched, has_written}
 use Rattle.spec_state.specs.Groups.{logged_tasks, logged_task, room_tasks, room_task, live_creator}
-use Rattle.spec_state.specs.Aborts.{IsChildOf, ReadsFrom, PullsInView, is_marked, IsCascade, IsUndone, is_marked_creator, taken_back, freed_core, Aborts}
+use Rattle.spec_state.specs.Aborts.{IsChildOf, ReadsFrom, PullsInView, is_marked, IsCascade, IsUndone}
+use Rattle.spec_state.specs.Aborts.{is_marked_creator, taken_back, freed_core, Aborts}
 use Rattle.spec_law.proofs.Proved.{id_below, pulled_there}
 use Rattle.outcome_law.specs.Alike.{Renaming, inverse_of, renamed_creator, IsAlikeTask, IsAlikeAt, AreAlike}
 use Rattle.outcome_law.proofs.Alike.{partner, alike_turned}
@@ -34,7 +36,9 @@ module _ (r : Renaming) (a b : View) (alike : AreAlike r a b) where
       record {
         child = p.y;
         there = p.there;
-        made_by = ap (λ t. live_creator t.creator) p.alike.other_is ∙ (live_renamed r.to is.child.creator ∙ ap (option_map r.to) is.made_by);
+        made_by =
+            ap (λ t. live_creator t.creator) p.alike.other_is
+            ∙ (live_renamed r.to is.child.creator ∙ ap (option_map r.to) is.made_by);
       }
 
   reads_too : (k j : ℕ) → ReadsFrom a k j → ReadsFrom b (r.to k) (r.to j)
@@ -47,7 +51,8 @@ module _ (r : Renaming) (a b : View) (alike : AreAlike r a b) where
         dispatched = ap is_dispatched w.alike.other_is ∙ is.dispatched;
         reader = l.y;
         later = l.is;
-        meets = subst (λ f. Meet f (has_touched l.y)) (λ i line. sym (w.alike.written line) i) (subst (λ f. Meet (has_written is.writer) f) (λ i line. sym (l.alike.touched line) i) is.meets);
+        meets =
+            subst (λ f. Meet f (has_touched l.y)) (λ i line. sym (w.alike.written line) i) (subst (λ f. Meet (has_written is.writer) f) (λ i line. sym (l.alike.touched line) i) is.meets);
       }
 
   pub pulls_too : (k j : ℕ) → PullsInView a k j → PullsInView b (r.to k) (r.to j)
@@ -108,7 +113,8 @@ module _ (r : Renaming) (a b : View) (alike : AreAlike r a b) (firsts firsts' : 
       let up = count_upto r.to (one_to r) ma mb on in
       let down = count_upto r.from (one_from r) mb ma off in
       record {
-        same = λ k. same_bool (is_marked ma k) (is_marked mb (r.to k)) (on k) (λ m. subst (λ j. is_marked ma j ≡ true) (r.back k) (off (r.to k) m));
+        same =
+            λ k. same_bool (is_marked ma k) (is_marked mb (r.to k)) (on k) (λ m. subst (λ j. is_marked ma j ≡ true) (r.back k) (off (r.to k) m));
         count = omega arith;
       }
 
@@ -147,10 +153,12 @@ module _ (r : Renaming) (ta tb : ℕ → Option Logged) (same : (k : ℕ) → tb
   by_key_too : (ids : List ℕ) → IsByKey ta ids → IsByKey tb (map r.to ids)
   by_key_too ids is = record {
     ascends = ascends_too ids is.ascends;
-    complete = λ k task there runs. subst (λ j. In j (map r.to ids)) (r.forth k) (in_renamed r.to (r.from k) ids (is.complete (r.from k) task (sym (same (r.from k)) ∙ (ap tb (r.forth k) ∙ there)) runs));
+    complete =
+        λ k task there runs. subst (λ j. In j (map r.to ids)) (r.forth k) (in_renamed r.to (r.from k) ids (is.complete (r.from k) task (sym (same (r.from k)) ∙ (ap tb (r.forth k) ∙ there)) runs));
   }
 
-  undone_too : (sa sb : ℕ → Bool) → ((k : ℕ) → sb (r.to k) ≡ sa k) → (ids memory : List ℕ) → undone_set sb tb (map r.to ids) memory ≡ undone_set sa ta ids memory
+  undone_too : (sa sb : ℕ → Bool) → ((k : ℕ) → sb (r.to k) ≡ sa k) → (ids memory : List ℕ)
+      → undone_set sb tb (map r.to ids) memory ≡ undone_set sa ta ids memory
   undone_too sa sb such [] memory = refl
   undone_too sa sb such (id ∷ ids) memory =
       λ i. cond (such id i) (undone (log_of (same id i)) (undone_too sa sb such ids memory i)) (undone_too sa sb such ids memory i)
@@ -160,16 +168,19 @@ module _ (r : Renaming) (a b : View) (alike : AreAlike r a b) where
   logged_too k = logged_same r.to (task_at a k) (task_at b (r.to k)) (alike.tasks k)
 
   -- what is left where the stores of some tasks are taken back is one memory
-  pub undone_alike : (sa sb : ℕ → Bool) → ((k : ℕ) → sb (r.to k) ≡ sa k) → (m m' : List ℕ) → IsUndone a sa m → IsUndone b sb m' → m' ≡ m
+  pub undone_alike : (sa sb : ℕ → Bool) → ((k : ℕ) → sb (r.to k) ≡ sa k) → (m m' : List ℕ) → IsUndone a sa m
+      → IsUndone b sb m' → m' ≡ m
   undone_alike sa sb such m m' one two =
       let ids : two.ids ≡ map r.to one.ids = one_order (logged_tasks b) two.ids (map r.to one.ids) two.by_key (by_key_too r (logged_tasks a) (logged_tasks b) logged_too one.ids one.by_key) in
       let memory : b.memory ≡ a.memory = ap (λ v. v.memory) alike.frame in
-      two.memory_is ∙ ((λ i. undone_set sb (logged_tasks b) (ids i) (memory i)) ∙ (undone_too r (logged_tasks a) (logged_tasks b) logged_too sa sb such one.ids a.memory ∙ sym one.memory_is))
+      two.memory_is
+      ∙ ((λ i. undone_set sb (logged_tasks b) (ids i) (memory i)) ∙ (undone_too r (logged_tasks a) (logged_tasks b) logged_too sa sb such one.ids a.memory ∙ sym one.memory_is))
 
 -- ---- tasks, queues, commit queues and cores
 
 module _ (r : Renaming) (ma mb : List Bool) (marks : AreMarkedAlike r ma mb) where
-  idle_alike : (version : ℕ) (x y : Task) → IsAlikeTask r.to x y → IsAlikeTask r.to (idle_again version x) (idle_again version y)
+  idle_alike : (version : ℕ) (x y : Task) → IsAlikeTask r.to x y
+      → IsAlikeTask r.to (idle_again version x) (idle_again version y)
   idle_alike version x y alike = record {
     other_is = ap {A = Task} (idle_again version) alike.other_is;
     touched = λ line. refl;
@@ -186,11 +197,13 @@ module _ (r : Renaming) (ma mb : List Bool) (marks : AreMarkedAlike r ma mb) whe
   mark_of_creator None = refl
   mark_of_creator (Some id) = marks.same id
 
-  taken_too : (version k : ℕ) (s t : Option Task) → IsAlikeAt r.to s t → IsAlikeAt r.to (taken_back version ma k s) (taken_back version mb (r.to k) t)
+  taken_too : (version k : ℕ) (s t : Option Task) → IsAlikeAt r.to s t
+      → IsAlikeAt r.to (taken_back version ma k s) (taken_back version mb (r.to k) t)
   taken_too version k None None alike = tt
   taken_too version k (Some x) (Some y) alike =
       let creators : is_marked_creator mb (live_creator y.creator) ≡ is_marked_creator ma (live_creator x.creator) =
-      ap (λ t. is_marked_creator mb (live_creator t.creator)) alike.other_is ∙ (ap (is_marked_creator mb) (live_renamed r.to x.creator) ∙ mark_of_creator (live_creator x.creator)) in
+      ap (λ t. is_marked_creator mb (live_creator t.creator)) alike.other_is
+      ∙ (ap (is_marked_creator mb) (live_renamed r.to x.creator) ∙ mark_of_creator (live_creator x.creator)) in
       subst (λ p. IsAlikeAt r.to (taken_back version ma k (Some x)) (if p then (if is_marked_creator mb (live_creator y.creator) then None else Some (idle_again version y)) else Some y)) (sym (marks.same k))
       (subst (λ q. IsAlikeAt r.to (taken_back version ma k (Some x)) (if is_marked ma k then (if q then None else Some (idle_again version y)) else Some y)) (sym creators)
       (by_marks version x y alike (is_marked ma k) (is_marked_creator ma (live_creator x.creator))))
@@ -205,14 +218,18 @@ module _ (r : Renaming) (ma mb : List Bool) (marks : AreMarkedAlike r ma mb) whe
       by_mark true = refl
       by_mark false = refl
 
-  held_too : (cs : List (Option ℕ)) → map (freed_core mb) (map (option_map r.to) cs) ≡ map (option_map r.to) (map (freed_core ma) cs)
+  held_too : (cs : List (Option ℕ))
+      → map (freed_core mb) (map (option_map r.to) cs) ≡ map (option_map r.to) (map (freed_core ma) cs)
   held_too = map_same (freed_core mb) (option_map r.to) (option_map r.to) (freed_core ma) freed_too
 
-  kept_too : (ids : List ℕ) → filter (λ id. not (is_marked mb id)) (map r.to ids) ≡ map r.to (filter (λ id. not (is_marked ma id)) ids)
-  kept_too = filter_mapped r.to (λ id. not (is_marked ma id)) (λ id. not (is_marked mb id)) (λ id. ap not (marks.same id))
+  kept_too : (ids : List ℕ)
+      → filter (λ id. not (is_marked mb id)) (map r.to ids) ≡ map r.to (filter (λ id. not (is_marked ma id)) ids)
+  kept_too =
+      filter_mapped r.to (λ id. not (is_marked ma id)) (λ id. not (is_marked mb id)) (λ id. ap not (marks.same id))
 
 -- an id is that of a task in both, or in neither
-pub there_same : (to : ℕ → ℕ) (s t : Option Task) → IsAlikeAt to s t → is_some (option_map room_task t) ≡ is_some (option_map room_task s)
+pub there_same : (to : ℕ → ℕ) (s t : Option Task) → IsAlikeAt to s t
+    → is_some (option_map room_task t) ≡ is_some (option_map room_task s)
 there_same to None None alike = refl
 there_same to (Some x) (Some y) alike = refl
 there_same to None (Some y) alike = absurd alike

@@ -14,7 +14,8 @@ pub record Partner (r : Renaming) (b : View) (k : ℕ) (x : Task) : Type 0 where
   pub alike : IsAlikeTask r.to x y
 
 module _ (r : Renaming) (b : View) (k : ℕ) where
-  partner_of : (x : Task) (stands : Option Task) → task_at b (r.to k) ≡ stands → IsAlikeAt r.to (Some x) stands → Partner r b k x
+  partner_of : (x : Task) (stands : Option Task) → task_at b (r.to k) ≡ stands → IsAlikeAt r.to (Some x) stands
+      → Partner r b k x
   partner_of x None e alike = absurd alike
   partner_of x (Some y) e alike = record { y = y; there = e; alike = alike }
 
@@ -24,10 +25,12 @@ module _ (r : Renaming) (b : View) (k : ℕ) where
 
 module _ (r : Renaming) (a b : View) (alike : AreAlike r a b) where
   pub partner : (k : ℕ) (x : Task) → task_at a k ≡ Some x → Partner r b k x
-  partner k x there = partner_of r b k x (task_at b (r.to k)) refl (subst (λ s. IsAlikeAt r.to s (task_at b (r.to k))) there (alike.tasks k))
+  partner k x there =
+      partner_of r b k x (task_at b (r.to k)) refl (subst (λ s. IsAlikeAt r.to s (task_at b (r.to k))) there (alike.tasks k))
 
   pub none_there : (k : ℕ) → task_at a k ≡ None → task_at b (r.to k) ≡ None
-  none_there k there = none_of r b k (task_at b (r.to k)) (subst (λ s. IsAlikeAt r.to s (task_at b (r.to k))) there (alike.tasks k))
+  none_there k there =
+      none_of r b k (task_at b (r.to k)) (subst (λ s. IsAlikeAt r.to s (task_at b (r.to k))) there (alike.tasks k))
 
 -- a creator has its own id again
 creator_back : (r : Renaming) (c : Creator) → renamed_creator r.from (renamed_creator r.to c) ≡ c
@@ -36,7 +39,8 @@ creator_back r (Live task index) = λ i. Live (record { 0 = r.back task.0 i }) i
 
 pub task_turned : (r : Renaming) (x y : Task) → IsAlikeTask r.to x y → IsAlikeTask r.from y x
 task_turned r x y alike = record {
-  other_is = (let back : renamed_creator r.from y.creator ≡ x.creator = ap (λ t. renamed_creator r.from t.creator) alike.other_is ∙ creator_back r x.creator in
+  other_is =
+      (let back : renamed_creator r.from y.creator ≡ x.creator = ap (λ t. renamed_creator r.from t.creator) alike.other_is ∙ creator_back r x.creator in
       let same : record y { creator = x.creator; lines = x.lines } ≡ x = ap {A = Task} (λ t. record t { creator = x.creator; lines = x.lines }) alike.other_is in
       let own : record y { creator = renamed_creator r.from y.creator; lines = x.lines } ≡ record y { creator = x.creator; lines = x.lines } = ap {A = Creator} (λ c. record y { creator = c; lines = x.lines }) back in
       sym (own ∙ same));
@@ -61,9 +65,14 @@ module _ {X : Type 0} (f g : X → X) (back : (x : X) → g (f x) ≡ x) where
 
 pub alike_turned : (r : Renaming) (a b : View) → AreAlike r a b → AreAlike (inverse_of r) b a
 alike_turned r a b alike = record {
-  tasks = λ k. subst (λ j. IsAlikeAt r.from (task_at b j) (task_at a (r.from k))) (r.forth k) (at_turned r (task_at a (r.from k)) (task_at b (r.to (r.from k))) (alike.tasks (r.from k)));
-  queues = sym (ap (map (map r.from)) alike.queues ∙ map_back (map r.to) (map r.from) (map_back r.to r.from r.back) a.queues);
-  finished = sym (ap (map (map r.from)) alike.finished ∙ map_back (map r.to) (map r.from) (map_back r.to r.from r.back) a.finished);
-  cores = sym (ap (map (map (option_map r.from))) alike.cores ∙ map_back (map (option_map r.to)) (map (option_map r.from)) (map_back (option_map r.to) (option_map r.from) (option_back r.to r.from r.back)) a.cores);
-  frame = sym (ap {A = View} (λ v. record v { tasks = a.tasks; queues = a.queues; finished = a.finished; cores = a.cores }) alike.frame);
+  tasks =
+      λ k. subst (λ j. IsAlikeAt r.from (task_at b j) (task_at a (r.from k))) (r.forth k) (at_turned r (task_at a (r.from k)) (task_at b (r.to (r.from k))) (alike.tasks (r.from k)));
+  queues =
+      sym (ap (map (map r.from)) alike.queues ∙ map_back (map r.to) (map r.from) (map_back r.to r.from r.back) a.queues);
+  finished =
+      sym (ap (map (map r.from)) alike.finished ∙ map_back (map r.to) (map r.from) (map_back r.to r.from r.back) a.finished);
+  cores =
+      sym (ap (map (map (option_map r.from))) alike.cores ∙ map_back (map (option_map r.to)) (map (option_map r.from)) (map_back (option_map r.to) (option_map r.from) (option_back r.to r.from r.back)) a.cores);
+  frame =
+      sym (ap {A = View} (λ v. record v { tasks = a.tasks; queues = a.queues; finished = a.finished; cores = a.cores }) alike.frame);
 }

@@ -1,5 +1,7 @@
 -- New tasks may stand under any ids: the renaming is changed there.
-use Rattle.std.proofs.Common.{◌≡◌, ◌≢◌, ◌≤◌, ◌<◌, ◌+◌, ◌==◌, ℕ, zero, suc, Bool, true, false, List, [], ◌∷◌, map, set, length, Option, Some, None, option_map, refl, sym, ap, subst, ◌∙◌, inl, inr, ◌⊎◌, arith, cond}
+use Rattle.std.proofs.Common.{◌≡◌, ◌≢◌, ◌≤◌, ◌<◌, ◌+◌, ◌==◌, ℕ, zero, suc, Bool, true, false, List, [], ◌∷◌, map, set}
+use Rattle.std.proofs.Common.{length, Option, Some, None, option_map, refl, sym, ap, subst, ◌∙◌, inl, inr, ◌⊎◌, arith}
+use Rattle.std.proofs.Common.{cond}
 use Rattle.std.specs.Prelude.{if◌then◌else◌, slice_get, slice_index_or, Contains}
 use Rattle.std.proofs.lemmas.Option.{get_or_from_slice_get}
 use Rattle.guest_image.specs.ImageValue.{ImageValue}
@@ -63,18 +65,21 @@ pub record HoldsTasks (view : View) : Type 0 where
   pub queued : (tile k : ℕ) → Contains (queue_at view tile) k → IsThere view k
   pub ended : (tile k : ℕ) → Contains (finished_at view tile) k → IsThere view k
   pub held : (tile core k : ℕ) → slice_get (cores_at view tile) core ≡ Some (Some k) → IsThere view k
-  pub creators : (k : ℕ) (x : Task) (task : TaskId) (index : ℕ) → task_at view k ≡ Some x → x.creator ≡ Live task index → IsThere view task.0
+  pub creators : (k : ℕ) (x : Task) (task : TaskId) (index : ℕ) → task_at view k ≡ Some x → x.creator ≡ Live task index
+      → IsThere view task.0
 
 pub holds_tasks : (image : ImageValue) (view : View) → Sound image view → HoldsTasks view
 holds_tasks image view sound = record {
   queued = λ tile k has. (let t = (sound.sizes.queued_are tile k).0 has in (t.0, t.1));
   ended = λ tile k has. (let t = (sound.sizes.finished_are tile k).0 has in (t.0, t.1));
   held = λ tile core k has. (let t = (sound.sizes.held_are tile core k).0 has in (t.0, t.1));
-  creators = λ k x task index there made. (let m = sound.tasks.children k x task index there made in (m.creator, m.there));
+  creators =
+      λ k x task index there made. (let m = sound.tasks.children k x task index there made in (m.creator, m.there));
 }
 
 -- functions that agree on the elements of a list map it alike
-maps_alike : {X Y : Type 0} (f g : X → Y) (xs : List X) → ((p : ℕ) (x : X) → slice_get xs p ≡ Some x → f x ≡ g x) → map f xs ≡ map g xs
+maps_alike : {X Y : Type 0} (f g : X → Y) (xs : List X) → ((p : ℕ) (x : X) → slice_get xs p ≡ Some x → f x ≡ g x)
+    → map f xs ≡ map g xs
 maps_alike f g [] same = refl
 maps_alike f g (x ∷ xs) same = λ i. same zero x refl i ∷ maps_alike f g xs (λ p. same (suc p)) i
 
@@ -90,13 +95,17 @@ module _ (r : Renaming) (a b : View) (alike : AreAlike r a b) (holds : HoldsTask
       let not_new : r.to k ≢ id' = λ e. (let clash : Some p.y ≡ None = sym p.there ∙ (ap (task_at b) e ∙ vacant') in cc (clash)) in
       swapped_other (r.to id) id' (r.to k) not_id not_new
 
-  creator_named : (k : ℕ) (x : Task) → task_at a k ≡ Some x → (c : Creator) → x.creator ≡ c → renamed_creator anew.to c ≡ renamed_creator r.to c
+  creator_named : (k : ℕ) (x : Task) → task_at a k ≡ Some x → (c : Creator) → x.creator ≡ c
+      → renamed_creator anew.to c ≡ renamed_creator r.to c
   creator_named k x there (Committed turn index) made = refl
-  creator_named k x there (Live task index) made = ap (λ (n : ℕ). Live (record { 0 = n }) index) (keeps_name task.0 (holds.creators k x task index there made))
+  creator_named k x there (Live task index) made =
+      ap (λ (n : ℕ). Live (record { 0 = n }) index) (keeps_name task.0 (holds.creators k x task index there made))
 
   alike_named : (k : ℕ) (x y : Task) → task_at a k ≡ Some x → IsAlikeTask r.to x y → IsAlikeTask anew.to x y
   alike_named k x y there same = record {
-    other_is = same.other_is ∙ ap {A = Creator} (λ c. record x { creator = c; lines = y.lines }) (sym (creator_named k x there x.creator refl));
+    other_is =
+        same.other_is
+        ∙ ap {A = Creator} (λ c. record x { creator = c; lines = y.lines }) (sym (creator_named k x there x.creator refl));
     touched = same.touched;
     written = same.written;
   }
@@ -112,14 +121,19 @@ module _ (r : Renaming) (a b : View) (alike : AreAlike r a b) (holds : HoldsTask
     where
       by_first : (r.to k ≡ r.to id) ⊎ (r.to k ≢ r.to id) → (r.to k ≡ id') ⊎ (r.to k ≢ id') → ⊥
       by_first (inl here) second =
-          let clash : Some y ≡ None = sym at' ∙ (ap (task_at b) (swapped_first (r.to id) id' (r.to k) here) ∙ vacant') in cc (clash)
+          let clash : Some y ≡ None = sym at' ∙ (ap (task_at b) (swapped_first (r.to id) id' (r.to k) here) ∙ vacant') in
+          cc (clash)
       by_first (inr other) (inl here) =
-          let clash : Some y ≡ None = sym at' ∙ (ap (task_at b) (swapped_second (r.to id) id' (r.to k) here) ∙ none_there r a b alike id vacant) in cc (clash)
+          let clash : Some y ≡ None = sym at' ∙ (ap (task_at b) (swapped_second (r.to id) id' (r.to k) here) ∙ none_there r a b alike id vacant) in
+          cc (clash)
       by_first (inr other) (inr too) =
-          let clash : Some y ≡ None = sym at' ∙ (ap (task_at b) (swapped_other (r.to id) id' (r.to k) other too) ∙ none_there r a b alike k at) in cc (clash)
+          let clash : Some y ≡ None = sym at' ∙ (ap (task_at b) (swapped_other (r.to id) id' (r.to k) other too) ∙ none_there r a b alike k at) in
+          cc (clash)
 
-  ids_named : (lists : List (List ℕ)) → ((tile k : ℕ) → Contains (slice_index_or lists tile []) k → IsThere a k) → map (map r.to) lists ≡ map (map anew.to) lists
-  ids_named lists there = maps_alike (map r.to) (map anew.to) lists (λ tile ids at. maps_alike r.to anew.to ids (λ p k at'. sym (keeps_name k (there tile k
+  ids_named : (lists : List (List ℕ)) → ((tile k : ℕ) → Contains (slice_index_or lists tile []) k → IsThere a k)
+      → map (map r.to) lists ≡ map (map anew.to) lists
+  ids_named lists there =
+      maps_alike (map r.to) (map anew.to) lists (λ tile ids at. maps_alike r.to anew.to ids (λ p k at'. sym (keeps_name k (there tile k
       (subst (λ (q : List ℕ). Contains q k) (sym (get_or_from_slice_get lists tile ids [] at)) (get_contains ids p k at'))))))
 
   held_named : (c : Option ℕ) → ((k : ℕ) → c ≡ Some k → IsThere a k) → option_map r.to c ≡ option_map anew.to c
@@ -132,7 +146,9 @@ module _ (r : Renaming) (a b : View) (alike : AreAlike r a b) (holds : HoldsTask
     tasks = λ k. tasks_named k (task_at a k) (task_at b (anew.to k)) refl refl;
     queues = alike.queues ∙ ids_named a.queues holds.queued;
     finished = alike.finished ∙ ids_named a.finished holds.ended;
-    cores = alike.cores ∙ maps_alike (map (option_map r.to)) (map (option_map anew.to)) a.cores (λ tile cs at. maps_alike (option_map r.to) (option_map anew.to) cs (λ core c at'. held_named c (λ k is. holds.held tile core k
+    cores =
+        alike.cores
+        ∙ maps_alike (map (option_map r.to)) (map (option_map anew.to)) a.cores (λ tile cs at. maps_alike (option_map r.to) (option_map anew.to) cs (λ core c at'. held_named c (λ k is. holds.held tile core k
         (ap (λ (q : List (Option ℕ)). slice_get q core) (get_or_from_slice_get a.cores tile cs [] at) ∙ (at' ∙ ap Some is)))));
     frame = alike.frame;
   }

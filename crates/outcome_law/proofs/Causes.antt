@@ -10,7 +10,8 @@ use Rattle.spec_state.specs.Queries.{IsIdle, IsDispatched, IsLater}
 use Rattle.spec_state.specs.Changes.{TakesLeg}
 use Rattle.spec_state.specs.Room.{Enqueuer, IsMovable, Stalls}
 use Rattle.event_def.specs.Book.{BookView, picked_tile}
-use Rattle.event_def.specs.Causes.{IsBusy, IsStale, StallsAtEnqueue, IsCommitFull, StallsAtEnd, LatestIsLeast, StallsAtSplit, Cause, IsRefused, IsGranted}
+use Rattle.event_def.specs.Causes.{IsBusy, IsStale, StallsAtEnqueue, IsCommitFull, StallsAtEnd, LatestIsLeast}
+use Rattle.event_def.specs.Causes.{StallsAtSplit, Cause, IsRefused, IsGranted}
 use Rattle.event_def.specs.declared.event.Event.{Event}
 use Rattle.event_def.specs.declared.event.Event.TheVariants as event
 use Rattle.event_def.specs.declared.event.Reply.{Reply}
@@ -21,7 +22,8 @@ use Rattle.outcome_law.proofs.Alike.{alike_turned, task_turned}
 use Rattle.outcome_law.proofs.Leasts.{least_too, the_least_too, spilled_too, over_too, block_too, finished_too}
 use Rattle.outcome_law.proofs.Moves.{movable_too}
 use Rattle.outcome_law.proofs.Picks.{task_one}
-use Rattle.outcome_law.proofs.Queries.{Too, idle_too, least_idle_too, running_too, dispatched_too, is_finished_too, later_too, latest_too, free_core_too}
+use Rattle.outcome_law.proofs.Queries.{Too, idle_too, least_idle_too, running_too, dispatched_too, is_finished_too}
+use Rattle.outcome_law.proofs.Queries.{later_too, latest_too, free_core_too}
 use Rattle.outcome_law.proofs.Rooms.{full_too, none_moves_too}
 use Rattle.outcome_law.proofs.Events.{picked_alike, request_same}
 
@@ -35,7 +37,8 @@ books_turned r a b alike = record {
 }
 
 module _ (r : Renaming) (a b : View) (alike : AreAlike r a b) where
-  pub takes_too : (tile core : ℕ) (leg : LegValue) (id : ℕ) (task : Task) → TakesLeg a tile core leg id task → Too r.to (TakesLeg b tile core leg) id task
+  pub takes_too : (tile core : ℕ) (leg : LegValue) (id : ℕ) (task : Task) → TakesLeg a tile core leg id task
+      → Too r.to (TakesLeg b tile core leg) id task
   takes_too tile core leg id task is =
       let t = running_too r a b alike tile core id task is.runs in
       record {
@@ -64,8 +67,10 @@ module _ (r : Renaming) (old other : BookView) (alike : AreAlikeBooks r old othe
   back : AreAlike (inverse_of r) other.view old.view
   back = alike_turned r old.view other.view alike.view
 
-  dispatch_empty : (tile : ℕ) → ((id : ℕ) (task : Task) → IsIdle a tile id task → ⊥) → (id : ℕ) (task : Task) → IsIdle b tile id task → ⊥
-  dispatch_empty tile none id task is = let t = idle_too (inverse_of r) b a back tile id task is in none (r.from id) t.y t.is
+  dispatch_empty : (tile : ℕ) → ((id : ℕ) (task : Task) → IsIdle a tile id task → ⊥) → (id : ℕ) (task : Task)
+      → IsIdle b tile id task → ⊥
+  dispatch_empty tile none id task is =
+      let t = idle_too (inverse_of r) b a back tile id task is in none (r.from id) t.y t.is
 
   dispatch_busy : (tile : ℕ) → IsBusy a tile → IsBusy b tile
   dispatch_busy tile busy =
@@ -75,20 +80,24 @@ module _ (r : Renaming) (old other : BookView) (alike : AreAlikeBooks r old othe
         id = r.to busy.id;
         task = t.y;
         idle = t.is;
-        not_least = λ least. busy.not_least (subst (IsTheLeast a) (r.back busy.id) (the_least_too (inverse_of r) b a back (r.to busy.id) least));
+        not_least =
+            λ least. busy.not_least (subst (IsTheLeast a) (r.back busy.id) (the_least_too (inverse_of r) b a back (r.to busy.id) least));
       }
 
   step_stale : (tile core : ℕ) (leg : LegValue) → IsStale a tile core leg → IsStale b tile core leg
-  step_stale tile core leg none id task is = let t = takes_too (inverse_of r) b a back tile core leg id task is in none (r.from id) t.y t.is
+  step_stale tile core leg none id task is =
+      let t = takes_too (inverse_of r) b a back tile core leg id task is in none (r.from id) t.y t.is
 
   stalls_too : (tile id : ℕ) → Stalls a tile (Enqueuer id) → Stalls b tile (Enqueuer (r.to id))
   stalls_too tile id is = record {
     full = full_too r a b views tile is.full;
     none_moves = none_moves_too r a b views tile (Enqueuer id) is.none_moves;
-    not_least = λ least. is.not_least (subst (IsTheLeast a) (r.back id) (the_least_too (inverse_of r) b a back (r.to id) least));
+    not_least =
+        λ least. is.not_least (subst (IsTheLeast a) (r.back id) (the_least_too (inverse_of r) b a back (r.to id) least));
   }
 
-  step_stall : (tile core : ℕ) (leg : LegValue) → StallsAtEnqueue old tile core leg ⊎ StallsAtEnd a tile core leg → StallsAtEnqueue other tile core leg ⊎ StallsAtEnd b tile core leg
+  step_stall : (tile core : ℕ) (leg : LegValue) → StallsAtEnqueue old tile core leg ⊎ StallsAtEnd a tile core leg
+      → StallsAtEnqueue other tile core leg ⊎ StallsAtEnd b tile core leg
   step_stall tile core leg (inl is) =
       let t = takes_too r a b views tile core leg is.id is.task is.takes in
       inl (record {
@@ -97,7 +106,8 @@ module _ (r : Renaming) (old other : BookView) (alike : AreAlikeBooks r old othe
         takes = t.is;
         spawn = is.spawn;
         asks = request_same r a b views is.task t.y t.alike leg ∙ is.asks;
-        stalls = subst (λ (to : ℕ). Stalls b to (Enqueuer (r.to is.id))) (sym (picked_alike r old other alike is.spawn.hint)) (stalls_too (picked_tile old is.spawn.hint) is.id is.stalls);
+        stalls =
+            subst (λ (to : ℕ). Stalls b to (Enqueuer (r.to is.id))) (sym (picked_alike r old other alike is.spawn.hint)) (stalls_too (picked_tile old is.spawn.hint) is.id is.stalls);
       })
   step_stall tile core leg (inr is) =
       let t = takes_too r a b views tile core leg is.id is.task is.takes in
@@ -113,8 +123,10 @@ module _ (r : Renaming) (old other : BookView) (alike : AreAlikeBooks r old othe
             is.none_later (r.from k) f.y f.is (subst (λ z. IsLater a is.task (r.from k) z) same l.is));
       })
 
-  abort_empty : (tile : ℕ) → ((id : ℕ) (task : Task) → IsDispatched a tile id task → ⊥) → (id : ℕ) (task : Task) → IsDispatched b tile id task → ⊥
-  abort_empty tile none id task is = let t = dispatched_too (inverse_of r) b a back tile id task is in none (r.from id) t.y t.is
+  abort_empty : (tile : ℕ) → ((id : ℕ) (task : Task) → IsDispatched a tile id task → ⊥) → (id : ℕ) (task : Task)
+      → IsDispatched b tile id task → ⊥
+  abort_empty tile none id task is =
+      let t = dispatched_too (inverse_of r) b a back tile id task is in none (r.from id) t.y t.is
 
   abort_firm : (tile : ℕ) → LatestIsLeast a tile → LatestIsLeast b tile
   abort_firm tile is =
@@ -122,10 +134,18 @@ module _ (r : Renaming) (old other : BookView) (alike : AreAlikeBooks r old othe
       let l = least_too r a b views is.id is.task is.least in
       let same : l.y
       ≡ t.y = task_one b (r.to is.id) (r.to is.id) l.y t.y refl l.least.queued_at.there t.is.of_kind.there in
-      record { id = r.to is.id; task = t.y; latest = t.is; least = subst (λ z. IsLeastTask b (r.to is.id) z) same l.least }
+      record {
+        id = r.to is.id;
+        task = t.y;
+        latest = t.is;
+        least = subst (λ z. IsLeastTask b (r.to is.id) z) same l.least;
+      }
 
-  commit_empty : ((id : ℕ) (task : Task) → IsLeastTask a id task → task.status ≢ Finished) → (id : ℕ) (task : Task) → IsLeastTask b id task → task.status ≢ Finished
-  commit_empty none id task least done = let l = least_too (inverse_of r) b a back id task least in none (r.from id) l.y l.least (ap (λ t. t.status) l.alike.other_is ∙ done)
+  commit_empty : ((id : ℕ) (task : Task) → IsLeastTask a id task → task.status ≢ Finished) → (id : ℕ) (task : Task)
+      → IsLeastTask b id task → task.status ≢ Finished
+  commit_empty none id task least done =
+      let l = least_too (inverse_of r) b a back id task least in
+      none (r.from id) l.y l.least (ap (λ t. t.status) l.alike.other_is ∙ done)
 
   coalesce_empty : (tile : ℕ) → ((id : ℕ) → IsMovable a tile id → ⊥) → (id : ℕ) → IsMovable b tile id → ⊥
   coalesce_empty tile none id is = none (r.from id) (movable_too (inverse_of r) b a back tile id is)
@@ -192,10 +212,12 @@ module _ (r : Renaming) (old other : BookView) (alike : AreAlikeBooks r old othe
 
 module _ {N : Type 0} (r : Renaming) (old other : BookView) (alike : AreAlikeBooks r old other) (event : Event N) where
   pub granted_too : IsGranted old event → IsGranted other event
-  granted_too granted answer has = granted answer (cause_too (inverse_of r) other old (books_turned r old other alike) event answer has)
+  granted_too granted answer has =
+      granted answer (cause_too (inverse_of r) other old (books_turned r old other alike) event answer has)
 
   pub refused_too : (answer : Reply) → IsRefused old event answer → IsRefused other event answer
   refused_too answer is = record {
     cause = cause_too r old other alike event answer is.cause;
-    first = λ earlier before has. is.first earlier before (cause_too (inverse_of r) other old (books_turned r old other alike) event earlier has);
+    first =
+        λ earlier before has. is.first earlier before (cause_too (inverse_of r) other old (books_turned r old other alike) event earlier has);
   }

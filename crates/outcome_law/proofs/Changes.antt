@@ -1,5 +1,6 @@
 -- The one change of an event leaves views that are alike.
-use Rattle.std.proofs.Common.{◌≡◌, ◌+◌, ◌++◌, ℕ, List, [], ◌∷◌, map, Option, Some, None, option_map, sym, ap, subst, ◌∙◌, inl, inr, arith}
+use Rattle.std.proofs.Common.{◌≡◌, ◌+◌, ◌++◌, ℕ, List, [], ◌∷◌, map, Option, Some, None, option_map, sym, ap, subst}
+use Rattle.std.proofs.Common.{◌∙◌, inl, inr, arith}
 use Rattle.std.specs.Prelude.{slice_index_or, slice_set}
 use Rattle.std.proofs.lemmas.Bool.{cases_eq}
 use Rattle.std.proofs.lemmas.List.{map-set, map-append}
@@ -23,8 +24,10 @@ use Rattle.outcome_law.proofs.Aborts.{one_to}
 use Rattle.spec_law.proofs.Proved.{one_least_idle}
 
 -- one task changes, and its partner changes alike
-pub changed_alike : (r : Renaming) (a b a' b' : View) → AreAlike r a b → (id : ℕ) (s t : Option Task) → IsAlikeAt r.to s t
-    → ChangesTask a a' id s → ChangesTask b b' (r.to id) t → (k : ℕ) → IsAlikeAt r.to (task_at a' k) (task_at b' (r.to k))
+pub changed_alike : (r : Renaming) (a b a' b' : View) → AreAlike r a b → (id : ℕ) (s t : Option Task)
+    → IsAlikeAt r.to s t
+    → ChangesTask a a' id s → ChangesTask b b' (r.to id) t → (k : ℕ)
+    → IsAlikeAt r.to (task_at a' k) (task_at b' (r.to k))
 changed_alike r a b a' b' alike id s t same one two k = elim (cases_eq k id) [
   | inl here ↦ subst (λ u. IsAlikeAt r.to u (task_at b' (r.to k))) (sym (ap (task_at a') here ∙ one.changed))
       (subst (λ u. IsAlikeAt r.to s u) (sym (ap (λ j. task_at b' (r.to j)) here ∙ two.changed)) same)
@@ -43,18 +46,22 @@ module _ (r : Renaming) (a b : View) (alike : AreAlike r a b) where
   memory_same = ap (λ v. v.memory) alike.frame
 
   -- a task that is another one in some of its fields, and its partner
-  pub keeps_alike : (id : ℕ) (now now' : Task) → IsAlikeTask r.to now now' → (a' b' : View) → Keeps id now a a' → Keeps (r.to id) now' b b' → AreAlike r a' b'
+  pub keeps_alike : (id : ℕ) (now now' : Task) → IsAlikeTask r.to now now' → (a' b' : View) → Keeps id now a a'
+      → Keeps (r.to id) now' b b' → AreAlike r a' b'
   keeps_alike id now now' same a' b' one two = record {
     tasks = changed_alike r a b a' b' alike id (Some now) (Some now') same one.changes two.changes;
     queues = ap (λ v. v.queues) two.frame ∙ (alike.queues ∙ ap (λ v. map (map r.to) v.queues) (sym one.frame));
     finished = ap (λ v. v.finished) two.frame ∙ (alike.finished ∙ ap (λ v. map (map r.to) v.finished) (sym one.frame));
     cores = ap (λ v. v.cores) two.frame ∙ (alike.cores ∙ ap (λ v. map (map (option_map r.to)) v.cores) (sym one.frame));
-    frame = two.frame ∙ (ap {A = View} (λ v. record v { tasks = b'.tasks }) alike.frame ∙ ap {A = View} (λ v. record v { tasks = b'.tasks; queues = b.queues; finished = b.finished; cores = b.cores }) (sym one.frame)
+    frame =
+        two.frame
+        ∙ (ap {A = View} (λ v. record v { tasks = b'.tasks }) alike.frame ∙ ap {A = View} (λ v. record v { tasks = b'.tasks; queues = b.queues; finished = b.finished; cores = b.cores }) (sym one.frame)
         ∙ ap {A = View} (λ v. record a' { tasks = b'.tasks; queues = v.queues; finished = v.finished; cores = v.cores }) (sym two.frame));
   }
 
   -- the cores with another holder
-  pub with_core_alike : (tile core : ℕ) (holder : Option ℕ) → with_core b tile core (option_map r.to holder) ≡ map (map (option_map r.to)) (with_core a tile core holder)
+  pub with_core_alike : (tile core : ℕ) (holder : Option ℕ)
+      → with_core b tile core (option_map r.to holder) ≡ map (map (option_map r.to)) (with_core a tile core holder)
   with_core_alike tile core holder =
       (λ i. slice_set (alike.cores i) tile (slice_set (cores_too r a b alike tile i) core (option_map r.to holder)))
       ∙ (ap (slice_set (map (map (option_map r.to)) a.cores) tile) (sym (map-set (option_map r.to) (cores_at a tile) core holder))
@@ -72,15 +79,20 @@ module _ (r : Renaming) (a b : View) (alike : AreAlike r a b) where
       let now' : Task = record two.task { key = record two.task.key { tb = Some b.next }; status = status.Running two.core; core = start_core b.version two.task } in
       let like : IsAlikeTask r.to one.task two.task = subst (λ t. IsAlikeTask r.to one.task t) (sym tasks) least.alike in
       let same : IsAlikeTask r.to now now' = record {
-        other_is = (λ i. record (like.other_is i) { key = record (like.other_is i).key { tb = Some (next i) }; status = status.Running (core i); core = start_core (version_same i) (like.other_is i) });
+        other_is =
+            (λ i. record (like.other_is i) { key = record (like.other_is i).key { tb = Some (next i) }; status = status.Running (core i); core = start_core (version_same i) (like.other_is i) });
         touched = λ line. like.touched line;
         written = λ line. like.written line;
       } in
       record {
-        tasks = changed_alike r a b a' b' alike one.id (Some now) (Some now') same one.changes (subst (λ k. ChangesTask b b' k (Some now')) ids two.changes);
+        tasks =
+            changed_alike r a b a' b' alike one.id (Some now) (Some now') same one.changes (subst (λ k. ChangesTask b b' k (Some now')) ids two.changes);
         queues = ap (λ v. v.queues) two.frame ∙ (alike.queues ∙ ap (λ v. map (map r.to) v.queues) (sym one.frame));
-        finished = ap (λ v. v.finished) two.frame ∙ (alike.finished ∙ ap (λ v. map (map r.to) v.finished) (sym one.frame));
-        cores = two.cores ∙ ((λ i. with_core b tile (core i) (Some (ids i))) ∙ (with_core_alike tile one.core (Some one.id) ∙ ap (map (map (option_map r.to))) (sym one.cores)));
+        finished =
+            ap (λ v. v.finished) two.frame ∙ (alike.finished ∙ ap (λ v. map (map r.to) v.finished) (sym one.frame));
+        cores =
+            two.cores
+            ∙ ((λ i. with_core b tile (core i) (Some (ids i))) ∙ (with_core_alike tile one.core (Some one.id) ∙ ap (map (map (option_map r.to))) (sym one.cores)));
         frame = (let nexts : b'.next ≡ a'.next = two.next ∙ (ap (λ n. n + 1) next ∙ sym one.next) in
             two.frame
             ∙ (ap {A = View} (λ v. record v { tasks = b'.tasks; next = b'.next; cores = b'.cores }) alike.frame
@@ -90,7 +102,8 @@ module _ (r : Renaming) (a b : View) (alike : AreAlike r a b) where
       }
 
   -- an access
-  pub accesses_alike : (id : ℕ) (task task' : Task) → IsAlikeTask r.to task task' → (call : MemoryCall) (core core' : Core) → core' ≡ core → (a' b' : View)
+  pub accesses_alike : (id : ℕ) (task task' : Task) → IsAlikeTask r.to task task'
+      → (call : MemoryCall) (core core' : Core) → core' ≡ core → (a' b' : View)
       → Accesses id task call core a a' → Accesses (r.to id) task' call core' b b' → AreAlike r a' b'
   accesses_alike id task task' like call core core' cores a' b' one two =
       let logs : task'.log ++ access_of b.memory call ∷ [] ≡ task.log ++ access_of a.memory call ∷ [] = λ i. (like.other_is i).log ++ access_of (memory_same i) call ∷ [] in
@@ -107,8 +120,10 @@ module _ (r : Renaming) (a b : View) (alike : AreAlike r a b) where
       record {
         tasks = changed_alike r a b a' b' alike id (Some now) (Some now') same one.changes two.changes;
         queues = ap (λ v. v.queues) two.frame ∙ (alike.queues ∙ ap (λ v. map (map r.to) v.queues) (sym one.frame));
-        finished = ap (λ v. v.finished) two.frame ∙ (alike.finished ∙ ap (λ v. map (map r.to) v.finished) (sym one.frame));
-        cores = ap (λ v. v.cores) two.frame ∙ (alike.cores ∙ ap (λ v. map (map (option_map r.to)) v.cores) (sym one.frame));
+        finished =
+            ap (λ v. v.finished) two.frame ∙ (alike.finished ∙ ap (λ v. map (map r.to) v.finished) (sym one.frame));
+        cores =
+            ap (λ v. v.cores) two.frame ∙ (alike.cores ∙ ap (λ v. map (map (option_map r.to)) v.cores) (sym one.frame));
         frame = two.frame ∙ (ap {A = View} (λ v. record v { tasks = b'.tasks; memory = b'.memory }) alike.frame
             ∙ (ap {A = List ℕ} (λ m. record a { tasks = b'.tasks; queues = b.queues; finished = b.finished; cores = b.cores; memory = m }) memory
             ∙ (ap {A = View} (λ v. record v { tasks = b'.tasks; queues = b.queues; finished = b.finished; cores = b.cores }) (sym one.frame)
@@ -125,7 +140,8 @@ module _ (r : Renaming) (a b : View) (alike : AreAlike r a b) where
       ∙ sym (map-set (map r.to) lists tile (slice_index_or lists tile [] ++ id ∷ [])))
 
   -- an end call
-  pub finishes_alike : (tile core id : ℕ) (task task' : Task) (leg : LegValue) → IsAlikeTask r.to task task' → (a' b' : View)
+  pub finishes_alike : (tile core id : ℕ) (task task' : Task) (leg : LegValue) → IsAlikeTask r.to task task'
+      → (a' b' : View)
       → Finishes tile core id task leg a a' → Finishes tile core (r.to id) task' leg b b' → AreAlike r a' b'
   finishes_alike tile core id task task' leg like a' b' one two =
       let now : Task = record (task_past_leg task leg) { status = status.Finished } in
@@ -138,9 +154,13 @@ module _ (r : Renaming) (a b : View) (alike : AreAlike r a b) where
       record {
         tasks = changed_alike r a b a' b' alike id (Some now) (Some now') same one.changes two.changes;
         queues = ap (λ v. v.queues) two.frame ∙ (alike.queues ∙ ap (λ v. map (map r.to) v.queues) (sym one.frame));
-        finished = two.finished ∙ (ended_alike a.finished b.finished alike.finished tile id ∙ ap (map (map r.to)) (sym one.finished));
+        finished =
+            two.finished
+            ∙ (ended_alike a.finished b.finished alike.finished tile id ∙ ap (map (map r.to)) (sym one.finished));
         cores = two.cores ∙ (with_core_alike tile core None ∙ ap (map (map (option_map r.to))) (sym one.cores));
-        frame = two.frame ∙ (ap {A = View} (λ v. record v { tasks = b'.tasks; finished = b'.finished; cores = b'.cores }) alike.frame
+        frame =
+            two.frame
+            ∙ (ap {A = View} (λ v. record v { tasks = b'.tasks; finished = b'.finished; cores = b'.cores }) alike.frame
             ∙ (ap {A = View} (λ v. record v { tasks = b'.tasks; queues = b.queues; finished = b'.finished; cores = b'.cores }) (sym one.frame)
             ∙ ap {A = View} (λ v. record a' { tasks = b'.tasks; queues = v.queues; finished = b'.finished; cores = b'.cores }) (sym two.frame)));
       }

@@ -1,5 +1,6 @@
 -- The tasks that a coalescing moves are one list.
-use Rattle.std.proofs.Common.{◌≡◌, ◌≢◌, ◌≤◌, ◌<◌, suc, ℕ, List, [], ◌∷◌, length, refl, sym, ap, subst, ◌∙◌, inl, inr, ◌⊎◌, arith}
+use Rattle.std.proofs.Common.{◌≡◌, ◌≢◌, ◌≤◌, ◌<◌, suc, ℕ, List, [], ◌∷◌, length, refl, sym, ap, subst, ◌∙◌, inl, inr}
+use Rattle.std.proofs.Common.{◌⊎◌, arith}
 use Rattle.std.specs.Prelude.{AllPairs}
 use Rattle.std.proofs.lemmas.Bool.{cases_eq, cases_lt}
 use Rattle.std.proofs.lemmas.List.Elements.{All-contains}
@@ -77,14 +78,17 @@ module _ (M : ℕ → Type 0) (P : ℕ → ℕ → Type 0) (asym : (x y : ℕ) �
   pub rises : (xs : List ℕ) → AllPairs P xs → Rises xs
   unfolding Rises
   rises [] pairs = tt
-  rises (x ∷ xs) pairs = ((λ y at. All-contains (P x) xs y (AllPairs-head P x xs pairs) (in_contains xs y at)), rises xs (AllPairs-tail P x xs pairs))
+  rises (x ∷ xs) pairs =
+      ((λ y at. All-contains (P x) xs y (AllPairs-head P x xs pairs) (in_contains xs y at)), rises xs (AllPairs-tail P x xs pairs))
 
   apart : (xs : List ℕ) → ((x : ℕ) → In x xs → M x) → Rises xs → AreApart xs
   unfolding Rises AreApart
   apart [] of up = tt
-  apart (x ∷ xs) of up = ((λ at. asym x x (of x (inl refl)) (of x (inl refl)) (up.0 x at) (up.0 x at)), apart xs (λ y at. of y (inr at)) up.1)
+  apart (x ∷ xs) of up =
+      ((λ at. asym x x (of x (inl refl)) (of x (inl refl)) (up.0 x at) (up.0 x at)), apart xs (λ y at. of y (inr at)) up.1)
 
-  pub one_order : (xs ys : List ℕ) → ((x : ℕ) → In x xs → M x) → Rises xs → Rises ys → ((x : ℕ) → In x xs → In x ys) → ((x : ℕ) → In x ys → In x xs) → xs ≡ ys
+  pub one_order : (xs ys : List ℕ) → ((x : ℕ) → In x xs → M x) → Rises xs → Rises ys → ((x : ℕ) → In x xs → In x ys)
+      → ((x : ℕ) → In x ys → In x xs) → xs ≡ ys
   unfolding Rises
   one_order [] [] of up up' one two = refl
   one_order [] (y ∷ ys) of up up' one two = absurd (two y (inl refl))
@@ -105,7 +109,8 @@ module _ (M : ℕ → Type 0) (P : ℕ → ℕ → Type 0) (asym : (x y : ℕ) �
       same_first : In x (y ∷ ys) → In y (x ∷ xs) → x ≡ y
       same_first (inl here) there = here
       same_first (inr later) (inl here) = sym here
-      same_first (inr later) (inr later') = absurd (asym x y (of x (inl refl)) (of y (inr later')) (up.0 y later') (up'.0 x later))
+      same_first (inr later) (inr later') =
+          absurd (asym x y (of x (inl refl)) (of y (inr later')) (up.0 y later') (up'.0 x later))
 
   -- at most so many of the last ones
   record AreLast (most : ℕ) (xs : List ℕ) : Type 0 where
@@ -144,22 +149,28 @@ module _ (M : ℕ → Type 0) (P : ℕ → ℕ → Type 0) (asym : (x y : ℕ) �
           joined misses = (misses, apart ys two.movable two.rising)
 
   last_are_one : (most : ℕ) (xs ys : List ℕ) → AreLast most xs → AreLast most ys → xs ≡ ys
-  last_are_one most xs ys one two = one_order xs ys one.movable one.rising two.rising (last_within most xs ys one two) (last_within most ys xs two one)
+  last_are_one most xs ys one two =
+      one_order xs ys one.movable one.rising two.rising (last_within most xs ys one two) (last_within most ys xs two one)
 
 -- ---- the tasks that move
 
 module _ (view : View) (tile : ℕ) where
-  movable_apart : (x y : ℕ) → IsMovable view tile x → IsMovable view tile y → Precedes view tile x y → Precedes view tile y x → ⊥
-  movable_apart x y one two before behind = not_both_ways view tile x y one.0 two.0 one.1.idle.queued one.1.idle.there two.1.idle.queued two.1.idle.there before behind
+  movable_apart : (x y : ℕ) → IsMovable view tile x → IsMovable view tile y → Precedes view tile x y
+      → Precedes view tile y x → ⊥
+  movable_apart x y one two before behind =
+      not_both_ways view tile x y one.0 two.0 one.1.idle.queued one.1.idle.there two.1.idle.queued two.1.idle.there before behind
 
-  are_last : (ids : List ℕ) → AreChosen view tile ids → AreLast (IsMovable view tile) (Precedes view tile) movable_apart MAX_MOVED ids
+  are_last : (ids : List ℕ) → AreChosen view tile ids
+      → AreLast (IsMovable view tile) (Precedes view tile) movable_apart MAX_MOVED ids
   are_last ids c = record {
     movable = λ x at. c.movable x (in_contains ids x at);
     few = c.few;
     all = λ less x movable. contains_in ids x (c.all less x movable);
-    latest = λ stays x movable none at. c.latest stays x movable (λ has. none (contains_in ids stays has)) (in_contains ids x at);
+    latest =
+        λ stays x movable none at. c.latest stays x movable (λ has. none (contains_in ids stays has)) (in_contains ids x at);
     rising = rises (IsMovable view tile) (Precedes view tile) movable_apart ids c.rising;
   }
 
   pub chosen_are_one : (ids others : List ℕ) → AreChosen view tile ids → AreChosen view tile others → ids ≡ others
-  chosen_are_one ids others one two = last_are_one (IsMovable view tile) (Precedes view tile) movable_apart MAX_MOVED ids others (are_last ids one) (are_last others two)
+  chosen_are_one ids others one two =
+      last_are_one (IsMovable view tile) (Precedes view tile) movable_apart MAX_MOVED ids others (are_last ids one) (are_last others two)

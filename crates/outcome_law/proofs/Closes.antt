@@ -26,7 +26,8 @@ close_is_one old other closed other_closed same one two =
     λ i. record { journal = history i; memory = memories i; output = output i; steps = steps i }
 
 pub events_are_one : (N : Type 0) → EventsAreOne N
-events_are_one N image old other new other_new [] [] [] sound sound' same given has has' one two = (refl, subst (λ (x : BookView). AreSameBooks x other_new) one (subst (λ (y : BookView). AreSameBooks old y) two same))
+events_are_one N image old other new other_new [] [] [] sound sound' same given has has' one two =
+    (refl, subst (λ (x : BookView). AreSameBooks x other_new) one (subst (λ (y : BookView). AreSameBooks old y) two same))
 events_are_one N image old other new other_new (e ∷ es) (x ∷ xs) (y ∷ ys) sound sound' same given has has' one two =
     let is = outcome_is_one N image old other one.0 two.0 e x.reply y.reply x.aborted y.aborted sound sound' same one.1 two.1 has.0 has'.0 in
     let kept = happens_keeps N image old one.0 e x.aborted given.0 sound x.reply one.1 in
@@ -37,11 +38,14 @@ events_are_one N image old other new other_new (e ∷ es) (x ∷ xs) (y ∷ ys) 
 events_are_one N image old other new other_new [] (x ∷ xs) ys sound sound' same given has has' one two = absurd one
 events_are_one N image old other new other_new [] [] (y ∷ ys) sound sound' same given has has' one two = absurd two
 events_are_one N image old other new other_new (e ∷ es) [] ys sound sound' same given has has' one two = absurd one
-events_are_one N image old other new other_new (e ∷ es) (x ∷ xs) [] sound sound' same given has has' one two = absurd two
+events_are_one N image old other new other_new (e ∷ es) (x ∷ xs) [] sound sound' same given has has' one two =
+    absurd two
 
 -- as many events for the least tasks leave sound books that are alike, as the next event needs
-least_runs_keep : (N : Type 0) (image : ImageValue) (n : ℕ) (old other new other_new : BookView) → Sound image old.view → Sound image other.view → AreSameBooks old other
-    → AdvancesBy N image n old new → AdvancesBy N image n other other_new → AreSameBooks new other_new × Sound image new.view × Sound image other_new.view
+least_runs_keep : (N : Type 0) (image : ImageValue) (n : ℕ) (old other new other_new : BookView) → Sound image old.view
+    → Sound image other.view → AreSameBooks old other
+    → AdvancesBy N image n old new → AdvancesBy N image n other other_new
+    → AreSameBooks new other_new × Sound image new.view × Sound image other_new.view
 least_runs_keep N image zero old other new other_new sound sound' same one two =
     subst (λ (x : BookView). AreSameBooks x other_new × Sound image x.view × Sound image other_new.view) one (subst (λ (y : BookView). AreSameBooks old y × Sound image old.view × Sound image y.view) two (same, sound, sound'))
 least_runs_keep N image (suc n) old other new other_new sound sound' same one two =
@@ -56,4 +60,5 @@ least_runs_keep N image (suc n) old other new other_new sound sound' same one tw
     )
 
 pub least_run_is_one : (N : Type 0) → LeastRunIsOne N
-least_run_is_one N image n old other new other_new sound sound' same one two = (least_runs_keep N image n old other new other_new sound sound' same one two).0
+least_run_is_one N image n old other new other_new sound sound' same one two =
+    (least_runs_keep N image n old other new other_new sound sound' same one two).0

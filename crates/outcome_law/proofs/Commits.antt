@@ -1,5 +1,6 @@
 -- A commit leaves views that are alike.
-use Rattle.std.proofs.Common.{◌≡◌, ◌≢◌, ◌+◌, ◌++◌, ◌==◌, ℕ, Bool, true, false, List, [], ◌∷◌, map, length, Option, Some, None, option_map, refl, sym, ap, subst, ◌∙◌, inl, inr, arith}
+use Rattle.std.proofs.Common.{◌≡◌, ◌≢◌, ◌+◌, ◌++◌, ◌==◌, ℕ, Bool, true, false, List, [], ◌∷◌, map, length, Option, Some}
+use Rattle.std.proofs.Common.{None, option_map, refl, sym, ap, subst, ◌∙◌, inl, inr, arith}
 use Rattle.std.specs.Prelude.{not, if◌then◌else◌}
 use Rattle.std.proofs.lemmas.Bool.{cases_eq}
 use Rattle.std.proofs.lemmas.Bool.Decides.{nat_tests}
@@ -25,15 +26,20 @@ same_tested r k j = elim (cases_eq k j) [
 ]
 
 module _ (r : Renaming) (id n : ℕ) where
-  creator_too : (c : Creator) → creator_after (r.to id) n (renamed_creator r.to c) ≡ renamed_creator r.to (creator_after id n c)
+  creator_too : (c : Creator)
+      → creator_after (r.to id) n (renamed_creator r.to c) ≡ renamed_creator r.to (creator_after id n c)
   creator_too (Committed turn index) = refl
-  creator_too (Live task index) = ap (λ t. if t then Committed n index else Live (record { 0 = r.to task.0 }) index) (same_tested r task.0 id) ∙ by_test (task.0 == id)
+  creator_too (Live task index) =
+      ap (λ t. if t then Committed n index else Live (record { 0 = r.to task.0 }) index) (same_tested r task.0 id)
+      ∙ by_test (task.0 == id)
     where
-      by_test : (t : Bool) → (if t then Committed n index else Live (record { 0 = r.to task.0 }) index) ≡ renamed_creator r.to (if t then Committed n index else Live task index)
+      by_test : (t : Bool)
+          → (if t then Committed n index else Live (record { 0 = r.to task.0 }) index) ≡ renamed_creator r.to (if t then Committed n index else Live task index)
       by_test true = refl
       by_test false = refl
 
-  left_alike : (x y : Task) → IsAlikeTask r.to x y → IsAlikeTask r.to (record x { creator = creator_after id n x.creator }) (record y { creator = creator_after (r.to id) n y.creator })
+  left_alike : (x y : Task) → IsAlikeTask r.to x y
+      → IsAlikeTask r.to (record x { creator = creator_after id n x.creator }) (record y { creator = creator_after (r.to id) n y.creator })
   left_alike x y same = record {
     other_is =
         (let creators : creator_after (r.to id) n y.creator ≡ renamed_creator r.to (creator_after id n x.creator) =
@@ -43,12 +49,14 @@ module _ (r : Renaming) (id n : ℕ) where
     written = same.written;
   }
 
-  after_too : (k : ℕ) (s t : Option Task) → IsAlikeAt r.to s t → IsAlikeAt r.to (after_commit id n k s) (after_commit (r.to id) n (r.to k) t)
+  after_too : (k : ℕ) (s t : Option Task) → IsAlikeAt r.to s t
+      → IsAlikeAt r.to (after_commit id n k s) (after_commit (r.to id) n (r.to k) t)
   after_too k None None same = tt
   after_too k (Some x) (Some y) same =
       subst (λ e. IsAlikeAt r.to (after_commit id n k (Some x)) (if e then None else Some (record y { creator = creator_after (r.to id) n y.creator }))) (sym (same_tested r k id)) (by_test (k == id))
     where
-      by_test : (e : Bool) → IsAlikeAt r.to (if e then None else Some (record x { creator = creator_after id n x.creator })) (if e then None else Some (record y { creator = creator_after (r.to id) n y.creator }))
+      by_test : (e : Bool)
+          → IsAlikeAt r.to (if e then None else Some (record x { creator = creator_after id n x.creator })) (if e then None else Some (record y { creator = creator_after (r.to id) n y.creator }))
       by_test true = tt
       by_test false = left_alike x y same
   after_too k None (Some y) same = absurd same
@@ -57,8 +65,11 @@ module _ (r : Renaming) (id n : ℕ) where
   without_too : (ids : List ℕ) → ids_but (r.to id) (map r.to ids) ≡ map r.to (ids_but id ids)
   without_too = filter_mapped r.to (λ k. not (k == id)) (λ k. not (k == r.to id)) (λ k. ap not (same_tested r k id))
 
-  all_without_too : (lists lists' : List (List ℕ)) → lists' ≡ map (map r.to) lists → map (ids_but (r.to id)) lists' ≡ map (map r.to) (map (ids_but id) lists)
-  all_without_too lists lists' same = ap (map (ids_but (r.to id))) same ∙ map_same (ids_but (r.to id)) (map r.to) (map r.to) (ids_but id) without_too lists
+  all_without_too : (lists lists' : List (List ℕ)) → lists' ≡ map (map r.to) lists
+      → map (ids_but (r.to id)) lists' ≡ map (map r.to) (map (ids_but id) lists)
+  all_without_too lists lists' same =
+      ap (map (ids_but (r.to id))) same
+      ∙ map_same (ids_but (r.to id)) (map r.to) (map r.to) (ids_but id) without_too lists
 
 module _ (r : Renaming) (a b : View) (alike : AreAlike r a b) where
   pub commits_alike : (a' b' : View) → Commits a a' → Commits b b' → AreAlike r a' b'
@@ -78,10 +89,17 @@ module _ (r : Renaming) (a b : View) (alike : AreAlike r a b) where
         tasks = λ k. subst (λ s. IsAlikeAt r.to s (task_at b' (r.to k))) (sym (one.each k))
             (subst (λ t. IsAlikeAt r.to (after_commit one.id (length a.history + 1) k (task_at a k)) t) (sym (two.each (r.to k) ∙ (λ i. after_commit (ids i) (length (old i) + 1) (r.to k) (task_at b (r.to k)))))
             (after_too r one.id (length a.history + 1) k (task_at a k) (task_at b (r.to k)) (alike.tasks k)));
-        queues = two.queues ∙ (ap (λ id. map (ids_but id) b.queues) ids ∙ (all_without_too r one.id 0 a.queues b.queues alike.queues ∙ ap (map (map r.to)) (sym one.queues)));
-        finished = two.finished ∙ (ap (λ id. map (ids_but id) b.finished) ids ∙ (all_without_too r one.id 0 a.finished b.finished alike.finished ∙ ap (map (map r.to)) (sym one.finished)));
-        cores = ap (λ v. v.cores) two.frame ∙ (alike.cores ∙ ap (λ v. map (map (option_map r.to)) v.cores) (sym one.frame));
-        frame = two.frame ∙ (ap {A = View} (λ v. record v { tasks = b'.tasks; history = b'.history; output = b'.output; path = b'.path; queues = b'.queues; finished = b'.finished }) alike.frame
+        queues =
+            two.queues
+            ∙ (ap (λ id. map (ids_but id) b.queues) ids ∙ (all_without_too r one.id 0 a.queues b.queues alike.queues ∙ ap (map (map r.to)) (sym one.queues)));
+        finished =
+            two.finished
+            ∙ (ap (λ id. map (ids_but id) b.finished) ids ∙ (all_without_too r one.id 0 a.finished b.finished alike.finished ∙ ap (map (map r.to)) (sym one.finished)));
+        cores =
+            ap (λ v. v.cores) two.frame ∙ (alike.cores ∙ ap (λ v. map (map (option_map r.to)) v.cores) (sym one.frame));
+        frame =
+            two.frame
+            ∙ (ap {A = View} (λ v. record v { tasks = b'.tasks; history = b'.history; output = b'.output; path = b'.path; queues = b'.queues; finished = b'.finished }) alike.frame
             ∙ ((λ i. record a { tasks = b'.tasks; queues = b'.queues; finished = b'.finished; cores = b.cores; history = history i; output = output i; path = path i })
             ∙ (ap {A = View} (λ v. record v { tasks = b'.tasks; queues = b'.queues; finished = b'.finished; cores = b.cores }) (sym one.frame)
             ∙ ap {A = View} (λ v. record a' { tasks = b'.tasks; queues = b'.queues; finished = b'.finished; cores = v.cores }) (sym two.frame))));

@@ -1,5 +1,6 @@
 -- An event that is made of books that are alike leaves views that are alike, and takes as many tasks back.
-use Rattle.std.proofs.Common.{◌≡◌, ◌+◌, ◌++◌, ◌/◌, ℕ, Bool, true, false, List, [], ◌∷◌, map, length, Some, refl, sym, ap, subst, ◌∙◌}
+use Rattle.std.proofs.Common.{◌≡◌, ◌+◌, ◌++◌, ◌/◌, ℕ, Bool, true, false, List, [], ◌∷◌, map, length, Some, refl, sym}
+use Rattle.std.proofs.Common.{ap, subst, ◌∙◌}
 use Rattle.fractal_vt.specs.declared.key.Key.{Key}
 use Rattle.guest_image.specs.ImageValue.{ImageValue}
 use Rattle.place_policy.specs.Policy.{Policy}
@@ -9,7 +10,8 @@ use Rattle.rv_core.specs.Memory.{load_width}
 use Rattle.rv_core.specs.Legs.{after_other_of, after_load_of}
 use Rattle.task_desc.specs.declared.desc.Spawn.{Spawn}
 use Rattle.task_request.specs.declared.request.Request.{Request}
-use Rattle.task_request.specs.declared.request.Request.TheVariants.{Continue, Load, Store, Enqueue, MakeSub, Emit, End, Trap}
+use Rattle.task_request.specs.declared.request.Request.TheVariants.{Continue, Load, Store, Enqueue, MakeSub, Emit, End}
+use Rattle.task_request.specs.declared.request.Request.TheVariants.{Trap}
 use Rattle.task_request.specs.Requests.{request_at}
 use Rattle.undo_log.specs.Number.{number_at}
 use Rattle.undo_log.specs.Undo as undo
@@ -30,8 +32,10 @@ use Rattle.spec_law.specs.Sound.{Sound}
 use Rattle.event_def.specs.Book.{BookView, picked_tile, placers_after_commit}
 use Rattle.event_def.specs.declared.event.Event.{Event}
 use Rattle.event_def.specs.declared.event.Event.TheVariants as event
-use Rattle.event_def.specs.Events.{DispatchEvent, LoadEvent, StoreEvent, EnqueueEvent, EndEvent, ComesTo, StepEvent, AbortEvent, SplitEvent, Makes}
-use Rattle.event_law.proofs.Proved.{running_is_dispatched, least_is_heir, room_follows, asker_is_there, spilled_asks, spilled_no_heir}
+use Rattle.event_def.specs.Events.{DispatchEvent, LoadEvent, StoreEvent, EnqueueEvent, EndEvent, ComesTo, StepEvent}
+use Rattle.event_def.specs.Events.{AbortEvent, SplitEvent, Makes}
+use Rattle.event_law.proofs.Proved.{running_is_dispatched, least_is_heir, room_follows, asker_is_there, spilled_asks}
+use Rattle.event_law.proofs.Proved.{spilled_no_heir}
 use Rattle.event_law.proofs.Proved.{running_is_busy}
 use Rattle.event_lemma.proofs.Proved.{finished_is_dispatched, holder_is_dispatched}
 use Rattle.outcome_law.specs.Alike.{Renaming, inverse_of, IsAlikeTask, AreAlike}
@@ -39,7 +43,8 @@ use Rattle.outcome_law.specs.Alike.{AreAlikeBooks}
 use Rattle.outcome_law.proofs.Alike.{alike_turned, task_turned}
 use Rattle.outcome_law.proofs.Aborts.{AreFirsts, AbortAlike, aborts_alike}
 use Rattle.outcome_law.proofs.Anew.{holds_tasks}
-use Rattle.outcome_law.proofs.Changes.{dispatches_alike, keeps_alike, accesses_alike, finishes_alike, version_same, memory_same, settings_same}
+use Rattle.outcome_law.proofs.Changes.{dispatches_alike, keeps_alike, accesses_alike, finishes_alike, version_same}
+use Rattle.outcome_law.proofs.Changes.{memory_same, settings_same}
 use Rattle.outcome_law.proofs.Commits.{commits_alike}
 use Rattle.outcome_law.proofs.Moves.{coalesces_alike}
 use Rattle.outcome_law.proofs.News.{AlikeSomehow, splits_alike, enqueues_alike}
@@ -67,9 +72,11 @@ module _ (image : ImageValue) (view : View) (sound : Sound image view) (tile cor
   room_sound to forced = (room_follows image to (Enqueuer id) view sound is_heir (asks to) forced).now
 
   pub asker_stays : (to : ℕ) {n : ℕ} {mid : View} → MakesRoom to (Enqueuer id) view n mid → task_at mid id ≡ Some task
-  asker_stays to forced = asker_is_there image to (Enqueuer id) view sound is_heir (asks to) id task refl takes.runs.on.there (running_is_busy core task.status takes.runs.running) forced
+  asker_stays to forced =
+      asker_is_there image to (Enqueuer id) view sound is_heir (asks to) id task refl takes.runs.on.there (running_is_busy core task.status takes.runs.running) forced
 
-split_sound : (image : ImageValue) (view : View) → Sound image view → (tile : ℕ) {n : ℕ} {mid : View} → MakesRoom tile Splitter view n mid → Sound image mid
+split_sound : (image : ImageValue) (view : View) → Sound image view → (tile : ℕ) {n : ℕ} {mid : View}
+    → MakesRoom tile Splitter view n mid → Sound image mid
 split_sound image view sound tile forced =
     (room_follows image tile Splitter view sound (λ least. ap asker_of (sym (spilled_no_heir view tile sound.heir least sound.is_heir))) (spilled_asks view tile) forced).now
 
@@ -80,7 +87,8 @@ lengths_same to [] = refl
 lengths_same to (q ∷ qs) = λ i. length-map q to i ∷ lengths_same to qs i
 
 -- the tile that the serving placer picks is one
-pub picked_alike : (r : Renaming) (old other : BookView) → AreAlikeBooks r old other → (hint : ℕ) → picked_tile other hint ≡ picked_tile old hint
+pub picked_alike : (r : Renaming) (old other : BookView) → AreAlikeBooks r old other → (hint : ℕ)
+    → picked_tile other hint ≡ picked_tile old hint
 picked_alike r old other alike hint =
     let lengths : loads other.view ≡ loads old.view = ap (map length) alike.view.queues ∙ lengths_same r.to old.view.queues in
     λ i. serving_tile (alike.placers i) hint (lengths i)
@@ -99,11 +107,15 @@ module _ (r : Renaming) (a b : View) (alike : AreAlike r a b) where
       λ i. request_at (context_of (version_same r a b alike i) (like.other_is i)) leg.to leg.stop
 
 module _ (image : ImageValue) (r : Renaming) (a b : View) (sound : Sound image a) (sound' : Sound image b) (alike : AreAlike r a b) where
-  dispatch_one : (tile n m : ℕ) (a' b' : View) → DispatchEvent tile a n a' → DispatchEvent tile b m b' → AbortAlike r n m a' b'
+  dispatch_one : (tile n m : ℕ) (a' b' : View) → DispatchEvent tile a n a' → DispatchEvent tile b m b'
+      → AbortAlike r n m a' b'
   dispatch_one tile n m a' b' one two =
       let core = cores_alike r a b alike sound'.heir sound'.order tile (holder_is_dispatched image b sound' tile) one.forced two.forced in
       let ready = frees_number_alike r one.mid two.mid core.alike one.ready two.ready one.number two.number in
-      record { aborted = core.aborted; alike = dispatches_alike r one.ready two.ready ready tile a' b' one.change two.change }
+      record {
+        aborted = core.aborted;
+        alike = dispatches_alike r one.ready two.ready ready tile a' b' one.change two.change;
+      }
 
   abort_one : (tile n m : ℕ) (a' b' : View) → AbortEvent tile a n a' → AbortEvent tile b m b' → AbortAlike r n m a' b'
   abort_one tile n m a' b' one two =
@@ -117,7 +129,8 @@ module _ (image : ImageValue) (r : Renaming) (a b : View) (sound : Sound image a
       → AreFirsts r a (Conflicts a task (offset / a.settings.line) write) (Conflicts b task' (offset / b.settings.line) write)
   conflict_firsts task task' same offset write = record {
     there = λ k is. (is.other, is.later.there);
-    to = λ k is. subst (λ (line : ℕ). Conflicts b task' (offset / line) write (r.to k)) (sym line_same) (conflicts_too r a b alike task task' same (offset / a.settings.line) write k is);
+    to =
+        λ k is. subst (λ (line : ℕ). Conflicts b task' (offset / line) write (r.to k)) (sym line_same) (conflicts_too r a b alike task task' same (offset / a.settings.line) write k is);
   }
 
   -- the running task is one
@@ -125,17 +138,23 @@ module _ (image : ImageValue) (r : Renaming) (a b : View) (sound : Sound image a
     pub id_is : id' ≡ r.to id
     pub like : IsAlikeTask r.to task task'
 
-  pub takers : (tile core : ℕ) (leg : LegValue) (id id' : ℕ) (task task' : Task) → TakesLeg a tile core leg id task → TakesLeg b tile core leg id' task' → OneTaker id id' task task'
+  pub takers : (tile core : ℕ) (leg : LegValue) (id id' : ℕ) (task task' : Task) → TakesLeg a tile core leg id task
+      → TakesLeg b tile core leg id' task' → OneTaker id id' task task'
   takers tile core leg id id' task task' one two =
       let t = running_too r a b alike tile core id task one.runs in
       let ids : Some (Some id') ≡ Some (Some (r.to id)) = sym two.runs.on.held ∙ t.is.on.held in
       let same : id' ≡ r.to id = cc in
-      record { id_is = same; like = subst (λ z. IsAlikeTask r.to task z) (sym (task_one b id' (r.to id) task' t.y same two.runs.on.there t.is.on.there)) t.alike }
+      record {
+        id_is = same;
+        like = subst (λ z. IsAlikeTask r.to task z) (sym (task_one b id' (r.to id) task' t.y same two.runs.on.there t.is.on.there)) t.alike;
+      }
 
 -- an abort of the tasks in conflict with an access takes as many back, and leaves views that are alike
 module _ (image : ImageValue) (r : Renaming) (a b : View) (sound : Sound image a) (sound' : Sound image b) (alike : AreAlike r a b) where
-  conflicts_alike : (task task' : Task) → IsAlikeTask r.to task task' → (offset : ℕ) (write : Bool) (n m : ℕ) (a' b' : View)
-      → Aborts (Conflicts a task (offset / a.settings.line) write) a n a' → Aborts (Conflicts b task' (offset / b.settings.line) write) b m b' → AbortAlike r n m a' b'
+  conflicts_alike : (task task' : Task) → IsAlikeTask r.to task task'
+      → (offset : ℕ) (write : Bool) (n m : ℕ) (a' b' : View)
+      → Aborts (Conflicts a task (offset / a.settings.line) write) a n a'
+      → Aborts (Conflicts b task' (offset / b.settings.line) write) b m b' → AbortAlike r n m a' b'
   conflicts_alike task task' same offset write n m a' b' one two =
       aborts_alike r a b alike (Conflicts a task (offset / a.settings.line) write) (Conflicts b task' (offset / b.settings.line) write)
       (conflict_firsts image r a b sound sound' alike task task' same offset write)
@@ -143,15 +162,20 @@ module _ (image : ImageValue) (r : Renaming) (a b : View) (sound : Sound image a
       n m a' b' one two
 
 module _ (image : ImageValue) (r : Renaming) (old other : BookView) (sound : Sound image old.view) (sound' : Sound image other.view) (alike : AreAlikeBooks r old other) where
-  quietly : (n m : ℕ) (new new' : View) (p p' : List Policy) → n ≡ 0 → m ≡ 0 → p ≡ old.placers → p' ≡ other.placers → AreAlike r new new' → OneMade n m new new' p p'
-  quietly n m new new' p p' none none' same same' views = record { aborted = none' ∙ sym none; placers = same' ∙ (alike.placers ∙ sym same); alike = (r, views) }
+  quietly : (n m : ℕ) (new new' : View) (p p' : List Policy) → n ≡ 0 → m ≡ 0 → p ≡ old.placers → p' ≡ other.placers
+      → AreAlike r new new' → OneMade n m new new' p p'
+  quietly n m new new' p p' none none' same same' views =
+      record { aborted = none' ∙ sym none; placers = same' ∙ (alike.placers ∙ sym same); alike = (r, views) }
 
-  by_abort : (n m : ℕ) (new new' : View) (p p' : List Policy) → p ≡ old.placers → p' ≡ other.placers → AbortAlike r n m new new' → OneMade n m new new' p p'
-  by_abort n m new new' p p' same same' taken = record { aborted = taken.aborted; placers = same' ∙ (alike.placers ∙ sym same); alike = (r, taken.alike) }
+  by_abort : (n m : ℕ) (new new' : View) (p p' : List Policy) → p ≡ old.placers → p' ≡ other.placers
+      → AbortAlike r n m new new' → OneMade n m new new' p p'
+  by_abort n m new new' p p' same same' taken =
+      record { aborted = taken.aborted; placers = same' ∙ (alike.placers ∙ sym same); alike = (r, taken.alike) }
 
   module _ (tile core : ℕ) (leg : LegValue) (id : ℕ) (task task' : Task) (like : IsAlikeTask r.to task task')
       (takes : TakesLeg old.view tile core leg id task) (takes' : TakesLeg other.view tile core leg (r.to id) task') (n m : ℕ) (new new' : View) (p p' : List Policy) where
-    enqueue_one : (spawn : Spawn) → EnqueueEvent tile core leg id task spawn old n new p → EnqueueEvent tile core leg (r.to id) task' spawn other m new' p' → OneMade n m new new' p p'
+    enqueue_one : (spawn : Spawn) → EnqueueEvent tile core leg id task spawn old n new p
+        → EnqueueEvent tile core leg (r.to id) task' spawn other m new' p' → OneMade n m new new' p p'
     enqueue_one spawn one two =
         let to = picked_tile old spawn.hint in
         let same = picked_alike r old other alike spawn.hint in
@@ -162,38 +186,50 @@ module _ (image : ImageValue) (r : Renaming) (old other : BookView) (sound : Sou
         record {
           aborted = room.aborted;
           placers = two.told ∙ ((λ i. first_placed (alike.placers i) (same i)) ∙ sym one.told);
-          alike = enqueues_alike r one.mid two.mid room.alike (holds_tasks image one.mid mid) id task task' (asker_stays image old.view sound tile core id leg task takes to one.forced)
+          alike =
+              enqueues_alike r one.mid two.mid room.alike (holds_tasks image one.mid mid) id task task' (asker_stays image old.view sound tile core id leg task takes to one.forced)
               (asker_stays image other.view sound' tile core (r.to id) leg task' takes' to forced) leg spawn to new new' one.change change;
         }
 
-    load_one : (width : LoadWidth) (rd offset : ℕ) → LoadEvent tile core leg id task width rd offset old.view n new → LoadEvent tile core leg (r.to id) task' width rd offset other.view m new' → AbortAlike r n m new new'
+    load_one : (width : LoadWidth) (rd offset : ℕ) → LoadEvent tile core leg id task width rd offset old.view n new
+        → LoadEvent tile core leg (r.to id) task' width rd offset other.view m new' → AbortAlike r n m new new'
     load_one width rd offset one two =
         let taken = conflicts_alike image r old.view other.view sound sound' alike.view task task' like offset false n m one.mid two.mid one.forced two.forced in
         let cores = ap (λ mem. after_load_of leg.to width rd (number_at mem offset (load_width width))) (memory_same r one.mid two.mid taken.alike) in
         record {
           aborted = taken.aborted;
-          alike = accesses_alike r one.mid two.mid taken.alike id task task' like (undo.Load offset (load_width width)) (after_load_of leg.to width rd (number_at one.mid.memory offset (load_width width)))
+          alike =
+              accesses_alike r one.mid two.mid taken.alike id task task' like (undo.Load offset (load_width width)) (after_load_of leg.to width rd (number_at one.mid.memory offset (load_width width)))
               (after_load_of leg.to width rd (number_at two.mid.memory offset (load_width width))) cores new new' one.change two.change;
         }
 
-    store_one : (offset bytes value : ℕ) → StoreEvent tile core leg id task offset bytes value old.view n new → StoreEvent tile core leg (r.to id) task' offset bytes value other.view m new' → AbortAlike r n m new new'
+    store_one : (offset bytes value : ℕ) → StoreEvent tile core leg id task offset bytes value old.view n new
+        → StoreEvent tile core leg (r.to id) task' offset bytes value other.view m new' → AbortAlike r n m new new'
     store_one offset bytes value one two =
         let taken = conflicts_alike image r old.view other.view sound sound' alike.view task task' like offset true n m one.mid two.mid one.forced two.forced in
         record {
           aborted = taken.aborted;
-          alike = accesses_alike r one.mid two.mid taken.alike id task task' like (undo.Store offset bytes value) (after_other_of leg.to) (after_other_of leg.to) refl new new' one.change two.change;
+          alike =
+              accesses_alike r one.mid two.mid taken.alike id task task' like (undo.Store offset bytes value) (after_other_of leg.to) (after_other_of leg.to) refl new new' one.change two.change;
         }
 
-    end_one : EndEvent tile core leg id task old.view n new → EndEvent tile core leg (r.to id) task' other.view m new' → AbortAlike r n m new new'
+    end_one : EndEvent tile core leg id task old.view n new → EndEvent tile core leg (r.to id) task' other.view m new'
+        → AbortAlike r n m new new'
     end_one one two =
         let freed = commit_alike r old.view other.view alike.view sound'.heir sound'.order tile task task' (finished_is_dispatched image other.view sound' tile) one.forced two.forced in
-        record { aborted = freed.aborted; alike = finishes_alike r one.mid two.mid freed.alike tile core id task task' leg like new new' one.change two.change }
+        record {
+          aborted = freed.aborted;
+          alike = finishes_alike r one.mid two.mid freed.alike tile core id task task' leg like new new' one.change two.change;
+        }
 
-    pub comes_one : (request : Request) → ComesTo tile core leg id task request old n new p → ComesTo tile core leg (r.to id) task' request other m new' p' → OneMade n m new new' p p'
+    pub comes_one : (request : Request) → ComesTo tile core leg id task request old n new p
+        → ComesTo tile core leg (r.to id) task' request other m new' p' → OneMade n m new new' p p'
     comes_one Continue one two = quietly n m new new' p p' one.1.none two.1.none one.1.same two.1.same
         (keeps_alike r old.view other.view alike.view id (record task { core = leg.to }) (record task' { core = leg.to }) (record { other_is = λ i. record (like.other_is i) { core = leg.to }; touched = like.touched; written = like.written }) new new' one.0 two.0)
-    comes_one (Load width rd offset) one two = by_abort n m new new' p p' one.1 two.1 (load_one width rd offset one.0 two.0)
-    comes_one (Store offset bytes value) one two = by_abort n m new new' p p' one.1 two.1 (store_one offset bytes value one.0 two.0)
+    comes_one (Load width rd offset) one two =
+        by_abort n m new new' p p' one.1 two.1 (load_one width rd offset one.0 two.0)
+    comes_one (Store offset bytes value) one two =
+        by_abort n m new new' p p' one.1 two.1 (store_one offset bytes value one.0 two.0)
     comes_one (Enqueue spawn) one two = enqueue_one spawn one two
     comes_one (MakeSub kind) one two = quietly n m new new' p p' one.1.none two.1.none one.1.same two.1.same
         (keeps_alike r old.view other.view alike.view id (record (task_past_leg task leg) { sub = Some kind }) (record (task_past_leg task' leg) { sub = Some kind }) (record { other_is = λ i. record (task_past_leg (like.other_is i) leg) { sub = Some kind }; touched = like.touched; written = like.written }) new new' one.0 two.0)
@@ -205,7 +241,8 @@ module _ (image : ImageValue) (r : Renaming) (old other : BookView) (sound : Sou
         (keeps_alike r old.view other.view alike.view id (record task { core = leg.to; status = status.Trapped core cause }) (record task' { core = leg.to; status = status.Trapped core cause })
         (record { other_is = λ i. record (like.other_is i) { core = leg.to; status = status.Trapped core cause }; touched = like.touched; written = like.written }) new new' one.0 two.0)
 
-  step_one : (tile core : ℕ) (leg : LegValue) (n m : ℕ) (new new' : View) (p p' : List Policy) → StepEvent tile core leg old n new p → StepEvent tile core leg other m new' p' → OneMade n m new new' p p'
+  step_one : (tile core : ℕ) (leg : LegValue) (n m : ℕ) (new new' : View) (p p' : List Policy)
+      → StepEvent tile core leg old n new p → StepEvent tile core leg other m new' p' → OneMade n m new new' p p'
   step_one tile core leg n m new new' p p' one two =
       let same = takers image r old.view other.view sound sound' alike.view tile core leg one.id two.id one.task two.task one.takes two.takes in
       let takes' : TakesLeg other.view tile core leg (r.to one.id) two.task = subst (λ k. TakesLeg other.view tile core leg k two.task) same.id_is two.takes in
@@ -213,30 +250,39 @@ module _ (image : ImageValue) (r : Renaming) (old other : BookView) (sound : Sou
       let comes' = subst (λ k. ComesTo tile core leg k two.task (request_of old.view one.task leg) other m new' p') same.id_is (subst (λ q. ComesTo tile core leg two.id two.task q other m new' p') request two.comes) in
       comes_one tile core leg one.id one.task two.task same.like one.takes takes' n m new new' p p' (request_of old.view one.task leg) one.comes comes'
 
-  split_one : (tile n m : ℕ) (new new' : View) (p p' : List Policy) → p ≡ old.placers → p' ≡ other.placers → SplitEvent tile old.view n new → SplitEvent tile other.view m new' → OneMade n m new new' p p'
+  split_one : (tile n m : ℕ) (new new' : View) (p p' : List Policy) → p ≡ old.placers → p' ≡ other.placers
+      → SplitEvent tile old.view n new → SplitEvent tile other.view m new' → OneMade n m new new' p p'
   split_one tile n m new new' p p' same same' one two =
       let room = rooms_alike r old.view other.view alike.view tile Splitter (holds_tasks image old.view sound) one.forced two.forced in
       record {
         aborted = room.aborted;
         placers = same' ∙ (alike.placers ∙ sym same);
-        alike = splits_alike r one.mid two.mid room.alike (holds_tasks image one.mid (split_sound image old.view sound tile one.forced)) tile new new' one.change two.change;
+        alike =
+            splits_alike r one.mid two.mid room.alike (holds_tasks image one.mid (split_sound image old.view sound tile one.forced)) tile new new' one.change two.change;
       }
 
-  commit_one : (n m : ℕ) (new new' : View) (p p' : List Policy) → Makes {N = ℕ} old event.Commit n new p → Makes {N = ℕ} other event.Commit m new' p' → OneMade n m new new' p p'
+  commit_one : (n m : ℕ) (new new' : View) (p p' : List Policy) → Makes {N = ℕ} old event.Commit n new p
+      → Makes {N = ℕ} other event.Commit m new' p' → OneMade n m new new' p p'
   commit_one n m new new' p p' one two =
       let views = commits_alike r old.view other.view alike.view new new' one.0 two.0 in
       let count : length new'.history ≡ length new.history = ap (λ v. length v.history) views.frame in
       record {
         aborted = two.1 ∙ sym one.1;
-        placers = two.2 ∙ ((λ i. placers_after_commit (settings_same r old.view other.view alike.view i).phase (count i) (alike.placers i)) ∙ sym one.2);
+        placers =
+            two.2
+            ∙ ((λ i. placers_after_commit (settings_same r old.view other.view alike.view i).phase (count i) (alike.placers i)) ∙ sym one.2);
         alike = (r, views);
       }
 
   -- an event that is made
-  pub makes_one : (N : Type 0) (event : Event N) (n m : ℕ) (new new' : View) (p p' : List Policy) → Makes old event n new p → Makes other event m new' p' → OneMade n m new new' p p'
-  makes_one N (event.Dispatch tile) n m new new' p p' one two = by_abort n m new new' p p' one.1 two.1 (dispatch_one image r old.view other.view sound sound' alike.view tile n m new new' one.0 two.0)
+  pub makes_one : (N : Type 0) (event : Event N) (n m : ℕ) (new new' : View) (p p' : List Policy)
+      → Makes old event n new p → Makes other event m new' p' → OneMade n m new new' p p'
+  makes_one N (event.Dispatch tile) n m new new' p p' one two =
+      by_abort n m new new' p p' one.1 two.1 (dispatch_one image r old.view other.view sound sound' alike.view tile n m new new' one.0 two.0)
   makes_one N (event.Step tile core leg) n m new new' p p' one two = step_one tile core leg n m new new' p p' one two
-  makes_one N (event.Abort tile) n m new new' p p' one two = by_abort n m new new' p p' one.1 two.1 (abort_one image r old.view other.view sound sound' alike.view tile n m new new' one.0 two.0)
+  makes_one N (event.Abort tile) n m new new' p p' one two =
+      by_abort n m new new' p p' one.1 two.1 (abort_one image r old.view other.view sound sound' alike.view tile n m new new' one.0 two.0)
   makes_one N event.Commit n m new new' p p' one two = commit_one n m new new' p p' one two
-  makes_one N (event.Coalesce tile) n m new new' p p' one two = quietly n m new new' p p' one.1.none two.1.none one.1.same two.1.same (coalesces_alike r old.view other.view alike.view tile new new' one.0 two.0)
+  makes_one N (event.Coalesce tile) n m new new' p p' one two =
+      quietly n m new new' p p' one.1.none two.1.none one.1.same two.1.same (coalesces_alike r old.view other.view alike.view tile new new' one.0 two.0)
   makes_one N (event.Split tile) n m new new' p p' one two = split_one tile n m new new' p p' one.1 two.1 one.0 two.0

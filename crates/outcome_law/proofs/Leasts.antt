@@ -1,5 +1,6 @@
 -- Views that are alike have the same least task, the same heir, and the same ends.
-use Rattle.std.proofs.Common.{◌≡◌, ◌≤◌, ◌+◌, ℕ, List, [], map, length, Option, Some, option_map, sym, ap, subst, ◌∙◌, inl, inr}
+use Rattle.std.proofs.Common.{◌≡◌, ◌≤◌, ◌+◌, ℕ, List, [], map, length, Option, Some, option_map, sym, ap, subst, ◌∙◌}
+use Rattle.std.proofs.Common.{inl, inr}
 use Rattle.std.specs.Prelude.{slice_get, slice_index_or}
 use Rattle.std.specs.declared.cmp.Ordering.TheVariants.{Less}
 use Rattle.std.proofs.lemmas.Option.{slice_get-map}
@@ -12,7 +13,8 @@ use Rattle.spec_state.specs.declared.task.Creator.TheVariants.{Committed, Live}
 use Rattle.spec_state.specs.declared.task.Task.{Task}
 use Rattle.spec_state.specs.View.{View, queue_at, finished_at, cores_at, block_at}
 use Rattle.spec_state.specs.Tasks.{is_dispatched}
-use Rattle.spec_state.specs.Least.{Spot, Queued, Spilled_at, IsQueuedAt, HasKey, ranked_cmp, IsLeastSpot, IsLeastTask, IsTheLeast, IsLeastSpilled, IsAllCommitted, IsHeir, IsFirm, HasName, Precedes}
+use Rattle.spec_state.specs.Least.{Spot, Queued, Spilled_at, IsQueuedAt, HasKey, ranked_cmp, IsLeastSpot, IsLeastTask}
+use Rattle.spec_state.specs.Least.{IsTheLeast, IsLeastSpilled, IsAllCommitted, IsHeir, IsFirm, HasName, Precedes}
 use Rattle.spec_state.proofs.Proved.{map_at}
 use Rattle.event_def.specs.End.{HasEnd, IsOver, LeastIsTrapped}
 use Rattle.outcome_law.specs.Alike.{Renaming, inverse_of, renamed_creator, IsAlikeTask, AreAlike}
@@ -33,13 +35,17 @@ pub record LeastToo (r : Renaming) (b : View) (id : ℕ) (x : Task) : Type 0 whe
 
 module _ (r : Renaming) (a b : View) (alike : AreAlike r a b) where
   pub queue_too : (tile : ℕ) → queue_at b tile ≡ map r.to (queue_at a tile)
-  queue_too tile = ap (λ (qs : List (List ℕ)). slice_index_or qs tile []) alike.queues ∙ map_at (map r.to) a.queues tile []
+  queue_too tile =
+      ap (λ (qs : List (List ℕ)). slice_index_or qs tile []) alike.queues ∙ map_at (map r.to) a.queues tile []
 
   pub finished_too : (tile : ℕ) → finished_at b tile ≡ map r.to (finished_at a tile)
-  finished_too tile = ap (λ (qs : List (List ℕ)). slice_index_or qs tile []) alike.finished ∙ map_at (map r.to) a.finished tile []
+  finished_too tile =
+      ap (λ (qs : List (List ℕ)). slice_index_or qs tile []) alike.finished ∙ map_at (map r.to) a.finished tile []
 
   pub cores_too : (tile : ℕ) → cores_at b tile ≡ map (option_map r.to) (cores_at a tile)
-  cores_too tile = ap (λ (qs : List (List (Option ℕ))). slice_index_or qs tile []) alike.cores ∙ map_at (map (option_map r.to)) a.cores tile []
+  cores_too tile =
+      ap (λ (qs : List (List (Option ℕ))). slice_index_or qs tile []) alike.cores
+      ∙ map_at (map (option_map r.to)) a.cores tile []
 
   pub block_too : (tile : ℕ) → block_at b tile ≡ block_at a tile
   block_too tile = ap (λ v. block_at v tile) alike.frame
@@ -53,7 +59,9 @@ module _ (r : Renaming) (a b : View) (alike : AreAlike r a b) where
       record {
         y = p.y;
         at = record {
-          queued = ap (λ q. slice_get q place) (queue_too tile) ∙ slice_get-map r.to (queue_at a tile) place ∙ ap (option_map r.to) is.queued;
+          queued =
+              ap (λ q. slice_get q place) (queue_too tile) ∙ slice_get-map r.to (queue_at a tile) place
+              ∙ ap (option_map r.to) is.queued;
           there = p.there;
         };
         alike = p.alike;
@@ -70,7 +78,8 @@ module _ (r : Renaming) (a b : View) (alike : AreAlike r a b) where
   spot_too spot is = record {
     key = is.key;
     has = key_too r a b alike spot is.key is.has;
-    least = λ other other_key has. is.least other other_key (key_too (inverse_of r) b a (alike_turned r a b alike) other other_key has);
+    least =
+        λ other other_key has. is.least other other_key (key_too (inverse_of r) b a (alike_turned r a b alike) other other_key has);
   }
 
   pub least_too : (id : ℕ) (x : Task) → IsLeastTask a id x → LeastToo r b id x
@@ -101,11 +110,14 @@ module _ (r : Renaming) (a b : View) (alike : AreAlike r a b) where
 
   pub firm_too : (x y : Task) → IsAlikeTask r.to x y → IsFirm a x → IsFirm b y
   firm_too x y same (inl is) = inl (is.0, is.1, ap (λ t. t.creator) same.other_is ∙ ap (renamed_creator r.to) is.2)
-  firm_too x y same (inr is) = inr (r.to is.0, is.1, ap (λ t. t.creator) same.other_is ∙ ap (renamed_creator r.to) is.2, heir_too is.0 is.3)
+  firm_too x y same (inr is) =
+      inr (r.to is.0, is.1, ap (λ t. t.creator) same.other_is ∙ ap (renamed_creator r.to) is.2, heir_too is.0 is.3)
 
-  pub name_too : (creator : Creator) (name : Name) → HasName a creator name → HasName b (renamed_creator r.to creator) name
+  pub name_too : (creator : Creator) (name : Name) → HasName a creator name
+      → HasName b (renamed_creator r.to creator) name
   name_too (Committed turn index) name has = (subst (λ h. turn ≤ length h) (sym (history_too r a b alike)) has.0, has.1)
-  name_too (Live task index) name has = (heir_too task.0 has.0, has.1 ∙ ap (λ h. record { creator = length h + 1; index = index }) (sym (history_too r a b alike)))
+  name_too (Live task index) name has =
+      (heir_too task.0 has.0, has.1 ∙ ap (λ h. record { creator = length h + 1; index = index }) (sym (history_too r a b alike)))
 
   pub trapped_too : (name : Name) (cause pc : ℕ) → LeastIsTrapped a name cause pc → LeastIsTrapped b name cause pc
   trapped_too name cause pc is =
@@ -139,7 +151,8 @@ module _ (r : Renaming) (a b : View) (alike : AreAlike r a b) where
   over_too over = (over.0, end_too over.0 over.1)
 
 -- where one task of a tile comes before another, the partner of the one comes before that of the other
-pub precedes_too : (r : Renaming) (a b : View) → AreAlike r a b → (tile k j : ℕ) → Precedes a tile k j → Precedes b tile (r.to k) (r.to j)
+pub precedes_too : (r : Renaming) (a b : View) → AreAlike r a b → (tile k j : ℕ) → Precedes a tile k j
+    → Precedes b tile (r.to k) (r.to j)
 precedes_too r a b alike tile k j before p q x y first second =
     let back = alike_turned r a b alike in
     let one = queued_too (inverse_of r) b a back tile p (r.to k) x first in

@@ -1,5 +1,6 @@
 -- Lists that are renamed, and marks that are counted.
-use Rattle.std.proofs.Common.{◌≡◌, ◌≢◌, ◌≤◌, ◌+◌, zero, suc, ℕ, Bool, true, false, List, [], ◌∷◌, map, set, length, Option, Some, None, option_map, is_some, refl, sym, ap, subst, ◌∙◌, arith, cond}
+use Rattle.std.proofs.Common.{◌≡◌, ◌≢◌, ◌≤◌, ◌+◌, zero, suc, ℕ, Bool, true, false, List, [], ◌∷◌, map, set, length}
+use Rattle.std.proofs.Common.{Option, Some, None, option_map, is_some, refl, sym, ap, subst, ◌∙◌, arith, cond}
 use Rattle.std.specs.Prelude.{slice_get, slice_index_or, Contains, filter, count_by}
 use Rattle.std.proofs.lemmas.List.{get_or-set_other}
 use Rattle.std.proofs.lemmas.List.Sums.{sum_by-cons}
@@ -12,21 +13,25 @@ contains_mapped f xs x has =
     let at = contains_get xs x has in
     get_contains (map f xs) at.0 (f x) (get_mapped f xs at.0 x at.1)
 
-pub map_same : {X Y Z W : Type 0} (f : Y → Z) (g : X → Y) (h : W → Z) (k : X → W) → ((x : X) → f (g x) ≡ h (k x)) → (xs : List X) → map f (map g xs) ≡ map h (map k xs)
+pub map_same : {X Y Z W : Type 0} (f : Y → Z) (g : X → Y) (h : W → Z) (k : X → W) → ((x : X) → f (g x) ≡ h (k x))
+    → (xs : List X) → map f (map g xs) ≡ map h (map k xs)
 map_same f g h k same [] = refl
 map_same f g h k same (x ∷ xs) = λ i. same x i ∷ map_same f g h k same xs i
 
-pub filter_mapped : {X Y : Type 0} (f : X → Y) (p : X → Bool) (q : Y → Bool) → ((x : X) → q (f x) ≡ p x) → (xs : List X) → filter q (map f xs) ≡ map f (filter p xs)
+pub filter_mapped : {X Y : Type 0} (f : X → Y) (p : X → Bool) (q : Y → Bool) → ((x : X) → q (f x) ≡ p x) → (xs : List X)
+    → filter q (map f xs) ≡ map f (filter p xs)
 filter_mapped f p q same [] = refl
 filter_mapped f p q same (x ∷ xs) =
     ap (λ b. cond b (f x ∷ filter q (map f xs)) (filter q (map f xs))) (same x)
     ∙ (ap (λ ys. cond (p x) (f x ∷ ys) ys) (filter_mapped f p q same xs) ∙ by_test (p x))
   where
-    by_test : (b : Bool) → cond b (f x ∷ map f (filter p xs)) (map f (filter p xs)) ≡ map f (cond b (x ∷ filter p xs) (filter p xs))
+    by_test : (b : Bool)
+        → cond b (f x ∷ map f (filter p xs)) (map f (filter p xs)) ≡ map f (cond b (x ∷ filter p xs) (filter p xs))
     by_test true = refl
     by_test false = refl
 
-pub left_mapped : (f : ℕ → ℕ) (old new : ℕ → Option RoomTask) → ((k : ℕ) → is_some (new (f k)) ≡ is_some (old k)) → (ids : List ℕ) → queue_after new (map f ids) ≡ map f (queue_after old ids)
+pub left_mapped : (f : ℕ → ℕ) (old new : ℕ → Option RoomTask) → ((k : ℕ) → is_some (new (f k)) ≡ is_some (old k))
+    → (ids : List ℕ) → queue_after new (map f ids) ≡ map f (queue_after old ids)
 left_mapped f old new same ids =
     queue_filtered new (map f ids)
     ∙ (filter_mapped f (λ k. is_some (old k)) (λ k. is_some (new k)) same ids ∙ ap (map f) (sym (queue_filtered old ids)))
@@ -41,7 +46,8 @@ counted : (x : Bool) (xs : List Bool) → count_by (λ m. m) (x ∷ xs) ≡ cond
 counted x xs = sum_by-cons (λ y. cond y 1 0) x xs
 
 -- one mark is cleared
-cleared : (ys : List Bool) (i : ℕ) → slice_index_or ys i false ≡ true → suc (count_by (λ m. m) (set ys i false)) ≡ count_by (λ m. m) ys
+cleared : (ys : List Bool) (i : ℕ) → slice_index_or ys i false ≡ true
+    → suc (count_by (λ m. m) (set ys i false)) ≡ count_by (λ m. m) ys
 cleared [] i at = absurd (cc (at))
 cleared (true ∷ ys) zero at = let before = counted false ys in let after = counted true ys in omega arith
 cleared (false ∷ ys) zero at = absurd (cc (at))
@@ -53,7 +59,8 @@ cleared (x ∷ ys) (suc i) at =
 
 -- marks that are renamed are no fewer
 pub count_upto : (to : ℕ → ℕ) → ((i j : ℕ) → to i ≡ to j → i ≡ j) → (xs ys : List Bool)
-    → ((k : ℕ) → slice_index_or xs k false ≡ true → slice_index_or ys (to k) false ≡ true) → count_by (λ m. m) xs ≤ count_by (λ m. m) ys
+    → ((k : ℕ) → slice_index_or xs k false ≡ true → slice_index_or ys (to k) false ≡ true)
+    → count_by (λ m. m) xs ≤ count_by (λ m. m) ys
 count_upto to one [] ys keeps = omega arith
 count_upto to one (false ∷ xs) ys keeps =
     let rest = count_upto (λ k. to (suc k)) (λ i j e. (let same : suc i ≡ suc j = one (suc i) (suc j) e in omega arith)) xs ys (λ k. keeps (suc k)) in

@@ -1,5 +1,6 @@
 -- Tasks that move from a task queue into a block leave views that are alike.
-use Rattle.std.proofs.Common.{◌≡◌, ◌≤◌, ◌<◌, ℕ, List, [], ◌∷◌, map, None, option_map, refl, sym, ap, subst, ◌∙◌, inl, inr, arith}
+use Rattle.std.proofs.Common.{◌≡◌, ◌≤◌, ◌<◌, ℕ, List, [], ◌∷◌, map, None, option_map, refl, sym, ap, subst, ◌∙◌, inl}
+use Rattle.std.proofs.Common.{inr, arith}
 use Rattle.std.specs.Prelude.{slice_set, Contains}
 use Rattle.std.specs.List.{AllZip}
 use Rattle.std.proofs.lemmas.List.{length-map}
@@ -39,13 +40,16 @@ module _ (r : Renaming) (a b : View) (alike : AreAlike r a b) (tile : ℕ) where
       let way_back : (k : ℕ) → IsMovable b tile k → IsMovable a tile (r.from k) = movable_too (inverse_of r) b a (alike_turned r a b alike) tile in
       let forth : (k : ℕ) → Contains ids (r.from k) → Contains (map r.to ids) k = λ k has. subst (Contains (map r.to ids)) (r.forth k) (contains_mapped r.to ids (r.from k) has) in
       record {
-        movable = λ k has. (let w = was_in r.to k ids (contains_in (map r.to ids) k has) in subst (IsMovable b tile) (sym w.2) (movable_too r a b alike tile w.0 (c.movable w.0 (in_contains ids w.0 w.1))));
+        movable =
+            λ k has. (let w = was_in r.to k ids (contains_in (map r.to ids) k has) in subst (IsMovable b tile) (sym w.2) (movable_too r a b alike tile w.0 (c.movable w.0 (in_contains ids w.0 w.1))));
         few = subst (λ n. n ≤ MAX_MOVED) (sym (length-map ids r.to)) c.few;
-        all = λ less k movable. forth k (c.all (subst (λ n. n < MAX_MOVED) (length-map ids r.to) less) (r.from k) (way_back k movable));
+        all =
+            λ less k movable. forth k (c.all (subst (λ n. n < MAX_MOVED) (length-map ids r.to) less) (r.from k) (way_back k movable));
         latest = λ stays k movable none has. (let w = was_in r.to k ids (contains_in (map r.to ids) k has) in
             let before = precedes_too r a b alike tile (r.from stays) w.0 (c.latest (r.from stays) w.0 (way_back stays movable) (λ h. none (forth stays h)) (in_contains ids w.0 w.1)) in
             subst (λ s. Precedes b tile s k) (r.forth stays) (subst (λ j. Precedes b tile (r.to (r.from stays)) j) (sym w.2) before));
-        rising = AllPairs-map (Precedes a tile) (Precedes b tile) (Contains ids) r.to (λ k j in_k in_j before. precedes_too r a b alike tile k j before) ids (All-contains_itself ids) c.rising;
+        rising =
+            AllPairs-map (Precedes a tile) (Precedes b tile) (Contains ids) r.to (λ k j in_k in_j before. precedes_too r a b alike tile k j before) ids (All-contains_itself ids) c.rising;
       }
 
 -- a firm task has one name
@@ -63,9 +67,11 @@ module _ (r : Renaming) (a b : View) (alike : AreAlike r a b) where
       let name : two.name ≡ one.name = name_one b (renamed_creator r.to one.task.creator) two.name one.name named (name_too r a b alike one.task.creator one.name one.named) in
       two.spilled_is ∙ ((λ i. spilled_as (name i) (descriptor_of (like i))) ∙ sym one.spilled_is)
 
-  all_same : (ids : List ℕ) (ss ss' : List Spilled) → AllZip (IsSpilledAs a) ids ss → AllZip (IsSpilledAs b) (map r.to ids) ss' → ss' ≡ ss
+  all_same : (ids : List ℕ) (ss ss' : List Spilled) → AllZip (IsSpilledAs a) ids ss
+      → AllZip (IsSpilledAs b) (map r.to ids) ss' → ss' ≡ ss
   all_same [] [] [] one two = refl
-  all_same (id ∷ ids) (s ∷ ss) (s' ∷ ss') one two = λ i. spilled_same id s s' one.0 two.0 i ∷ all_same ids ss ss' one.1 two.1 i
+  all_same (id ∷ ids) (s ∷ ss) (s' ∷ ss') one two =
+      λ i. spilled_same id s s' one.0 two.0 i ∷ all_same ids ss ss' one.1 two.1 i
   all_same [] (s ∷ ss) ss' one two = absurd one
   all_same [] [] (s ∷ ss') one two = absurd two
   all_same (id ∷ ids) [] ss' one two = absurd one
@@ -89,9 +95,13 @@ module _ (r : Renaming) (a b : View) (alike : AreAlike r a b) where
         queues = two.queues ∙ (ap (map (queue_after (room_tasks b'))) alike.queues
             ∙ (map_same (queue_after (room_tasks b')) (map r.to) (map r.to) (queue_after (room_tasks a')) (left_mapped r.to (room_tasks a') (room_tasks b') (λ k. there_same r.to (task_at a' k) (task_at b' (r.to k)) (tasks k))) a.queues
             ∙ ap (map (map r.to)) (sym one.queues)));
-        finished = ap (λ v. v.finished) two.frame ∙ (alike.finished ∙ ap (λ v. map (map r.to) v.finished) (sym one.frame));
-        cores = ap (λ v. v.cores) two.frame ∙ (alike.cores ∙ ap (λ v. map (map (option_map r.to)) v.cores) (sym one.frame));
-        frame = two.frame ∙ (ap {A = View} (λ v. record v { tasks = b'.tasks; queues = b'.queues; blocks = b'.blocks }) alike.frame
+        finished =
+            ap (λ v. v.finished) two.frame ∙ (alike.finished ∙ ap (λ v. map (map r.to) v.finished) (sym one.frame));
+        cores =
+            ap (λ v. v.cores) two.frame ∙ (alike.cores ∙ ap (λ v. map (map (option_map r.to)) v.cores) (sym one.frame));
+        frame =
+            two.frame
+            ∙ (ap {A = View} (λ v. record v { tasks = b'.tasks; queues = b'.queues; blocks = b'.blocks }) alike.frame
             ∙ (ap {A = List (List Spilled)} (λ bs. record a { tasks = b'.tasks; queues = b'.queues; finished = b.finished; cores = b.cores; blocks = bs }) blocks
             ∙ (ap {A = View} (λ v. record v { tasks = b'.tasks; queues = b'.queues; finished = b.finished; cores = b.cores }) (sym one.frame)
             ∙ ap {A = View} (λ v. record a' { tasks = b'.tasks; queues = b'.queues; finished = v.finished; cores = v.cores }) (sym two.frame))));

@@ -1,5 +1,6 @@
 -- A task that comes to be, under whatever id, leaves views that are alike.
-use Rattle.std.proofs.Common.{◌≡◌, ◌≢◌, ◌<◌, ◌+◌, ◌++◌, zero, suc, ℕ, List, [], ◌∷◌, map, take, length, Some, option_map, refl, sym, ap, subst, ◌∙◌, inl, inr, arith}
+use Rattle.std.proofs.Common.{◌≡◌, ◌≢◌, ◌<◌, ◌+◌, ◌++◌, zero, suc, ℕ, List, [], ◌∷◌, map, take, length, Some}
+use Rattle.std.proofs.Common.{option_map, refl, sym, ap, subst, ◌∙◌, inl, inr, arith}
 use Rattle.std.specs.Prelude.{slice_get, slice_set, remove}
 use Rattle.std.specs.Ordering.{ordering_reverse}
 use Rattle.std.specs.declared.cmp.Ordering.TheVariants.{Less, Greater}
@@ -33,7 +34,8 @@ use Rattle.outcome_law.proofs.Picks.{task_one}
 
 -- ---- the least spilled task is one
 
-get_taken : {X : Type 0} (n : ℕ) (xs : List X) (p : ℕ) (x : X) → p < n → slice_get xs p ≡ Some x → slice_get (take n xs) p ≡ Some x
+get_taken : {X : Type 0} (n : ℕ) (xs : List X) (p : ℕ) (x : X) → p < n → slice_get xs p ≡ Some x
+    → slice_get (take n xs) p ≡ Some x
 get_taken zero xs p x low at = absurd (omega arith)
 get_taken (suc n) [] p x low at = at
 get_taken (suc n) (y ∷ xs) zero x low at = at
@@ -72,7 +74,8 @@ creator_one view (Live task index) (Live other index') name one two =
 -- ---- a task that comes to be
 
 -- an idle task, and the one that its creator makes under the other id
-pub idle_alike : (to : ℕ → ℕ) (version : ℕ) (d : Descriptor) (c : Creator) (tile : ℕ) → IsAlikeTask to (idle_task version d c tile) (idle_task version d (renamed_creator to c) tile)
+pub idle_alike : (to : ℕ → ℕ) (version : ℕ) (d : Descriptor) (c : Creator) (tile : ℕ)
+    → IsAlikeTask to (idle_task version d c tile) (idle_task version d (renamed_creator to c) tile)
 idle_alike to version d c tile = record { other_is = refl; touched = λ line. refl; written = λ line. refl }
 
 -- there is a renaming under which the views are alike
@@ -101,12 +104,19 @@ module _ (r : Renaming) (a b : View) (alike : AreAlike r a b) (holds : HoldsTask
       let all_blocks : b'.blocks ≡ a'.blocks = two.blocks ∙ ((λ i. slice_set (ap (λ v. v.blocks) alike.frame i) tile (blocks i)) ∙ sym one.blocks) in (
         s,
         record {
-          tasks = changed_alike s a b a' b' now one.id (Some (idle_task a.version (spilled_descriptor one.spilled) one.creator tile)) (Some (idle_task a.version (spilled_descriptor one.spilled) (renamed_creator s.to one.creator) tile))
+          tasks =
+              changed_alike s a b a' b' now one.id (Some (idle_task a.version (spilled_descriptor one.spilled) one.creator tile)) (Some (idle_task a.version (spilled_descriptor one.spilled) (renamed_creator s.to one.creator) tile))
               (idle_alike s.to a.version (spilled_descriptor one.spilled) one.creator tile) one.changes changes;
-          queues = two.queues ∙ (ap (queued_last b tile) (sym (named_so r one.id two.id)) ∙ (ended_alike s a b now a.queues b.queues now.queues tile one.id ∙ ap (map (map s.to)) (sym one.queues)));
-          finished = ap (λ v. v.finished) two.frame ∙ (now.finished ∙ ap (λ v. map (map s.to) v.finished) (sym one.frame));
-          cores = ap (λ v. v.cores) two.frame ∙ (now.cores ∙ ap (λ v. map (map (option_map s.to)) v.cores) (sym one.frame));
-          frame = two.frame ∙ (ap {A = View} (λ v. record v { tasks = b'.tasks; queues = b'.queues; blocks = b'.blocks }) alike.frame
+          queues =
+              two.queues
+              ∙ (ap (queued_last b tile) (sym (named_so r one.id two.id)) ∙ (ended_alike s a b now a.queues b.queues now.queues tile one.id ∙ ap (map (map s.to)) (sym one.queues)));
+          finished =
+              ap (λ v. v.finished) two.frame ∙ (now.finished ∙ ap (λ v. map (map s.to) v.finished) (sym one.frame));
+          cores =
+              ap (λ v. v.cores) two.frame ∙ (now.cores ∙ ap (λ v. map (map (option_map s.to)) v.cores) (sym one.frame));
+          frame =
+              two.frame
+              ∙ (ap {A = View} (λ v. record v { tasks = b'.tasks; queues = b'.queues; blocks = b'.blocks }) alike.frame
               ∙ (ap {A = List (List Spilled)} (λ bs. record a { tasks = b'.tasks; queues = b'.queues; finished = b.finished; cores = b.cores; blocks = bs }) all_blocks
               ∙ (ap {A = View} (λ v. record v { tasks = b'.tasks; queues = b'.queues; finished = b.finished; cores = b.cores }) (sym one.frame)
               ∙ ap {A = View} (λ v. record a' { tasks = b'.tasks; queues = b'.queues; finished = v.finished; cores = v.cores }) (sym two.frame))));
@@ -114,7 +124,8 @@ module _ (r : Renaming) (a b : View) (alike : AreAlike r a b) (holds : HoldsTask
       )
 
   -- an enqueue
-  pub enqueues_alike : (id : ℕ) (task task' : Task) → task_at a id ≡ Some task → task_at b (r.to id) ≡ Some task' → (leg : LegValue) (spawn : Spawn) (tile : ℕ) (a' b' : View)
+  pub enqueues_alike : (id : ℕ) (task task' : Task) → task_at a id ≡ Some task → task_at b (r.to id) ≡ Some task'
+      → (leg : LegValue) (spawn : Spawn) (tile : ℕ) (a' b' : View)
       → Enqueues id task leg spawn tile a a' → Enqueues (r.to id) task' leg spawn tile b b' → AlikeSomehow a' b'
   enqueues_alike id task task' there there' leg spawn tile a' b' one two =
       let s = with_new r one.child two.child in
@@ -148,9 +159,13 @@ module _ (r : Renaming) (a b : View) (alike : AreAlike r a b) (holds : HoldsTask
         s,
         record {
           tasks = tasks;
-          queues = two.queues ∙ (ap (queued_last b tile) (sym name) ∙ (ended_alike s a b now a.queues b.queues now.queues tile one.child ∙ ap (map (map s.to)) (sym one.queues)));
-          finished = ap (λ v. v.finished) two.frame ∙ (now.finished ∙ ap (λ v. map (map s.to) v.finished) (sym one.frame));
-          cores = ap (λ v. v.cores) two.frame ∙ (now.cores ∙ ap (λ v. map (map (option_map s.to)) v.cores) (sym one.frame));
+          queues =
+              two.queues
+              ∙ (ap (queued_last b tile) (sym name) ∙ (ended_alike s a b now a.queues b.queues now.queues tile one.child ∙ ap (map (map s.to)) (sym one.queues)));
+          finished =
+              ap (λ v. v.finished) two.frame ∙ (now.finished ∙ ap (λ v. map (map s.to) v.finished) (sym one.frame));
+          cores =
+              ap (λ v. v.cores) two.frame ∙ (now.cores ∙ ap (λ v. map (map (option_map s.to)) v.cores) (sym one.frame));
           frame = two.frame ∙ (ap {A = View} (λ v. record v { tasks = b'.tasks; queues = b'.queues }) alike.frame
               ∙ (ap {A = View} (λ v. record v { tasks = b'.tasks; queues = b'.queues; finished = b.finished; cores = b.cores }) (sym one.frame)
               ∙ ap {A = View} (λ v. record a' { tasks = b'.tasks; queues = b'.queues; finished = v.finished; cores = v.cores }) (sym two.frame)));

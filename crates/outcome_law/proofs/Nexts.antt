@@ -1,5 +1,6 @@
 -- A leg is one, and so is the event for the least task.
-use Rattle.std.proofs.Common.{◌≡◌, ◌≢◌, ◌≤◌, ◌<◌, ◌+◌, zero, suc, ℕ, Bool, true, false, List, [], ◌∷◌, map, length, Option, Some, None, refl, sym, ap, subst, ◌∙◌, inl, inr, ◌⊎◌, arith}
+use Rattle.std.proofs.Common.{◌≡◌, ◌≢◌, ◌≤◌, ◌<◌, ◌+◌, zero, suc, ℕ, Bool, true, false, List, [], ◌∷◌, map, length}
+use Rattle.std.proofs.Common.{Option, Some, None, refl, sym, ap, subst, ◌∙◌, inl, inr, ◌⊎◌, arith}
 use Rattle.std.proofs.lemmas.Bool.{cases_eq, cases_lt}
 use Rattle.guest_image.specs.ImageValue.{ImageValue}
 use Rattle.rv_core.specs.declared.state.Core.{Core}
@@ -24,7 +25,8 @@ use Rattle.outcome_law.proofs.Picks.{task_one}
 
 module _ (image : ImageValue) (size budget : ℕ) (from : Core) where
   -- so many instructions lead to one core
-  plain_one : (n : ℕ) (to other : Core) → PlainInstructions image size budget n from to → PlainInstructions image size budget n from other → to ≡ other
+  plain_one : (n : ℕ) (to other : Core) → PlainInstructions image size budget n from to
+      → PlainInstructions image size budget n from other → to ≡ other
   plain_one zero to other one two = sym one ∙ two
   plain_one (suc n) to other one two =
       let mid : one.0 ≡ two.0 = plain_one n one.0 two.0 one.1 two.1 in
@@ -32,7 +34,9 @@ module _ (image : ImageValue) (size budget : ℕ) (from : Core) where
       cc
 
   -- a shorter run goes on
-  goes_further : (n m : ℕ) (to other : Core) → PlainInstructions image size budget n from to → PlainInstructions image size budget m from other → n < m → (further : Core) × (next_at image size budget to ≡ Goes further)
+  goes_further : (n m : ℕ) (to other : Core) → PlainInstructions image size budget n from to
+      → PlainInstructions image size budget m from other → n < m
+      → (further : Core) × (next_at image size budget to ≡ Goes further)
   goes_further n zero to other one two less = absurd (omega arith)
   goes_further n (suc m) to other one two less = elim (cases_eq n m) [
     | inl same ↦ (other, ap (next_at image size budget) (plain_one m to two.0 (subst (λ k. PlainInstructions image size budget k from to) same one) two.1) ∙ two.2)
@@ -40,7 +44,8 @@ module _ (image : ImageValue) (size budget : ℕ) (from : Core) where
   ]
 
   -- a leg is no shorter than another
-  not_shorter : (quantum n m : ℕ) (to other : Core) (s t : Stop) → IsLeg image size budget quantum from to n s → IsLeg image size budget quantum from other m t → n < m → ⊥
+  not_shorter : (quantum n m : ℕ) (to other : Core) (s t : Stop) → IsLeg image size budget quantum from to n s
+      → IsLeg image size budget quantum from other m t → n < m → ⊥
   not_shorter quantum n m to other s t one two less =
       let further = goes_further n m to other one.run two.run less in
       let bound = two.bound in
@@ -50,7 +55,8 @@ module _ (image : ImageValue) (size budget : ℕ) (from : Core) where
 
 -- the leg from a core is one
 pub leg_one : (image : ImageValue) (size budget quantum : ℕ) (leg other : LegValue) → other.from ≡ leg.from
-    → IsLeg image size budget quantum leg.from leg.to leg.steps leg.stop → IsLeg image size budget quantum other.from other.to other.steps other.stop → other ≡ leg
+    → IsLeg image size budget quantum leg.from leg.to leg.steps leg.stop
+    → IsLeg image size budget quantum other.from other.to other.steps other.stop → other ≡ leg
 leg_one image size budget quantum leg other same one two' =
     let two : IsLeg image size budget quantum leg.from other.to other.steps other.stop = subst (λ c. IsLeg image size budget quantum c other.to other.steps other.stop) same two' in
     let below = not_shorter image size budget leg.from quantum leg.steps other.steps leg.to other.to leg.stop other.stop one two in
@@ -91,7 +97,8 @@ module _ (r : Renaming) (a b : View) (alike : AreAlike r a b) where
       cc
 
 module _ (image : ImageValue) (r : Renaming) (a b : View) (alike : AreAlike r a b) where
-  legs_same : (tile core tile' core' : ℕ) (leg leg' : LegValue) → IsLeastLeg image a tile core leg → IsLeastLeg image b tile' core' leg' → (tile' ≡ tile) × (core' ≡ core) × (leg' ≡ leg)
+  legs_same : (tile core tile' core' : ℕ) (leg leg' : LegValue) → IsLeastLeg image a tile core leg
+      → IsLeastLeg image b tile' core' leg' → (tile' ≡ tile) × (core' ≡ core) × (leg' ≡ leg)
   legs_same tile core tile' core' leg leg' one two =
       let like = leasts_alike r a b alike one.id two.id one.task two.task one.least two.least in
       let tiles : tile' ≡ tile = sym two.there ∙ (ap (λ t. t.tile) like.other_is ∙ one.there) in
@@ -107,22 +114,34 @@ module _ (image : ImageValue) (r : Renaming) (a b : View) (alike : AreAlike r a 
 module _ {N : Type 0} (image : ImageValue) (r : Renaming) (a b : View) (alike : AreAlike r a b) where
   pub next_one : (e f : Event N) → IsLeastEvent image a e → IsLeastEvent image b f → f ≡ e
   next_one (event.Split tile) (event.Split other) one two = ap event.Split (spilled_one r a b alike tile other one two)
-  next_one (event.Split tile) (event.Dispatch other) one two = absurd (not_queued r a b alike tile two.0 two.1 one two.2)
-  next_one (event.Split tile) (event.Step other core leg) one two = absurd (not_queued r a b alike tile two.id two.task one two.least)
+  next_one (event.Split tile) (event.Dispatch other) one two =
+      absurd (not_queued r a b alike tile two.0 two.1 one two.2)
+  next_one (event.Split tile) (event.Step other core leg) one two =
+      absurd (not_queued r a b alike tile two.id two.task one two.least)
   next_one (event.Split tile) event.Commit one two = absurd (not_queued r a b alike tile two.0 two.1 one two.2)
-  next_one (event.Dispatch tile) (event.Split other) one two = absurd (not_queued (inverse_of r) b a (alike_turned r a b alike) other one.0 one.1 two one.2)
-  next_one (event.Dispatch tile) (event.Dispatch other) one two = ap event.Dispatch (sym two.4 ∙ (tile_same r a b alike one.0 two.0 one.1 two.1 one.2 two.2 ∙ one.4))
-  next_one (event.Dispatch tile) (event.Step other core leg) one two = absurd (let clash : Running core ≡ Idle = sym two.runs ∙ (status_same r a b alike one.0 two.id one.1 two.task one.2 two.least ∙ one.3) in cc (clash))
-  next_one (event.Dispatch tile) event.Commit one two = absurd (let clash : Finished ≡ Idle = sym two.3 ∙ (status_same r a b alike one.0 two.0 one.1 two.1 one.2 two.2 ∙ one.3) in cc (clash))
-  next_one (event.Step tile core leg) (event.Split other) one two = absurd (not_queued (inverse_of r) b a (alike_turned r a b alike) other one.id one.task two one.least)
-  next_one (event.Step tile core leg) (event.Dispatch other) one two = absurd (let clash : Idle ≡ Running core = sym two.3 ∙ (status_same r a b alike one.id two.0 one.task two.1 one.least two.2 ∙ one.runs) in cc (clash))
+  next_one (event.Dispatch tile) (event.Split other) one two =
+      absurd (not_queued (inverse_of r) b a (alike_turned r a b alike) other one.0 one.1 two one.2)
+  next_one (event.Dispatch tile) (event.Dispatch other) one two =
+      ap event.Dispatch (sym two.4 ∙ (tile_same r a b alike one.0 two.0 one.1 two.1 one.2 two.2 ∙ one.4))
+  next_one (event.Dispatch tile) (event.Step other core leg) one two =
+      absurd (let clash : Running core ≡ Idle = sym two.runs ∙ (status_same r a b alike one.0 two.id one.1 two.task one.2 two.least ∙ one.3) in cc (clash))
+  next_one (event.Dispatch tile) event.Commit one two =
+      absurd (let clash : Finished ≡ Idle = sym two.3 ∙ (status_same r a b alike one.0 two.0 one.1 two.1 one.2 two.2 ∙ one.3) in cc (clash))
+  next_one (event.Step tile core leg) (event.Split other) one two =
+      absurd (not_queued (inverse_of r) b a (alike_turned r a b alike) other one.id one.task two one.least)
+  next_one (event.Step tile core leg) (event.Dispatch other) one two =
+      absurd (let clash : Idle ≡ Running core = sym two.3 ∙ (status_same r a b alike one.id two.0 one.task two.1 one.least two.2 ∙ one.runs) in cc (clash))
   next_one (event.Step tile core leg) (event.Step other core' leg') one two =
       let same = legs_same image r a b alike tile core other core' leg leg' one two in
       λ i. event.Step (same.0 i) (same.1 i) (same.2 i)
-  next_one (event.Step tile core leg) event.Commit one two = absurd (let clash : Finished ≡ Running core = sym two.3 ∙ (status_same r a b alike one.id two.0 one.task two.1 one.least two.2 ∙ one.runs) in cc (clash))
-  next_one event.Commit (event.Split other) one two = absurd (not_queued (inverse_of r) b a (alike_turned r a b alike) other one.0 one.1 two one.2)
-  next_one event.Commit (event.Dispatch other) one two = absurd (let clash : Idle ≡ Finished = sym two.3 ∙ (status_same r a b alike one.0 two.0 one.1 two.1 one.2 two.2 ∙ one.3) in cc (clash))
-  next_one event.Commit (event.Step other core leg) one two = absurd (let clash : Running core ≡ Finished = sym two.runs ∙ (status_same r a b alike one.0 two.id one.1 two.task one.2 two.least ∙ one.3) in cc (clash))
+  next_one (event.Step tile core leg) event.Commit one two =
+      absurd (let clash : Finished ≡ Running core = sym two.3 ∙ (status_same r a b alike one.id two.0 one.task two.1 one.least two.2 ∙ one.runs) in cc (clash))
+  next_one event.Commit (event.Split other) one two =
+      absurd (not_queued (inverse_of r) b a (alike_turned r a b alike) other one.0 one.1 two one.2)
+  next_one event.Commit (event.Dispatch other) one two =
+      absurd (let clash : Idle ≡ Finished = sym two.3 ∙ (status_same r a b alike one.0 two.0 one.1 two.1 one.2 two.2 ∙ one.3) in cc (clash))
+  next_one event.Commit (event.Step other core leg) one two =
+      absurd (let clash : Running core ≡ Finished = sym two.runs ∙ (status_same r a b alike one.0 two.id one.1 two.task one.2 two.least ∙ one.3) in cc (clash))
   next_one event.Commit event.Commit one two = refl
   next_one (event.Abort tile) f one two = absurd one
   next_one (event.Coalesce tile) f one two = absurd one

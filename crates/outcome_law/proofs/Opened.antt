@@ -1,5 +1,6 @@
 -- Two openings are alike.
-use Rattle.std.proofs.Common.{◌≡◌, ◌<◌, zero, suc, ℕ, List, [], ◌∷◌, map, length, Option, Some, None, option_map, is_some, refl, sym, ap, subst, ◌∙◌, inl, inr, ◌⊎◌, arith}
+use Rattle.std.proofs.Common.{◌≡◌, ◌<◌, zero, suc, ℕ, List, [], ◌∷◌, map, length, Option, Some, None, option_map}
+use Rattle.std.proofs.Common.{is_some, refl, sym, ap, subst, ◌∙◌, inl, inr, ◌⊎◌, arith}
 use Rattle.std.specs.Prelude.{slice_get, slice_index_or, Contains, replicate}
 use Rattle.std.specs.List.{enumerate_from}
 use Rattle.std.proofs.lemmas.Bool.{cases_eq}
@@ -48,7 +49,8 @@ fresh_holds view is = record {
   queued = is.queued;
   ended = λ tile k has. absurd (is.ended tile k has);
   held = λ tile core k has. absurd (is.held tile core k has);
-  creators = λ k x task index there made. absurd (let clash : None ≡ Some task.0 = sym (is.rooted k x there) ∙ ap live_creator made in cc (clash));
+  creators =
+      λ k x task index there made. absurd (let clash : None ≡ Some task.0 = sym (is.rooted k x there) ∙ ap live_creator made in cc (clash));
 }
 
 -- ---- the view without a task
@@ -59,14 +61,18 @@ none_stands (suc n) zero = refl
 none_stands (suc n) (suc tile) = none_stands n tile
 
 not_in_none : (ids : List ℕ) (k : ℕ) → ids ≡ [] → Contains ids k → ⊥
-not_in_none ids k none has = absurd (let low : has.0 < length ids = has.1 in let size : length ids ≡ 0 = ap length none in omega arith)
+not_in_none ids k none has =
+    absurd (let low : has.0 < length ids = has.1 in let size : length ids ≡ 0 = ap length none in omega arith)
 
 module _ (image : ImageValue) (settings : Settings) where
   empty_fresh : (view : View) → IsEmptyView image settings view → IsFresh view
   empty_fresh view is = record {
-    queued = λ tile k has. absurd (not_in_none (queue_at view tile) k (ap (λ v. queue_at v tile) is.frame ∙ none_stands settings.tiles tile) has);
-    ended = λ tile k has. not_in_none (finished_at view tile) k (ap (λ v. finished_at v tile) is.frame ∙ none_stands settings.tiles tile) has;
-    held = λ tile core k at. none_held settings.tiles settings.cores tile core k (sym (ap (λ v. slice_get (cores_at v tile) core) is.frame) ∙ at);
+    queued =
+        λ tile k has. absurd (not_in_none (queue_at view tile) k (ap (λ v. queue_at v tile) is.frame ∙ none_stands settings.tiles tile) has);
+    ended =
+        λ tile k has. not_in_none (finished_at view tile) k (ap (λ v. finished_at v tile) is.frame ∙ none_stands settings.tiles tile) has;
+    held =
+        λ tile core k at. none_held settings.tiles settings.cores tile core k (sym (ap (λ v. slice_get (cores_at v tile) core) is.frame) ∙ at);
     rooted = λ k x there. absurd (let clash : None ≡ Some x = sym (is.none k) ∙ there in cc (clash));
   }
 
@@ -83,11 +89,20 @@ module _ (image : ImageValue) (settings : Settings) (a b : View) (one : IsEmptyV
 
   empty_alike : (r : Renaming) → r.to ≡ (λ k. k) → AreAlike r a b
   empty_alike r same = record {
-    tasks = λ k. subst (λ (to : ℕ → ℕ). IsAlikeAt to (task_at a k) (task_at b (to k))) (sym same) (none_alike (task_at a k) (task_at b k) (one.none k) (two.none k));
-    queues = ap (λ v. v.queues) two.frame ∙ (sym (mapped_none (map r.to) settings.tiles [] refl) ∙ ap (λ v. map (map r.to) v.queues) (sym one.frame));
-    finished = ap (λ v. v.finished) two.frame ∙ (sym (mapped_none (map r.to) settings.tiles [] refl) ∙ ap (λ v. map (map r.to) v.finished) (sym one.frame));
-    cores = ap (λ v. v.cores) two.frame ∙ (sym (mapped_none (map (option_map r.to)) settings.tiles (replicate settings.cores None) (mapped_none (option_map r.to) settings.cores None refl)) ∙ ap (λ v. map (map (option_map r.to)) v.cores) (sym one.frame));
-    frame = two.frame ∙ (ap {A = View} (λ v. record v { tasks = b.tasks }) (sym one.frame) ∙ (ap {A = View} (λ v. record a { tasks = b.tasks; queues = v.queues; finished = v.finished; cores = v.cores }) one.frame ∙ ap {A = View} (λ v. record a { tasks = b.tasks; queues = v.queues; finished = v.finished; cores = v.cores }) (sym two.frame)));
+    tasks =
+        λ k. subst (λ (to : ℕ → ℕ). IsAlikeAt to (task_at a k) (task_at b (to k))) (sym same) (none_alike (task_at a k) (task_at b k) (one.none k) (two.none k));
+    queues =
+        ap (λ v. v.queues) two.frame
+        ∙ (sym (mapped_none (map r.to) settings.tiles [] refl) ∙ ap (λ v. map (map r.to) v.queues) (sym one.frame));
+    finished =
+        ap (λ v. v.finished) two.frame
+        ∙ (sym (mapped_none (map r.to) settings.tiles [] refl) ∙ ap (λ v. map (map r.to) v.finished) (sym one.frame));
+    cores =
+        ap (λ v. v.cores) two.frame
+        ∙ (sym (mapped_none (map (option_map r.to)) settings.tiles (replicate settings.cores None) (mapped_none (option_map r.to) settings.cores None refl)) ∙ ap (λ v. map (map (option_map r.to)) v.cores) (sym one.frame));
+    frame =
+        two.frame
+        ∙ (ap {A = View} (λ v. record v { tasks = b.tasks }) (sym one.frame) ∙ (ap {A = View} (λ v. record a { tasks = b.tasks; queues = v.queues; finished = v.finished; cores = v.cores }) one.frame ∙ ap {A = View} (λ v. record a { tasks = b.tasks; queues = v.queues; finished = v.finished; cores = v.cores }) (sym two.frame)));
   }
 
 -- ---- placing
@@ -134,14 +149,19 @@ module _ (kind : Kind) (index : ℕ) (task : ImageTask) where
         ];
       }
 
-  room_alike : (r : Renaming) (a b mid mid' : View) (tile : ℕ) → AreAlike r a b → (QueueHasRoom a tile × (mid ≡ a)) ⊎ (IsFull a tile × Coalesces tile a mid)
+  room_alike : (r : Renaming) (a b mid mid' : View) (tile : ℕ) → AreAlike r a b
+      → (QueueHasRoom a tile × (mid ≡ a)) ⊎ (IsFull a tile × Coalesces tile a mid)
       → (QueueHasRoom b tile × (mid' ≡ b)) ⊎ (IsFull b tile × Coalesces tile b mid') → AreAlike r mid mid'
-  room_alike r a b mid mid' tile alike (inl free) (inl free') = subst (λ x. AreAlike r x mid') (sym free.1) (subst (λ y. AreAlike r a y) (sym free'.1) alike)
-  room_alike r a b mid mid' tile alike (inl free) (inr full) = absurd (let low = has_room_too r a b alike tile free.0 in let high = full.0 in omega arith)
-  room_alike r a b mid mid' tile alike (inr full) (inl free) = absurd (let high = full_too r a b alike tile full.0 in let low = free.0 in omega arith)
+  room_alike r a b mid mid' tile alike (inl free) (inl free') =
+      subst (λ x. AreAlike r x mid') (sym free.1) (subst (λ y. AreAlike r a y) (sym free'.1) alike)
+  room_alike r a b mid mid' tile alike (inl free) (inr full) =
+      absurd (let low = has_room_too r a b alike tile free.0 in let high = full.0 in omega arith)
+  room_alike r a b mid mid' tile alike (inr full) (inl free) =
+      absurd (let high = full_too r a b alike tile full.0 in let low = free.0 in omega arith)
   room_alike r a b mid mid' tile alike (inr full) (inr full') = coalesces_alike r a b alike tile mid mid' full.1 full'.1
 
-  placed_one : (r : Renaming) (old other new new' : BookView) → AreAlikeBooks r old other → IsFresh old.view → PlacesImageTask kind index task old new → PlacesImageTask kind index task other new' → AreSameBooks new new'
+  placed_one : (r : Renaming) (old other new new' : BookView) → AreAlikeBooks r old other → IsFresh old.view
+      → PlacesImageTask kind index task old new → PlacesImageTask kind index task other new' → AreSameBooks new new'
   placed_one r old other new new' alike fresh one two =
       let tile = picked_tile old index in
       let same = picked_alike r old other alike index in
@@ -158,23 +178,36 @@ module _ (kind : Kind) (index : ℕ) (task : ImageTask) where
         s,
         record {
           view = record {
-            tasks = changed_alike s one.mid two.mid new.view new'.view now one.id (Some placed) (Some placed) (idle_alike s.to one.mid.version (image_descriptor kind index task) (Committed 0 index) tile) one.changes changes;
-            queues = queues ∙ (ended_alike s one.mid two.mid now one.mid.queues two.mid.queues now.queues tile one.id ∙ ap (map (map s.to)) (sym one.queues));
-            finished = ap (λ v. v.finished) two.frame ∙ (now.finished ∙ ap (λ v. map (map s.to) v.finished) (sym one.frame));
-            cores = ap (λ v. v.cores) two.frame ∙ (now.cores ∙ ap (λ v. map (map (option_map s.to)) v.cores) (sym one.frame));
-            frame = two.frame ∙ (ap {A = View} (λ v. record v { tasks = new'.view.tasks; queues = new'.view.queues }) mids.frame
+            tasks =
+                changed_alike s one.mid two.mid new.view new'.view now one.id (Some placed) (Some placed) (idle_alike s.to one.mid.version (image_descriptor kind index task) (Committed 0 index) tile) one.changes changes;
+            queues =
+                queues
+                ∙ (ended_alike s one.mid two.mid now one.mid.queues two.mid.queues now.queues tile one.id ∙ ap (map (map s.to)) (sym one.queues));
+            finished =
+                ap (λ v. v.finished) two.frame ∙ (now.finished ∙ ap (λ v. map (map s.to) v.finished) (sym one.frame));
+            cores =
+                ap (λ v. v.cores) two.frame
+                ∙ (now.cores ∙ ap (λ v. map (map (option_map s.to)) v.cores) (sym one.frame));
+            frame =
+                two.frame
+                ∙ (ap {A = View} (λ v. record v { tasks = new'.view.tasks; queues = new'.view.queues }) mids.frame
                 ∙ (ap {A = View} (λ v. record v { tasks = new'.view.tasks; queues = new'.view.queues; finished = two.mid.finished; cores = two.mid.cores }) (sym one.frame)
                 ∙ ap {A = View} (λ v. record new.view { tasks = new'.view.tasks; queues = new'.view.queues; finished = v.finished; cores = v.cores }) (sym two.frame)));
           };
           placers = two.told ∙ ((λ i. first_placed (alike.placers i) (same i)) ∙ sym one.told);
           taps = ap (λ (v : BookView). v.taps) two.same ∙ (alike.taps ∙ sym (ap (λ (v : BookView). v.taps) one.same));
-          steps = ap (λ (v : BookView). v.steps) two.same ∙ (alike.steps ∙ sym (ap (λ (v : BookView). v.steps) one.same));
-          stopped = ap (λ (v : BookView). v.stopped) two.same ∙ (alike.stopped ∙ sym (ap (λ (v : BookView). v.stopped) one.same));
+          steps =
+              ap (λ (v : BookView). v.steps) two.same ∙ (alike.steps ∙ sym (ap (λ (v : BookView). v.steps) one.same));
+          stopped =
+              ap (λ (v : BookView). v.stopped) two.same
+              ∙ (alike.stopped ∙ sym (ap (λ (v : BookView). v.stopped) one.same));
         },
       )
 
-all_placed : (kind : Kind) (tasks : List (ℕ × ImageTask)) (old other new new' : BookView) → AreSameBooks old other → IsFresh old.view → PlacesAll kind tasks old new → PlacesAll kind tasks other new' → AreSameBooks new new'
-all_placed kind [] old other new new' same fresh one two = subst (λ (x : BookView). AreSameBooks x new') one (subst (λ (y : BookView). AreSameBooks old y) two same)
+all_placed : (kind : Kind) (tasks : List (ℕ × ImageTask)) (old other new new' : BookView) → AreSameBooks old other
+    → IsFresh old.view → PlacesAll kind tasks old new → PlacesAll kind tasks other new' → AreSameBooks new new'
+all_placed kind [] old other new new' same fresh one two =
+    subst (λ (x : BookView). AreSameBooks x new') one (subst (λ (y : BookView). AreSameBooks old y) two same)
 all_placed kind (e ∷ es) old other new new' same fresh one two =
     all_placed kind es one.0 two.0 new new' (placed_one kind e.0 e.1 same.0 old other one.0 two.0 same.1 fresh one.1 two.1) (placed_fresh kind e.0 e.1 old one.0 fresh one.1) one.2 two.2
 

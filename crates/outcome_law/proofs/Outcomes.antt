@@ -1,5 +1,7 @@
 -- What comes of an event is one thing.
-use Rattle.std.proofs.Common.{◌≡◌, ◌≢◌, ◌≤◌, ◌<◌, ◌+◌, ◌++◌, ◌/◌, zero, suc, ℕ, Bool, true, false, List, [], ◌∷◌, map, length, Option, Some, None, option_map, is_some, refl, sym, ap, subst, ◌∙◌, inl, inr, ◌⊎◌, arith}
+use Rattle.std.proofs.Common.{◌≡◌, ◌≢◌, ◌≤◌, ◌<◌, ◌+◌, ◌++◌, ◌/◌, zero, suc, ℕ, Bool, true, false, List, [], ◌∷◌, map}
+use Rattle.std.proofs.Common.{length, Option, Some, None, option_map, is_some, refl, sym, ap, subst, ◌∙◌, inl, inr, ◌⊎◌}
+use Rattle.std.proofs.Common.{arith}
 use Rattle.guest_image.specs.ImageValue.{ImageValue}
 use Rattle.trace_tap.specs.declared.record.Record.{Record}
 use Rattle.trace_tap.specs.declared.record.Deed.TheVariants as deed
@@ -29,20 +31,23 @@ use Rattle.outcome_law.proofs.Picks.{task_one}
 
 module _ {N : Type 0} (image : ImageValue) (r : Renaming) (a b : View) (sound : Sound image a) (sound' : Sound image b) (alike : AreAlike r a b) where
   -- the taps are told the same
-  record_one : (event : Event N) (n m : ℕ) (new new' : View) (seen seen' : Record) → m ≡ n → length new'.history ≡ length new.history
+  record_one : (event : Event N) (n m : ℕ) (new new' : View) (seen seen' : Record) → m ≡ n
+      → length new'.history ≡ length new.history
       → IsRecord a event n new seen → IsRecord b event m new' seen' → seen' ≡ seen
   record_one (event.Dispatch tile) n m new new' seen seen' count commits one two = two ∙ ((λ i. record { deed = deed.Dispatch; tile = tile; line = None; aborted = count i; commits = commits i }) ∙ sym one)
   record_one (event.Step tile core leg) n m new new' seen seen' count commits one two =
       let same = takers image r a b sound sound' alike tile core leg one.0 two.0 one.1 two.1 one.2 two.2 in
       let request = request_same r a b alike one.1 two.1 same.like leg in
-      two.3 ∙ ((λ i. record { deed = deed_of (request i); tile = tile; line = line_of_request (settings_same r a b alike i).line (request i); aborted = count i; commits = commits i }) ∙ sym one.3)
+      two.3
+      ∙ ((λ i. record { deed = deed_of (request i); tile = tile; line = line_of_request (settings_same r a b alike i).line (request i); aborted = count i; commits = commits i }) ∙ sym one.3)
   record_one (event.Abort tile) n m new new' seen seen' count commits one two = two ∙ ((λ i. record { deed = deed.Abort; tile = tile; line = None; aborted = count i; commits = commits i }) ∙ sym one)
   record_one event.Commit n m new new' seen seen' count commits one two =
       let l = least_too r a b alike one.0 one.1 one.2 in
       let task : two.1 ≡ l.y = task_one b two.0 (r.to one.0) two.1 l.y (one_least b two.0 (r.to one.0) two.1 l.y two.2 l.least) two.2.queued_at.there l.least.queued_at.there in
       let tile : two.1.tile
       ≡ one.1.tile = ap (λ (t : Task). t.tile) task ∙ ap (λ (t : Task). t.tile) l.alike.other_is in
-      two.3 ∙ ((λ i. record { deed = deed.Commit; tile = tile i; line = None; aborted = count i; commits = commits i }) ∙ sym one.3)
+      two.3
+      ∙ ((λ i. record { deed = deed.Commit; tile = tile i; line = None; aborted = count i; commits = commits i }) ∙ sym one.3)
   record_one (event.Coalesce tile) n m new new' seen seen' count commits one two = two ∙ ((λ i. record { deed = deed.Coalesce; tile = tile; line = None; aborted = count i; commits = commits i }) ∙ sym one)
   record_one (event.Split tile) n m new new' seen seen' count commits one two = two ∙ ((λ i. record { deed = deed.Split; tile = tile; line = None; aborted = count i; commits = commits i }) ∙ sym one)
 
@@ -70,11 +75,13 @@ module _ {N : Type 0} (image : ImageValue) (r : Renaming) (old other new other_n
       }
 
   -- one that is refused leaves both
-  refused_one : (answer answer' : Reply) → answer' ≡ answer → (n ≡ 0) × (new ≡ old) → (m ≡ 0) × (other_new ≡ other) → IsSameOutcome answer answer' n m new other_new
+  refused_one : (answer answer' : Reply) → answer' ≡ answer → (n ≡ 0) × (new ≡ old) → (m ≡ 0) × (other_new ≡ other)
+      → IsSameOutcome answer answer' n m new other_new
   refused_one answer answer' same one two = record {
     reply_is = same;
     aborted_is = two.0 ∙ sym one.0;
-    books = (r, subst (λ (x : BookView). AreAlikeBooks r x other_new) (sym one.1) (subst (λ (y : BookView). AreAlikeBooks r old y) (sym two.1) alike));
+    books =
+        (r, subst (λ (x : BookView). AreAlikeBooks r x other_new) (sym one.1) (subst (λ (y : BookView). AreAlikeBooks r old y) (sym two.1) alike));
   }
 
 module _ {N : Type 0} (r : Renaming) (old other new : BookView) (event : Event N) (n : ℕ) (alike : AreAlikeBooks r old other) where
@@ -86,7 +93,8 @@ module _ {N : Type 0} (r : Renaming) (old other new : BookView) (event : Event N
   }
 
   -- a refusal is one in the other book too
-  pub refusal_too : (answer : Reply) → answer ≢ reply.Ok → answer ≢ reply.Memory → Happens old event answer n new → Happens other event answer 0 other
+  pub refusal_too : (answer : Reply) → answer ≢ reply.Ok → answer ≢ reply.Memory → Happens old event answer n new
+      → Happens other event answer 0 other
   refusal_too reply.Ok not_made has happens = absurd (not_made refl)
   refusal_too reply.Empty not_made has happens = refuses_too reply.Empty happens
   refusal_too reply.Busy not_made has happens = refuses_too reply.Busy happens
@@ -109,14 +117,16 @@ is_ok_or_not reply.Memory = inr (λ e. absurd (cc (e)))
 module _ (N : Type 0) (image : ImageValue) (r : Renaming) (old other new other_new : BookView) (event : Event N) (answer answer' : Reply) (n m : ℕ)
     (sound : Sound image old.view) (sound' : Sound image other.view) (alike : AreAlikeBooks r old other)
     (one : Happens old event answer n new) (two : Happens other event answer' m other_new) (has : answer ≢ reply.Memory) (has' : answer' ≢ reply.Memory) where
-  same_reply : (answer ≡ reply.Ok) ⊎ (answer ≢ reply.Ok) → (answer' ≡ reply.Ok) ⊎ (answer' ≢ reply.Ok) → answer' ≡ answer
+  same_reply : (answer ≡ reply.Ok) ⊎ (answer ≢ reply.Ok) → (answer' ≡ reply.Ok) ⊎ (answer' ≢ reply.Ok)
+      → answer' ≡ answer
   same_reply (inl made) (inl made') = made' ∙ sym made
   same_reply (inr refused) second =
       reply_is_one N other other_new other event answer' answer m 0 two (refusal_too r old other new event n alike answer refused has one) has' has
   same_reply (inl made) (inr refused) =
       reply_is_one N old old new event answer' answer 0 n (refusal_too (inverse_of r) other old other_new event m (books_turned r old other alike) answer' refused has' two) one has' has
 
-  by_reply : (answer ≡ reply.Ok) ⊎ (answer ≢ reply.Ok) → answer' ≡ answer → IsSameOutcome answer answer' n m new other_new
+  by_reply : (answer ≡ reply.Ok) ⊎ (answer ≢ reply.Ok) → answer' ≡ answer
+      → IsSameOutcome answer answer' n m new other_new
   by_reply (inl made) same =
       let ok : IsSameOutcome reply.Ok reply.Ok n m new other_new = made_one image r old other new other_new event n m sound sound' alike
       (subst (λ x. Happens old event x n new) made one) (subst (λ x. Happens other event x m other_new) (same ∙ made) two) in

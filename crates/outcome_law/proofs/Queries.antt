@@ -8,7 +8,8 @@ use Rattle.spec_state.specs.declared.task.Task.{Task}
 use Rattle.spec_state.specs.View.{View, queue_at, finished_at, cores_at}
 use Rattle.spec_state.specs.Tasks.{is_dispatched}
 use Rattle.spec_state.specs.Least.{Precedes}
-use Rattle.spec_state.specs.Queries.{IsQueued, IsIdle, IsLeastIdle, IsIdleFirm, IsDispatched, IsOnCore, IsRunning, IsFinished, IsLatest, IsFreeCore, IsLowestFree, IsLater, HasLine, Conflicts}
+use Rattle.spec_state.specs.Queries.{IsQueued, IsIdle, IsLeastIdle, IsIdleFirm, IsDispatched, IsOnCore, IsRunning}
+use Rattle.spec_state.specs.Queries.{IsFinished, IsLatest, IsFreeCore, IsLowestFree, IsLater, HasLine, Conflicts}
 use Rattle.outcome_law.specs.Alike.{Renaming, inverse_of, IsAlikeTask, AreAlike}
 use Rattle.outcome_law.proofs.Alike.{partner, alike_turned}
 use Rattle.outcome_law.proofs.Leasts.{queue_too, finished_too, cores_too, firm_too, precedes_too}
@@ -25,17 +26,26 @@ key_same to x y alike = ap (λ t. t.key) alike.other_is
 
 module _ (r : Renaming) (a b : View) (alike : AreAlike r a b) where
   pub is_queued_too : (tile k : ℕ) → IsQueued a tile k → IsQueued b tile (r.to k)
-  is_queued_too tile k is = subst (λ (q : List ℕ). Contains q (r.to k)) (sym (queue_too r a b alike tile)) (contains_mapped r.to (queue_at a tile) k is)
+  is_queued_too tile k is =
+      subst (λ (q : List ℕ). Contains q (r.to k)) (sym (queue_too r a b alike tile)) (contains_mapped r.to (queue_at a tile) k is)
 
   pub idle_too : (tile k : ℕ) (x : Task) → IsIdle a tile k x → Too r.to (IsIdle b tile) k x
   idle_too tile k x is =
       let p = partner r a b alike k x is.there in
-      record { y = p.y; is = record { queued = is_queued_too tile k is.queued; there = p.there; idle = ap (λ t. t.status) p.alike.other_is ∙ is.idle }; alike = p.alike }
+      record {
+        y = p.y;
+        is = record { queued = is_queued_too tile k is.queued; there = p.there; idle = ap (λ t. t.status) p.alike.other_is ∙ is.idle };
+        alike = p.alike;
+      }
 
   pub dispatched_too : (tile k : ℕ) (x : Task) → IsDispatched a tile k x → Too r.to (IsDispatched b tile) k x
   dispatched_too tile k x is =
       let p = partner r a b alike k x is.there in
-      record { y = p.y; is = record { queued = is_queued_too tile k is.queued; there = p.there; dispatched = ap is_dispatched p.alike.other_is ∙ is.dispatched }; alike = p.alike }
+      record {
+        y = p.y;
+        is = record { queued = is_queued_too tile k is.queued; there = p.there; dispatched = ap is_dispatched p.alike.other_is ∙ is.dispatched };
+        alike = p.alike;
+      }
 
   pub on_core_too : (tile core k : ℕ) (x : Task) → IsOnCore a tile core k x → Too r.to (IsOnCore b tile core) k x
   on_core_too tile core k x is =
@@ -43,7 +53,9 @@ module _ (r : Renaming) (a b : View) (alike : AreAlike r a b) where
       record {
         y = p.y;
         is = record {
-          held = ap (λ (cs : List (Option ℕ)). slice_get cs core) (cores_too r a b alike tile) ∙ (slice_get-map (option_map r.to) (cores_at a tile) core ∙ ap (option_map (option_map r.to)) is.held);
+          held =
+              ap (λ (cs : List (Option ℕ)). slice_get cs core) (cores_too r a b alike tile)
+              ∙ (slice_get-map (option_map r.to) (cores_at a tile) core ∙ ap (option_map (option_map r.to)) is.held);
           there = p.there;
         };
         alike = p.alike;
@@ -52,7 +64,11 @@ module _ (r : Renaming) (a b : View) (alike : AreAlike r a b) where
   pub running_too : (tile core k : ℕ) (x : Task) → IsRunning a tile core k x → Too r.to (IsRunning b tile core) k x
   running_too tile core k x is =
       let o = on_core_too tile core k x is.on in
-      record { y = o.y; is = record { on = o.is; running = ap (λ t. t.status) o.alike.other_is ∙ is.running }; alike = o.alike }
+      record {
+        y = o.y;
+        is = record { on = o.is; running = ap (λ t. t.status) o.alike.other_is ∙ is.running };
+        alike = o.alike;
+      }
 
   pub is_finished_too : (tile k : ℕ) (x : Task) → IsFinished a tile k x → Too r.to (IsFinished b tile) k x
   is_finished_too tile k x is =
@@ -60,21 +76,29 @@ module _ (r : Renaming) (a b : View) (alike : AreAlike r a b) where
       record {
         y = p.y;
         is = record {
-          queued = subst (λ (q : List ℕ). Contains q (r.to k)) (sym (finished_too r a b alike tile)) (contains_mapped r.to (finished_at a tile) k is.queued);
+          queued =
+              subst (λ (q : List ℕ). Contains q (r.to k)) (sym (finished_too r a b alike tile)) (contains_mapped r.to (finished_at a tile) k is.queued);
           there = p.there;
         };
         alike = p.alike;
       }
 
   pub free_core_too : (tile core : ℕ) → IsFreeCore a tile core → IsFreeCore b tile core
-  free_core_too tile core is = ap (λ (cs : List (Option ℕ)). slice_get cs core) (cores_too r a b alike tile) ∙ (slice_get-map (option_map r.to) (cores_at a tile) core ∙ ap (option_map (option_map r.to)) is)
+  free_core_too tile core is =
+      ap (λ (cs : List (Option ℕ)). slice_get cs core) (cores_too r a b alike tile)
+      ∙ (slice_get-map (option_map r.to) (cores_at a tile) core ∙ ap (option_map (option_map r.to)) is)
 
   pub idle_firm_too : (tile k : ℕ) (x : Task) → IsIdleFirm a tile k x → Too r.to (IsIdleFirm b tile) k x
   idle_firm_too tile k x is =
       let i = idle_too tile k x is.idle in
-      record { y = i.y; is = record { idle = i.is; firm = firm_too r a b alike x i.y i.alike is.firm }; alike = i.alike }
+      record {
+        y = i.y;
+        is = record { idle = i.is; firm = firm_too r a b alike x i.y i.alike is.firm };
+        alike = i.alike;
+      }
 
-  pub later_too : (task task' : Task) → IsAlikeTask r.to task task' → (k : ℕ) (x : Task) → IsLater a task k x → Too r.to (IsLater b task') k x
+  pub later_too : (task task' : Task) → IsAlikeTask r.to task task' → (k : ℕ) (x : Task) → IsLater a task k x
+      → Too r.to (IsLater b task') k x
   later_too task task' same k x is =
       let p = partner r a b alike k x is.there in
       record {
@@ -91,7 +115,8 @@ module _ (r : Renaming) (a b : View) (alike : AreAlike r a b) where
   line_too true x y line same has = same.touched line ∙ has
   line_too false x y line same has = same.written line ∙ has
 
-  pub conflicts_too : (task task' : Task) → IsAlikeTask r.to task task' → (line : ℕ) (write : Bool) (k : ℕ) → Conflicts a task line write k → Conflicts b task' line write (r.to k)
+  pub conflicts_too : (task task' : Task) → IsAlikeTask r.to task task' → (line : ℕ) (write : Bool) (k : ℕ)
+      → Conflicts a task line write k → Conflicts b task' line write (r.to k)
   conflicts_too task task' same line write k is =
       let l = later_too task task' same k is.other is.later in
       record { other = l.y; later = l.is; has_line = line_too write is.other l.y line l.alike is.has_line }

@@ -1,5 +1,6 @@
 -- How often a name stands in a list of pending tasks, and what holds of lists in which none stands twice.
-use Rattle.std.proofs.Common.{◌≡◌, refl, sym, ap, ◌∙◌, subst, zero, suc, ℕ, ◌+◌, ◌≤◌, ◌==◌, ◌&&◌, Bool, true, false, List, [], ◌∷◌, ◌++◌, AllPairs, ◌⊎◌, inl, inr, sum_by, zero-add, slice_index_or, arith}
+use Rattle.std.proofs.Common.{◌≡◌, refl, sym, ap, ◌∙◌, subst, zero, suc, ℕ, ◌+◌, ◌≤◌, ◌==◌, ◌&&◌, Bool, true, false}
+use Rattle.std.proofs.Common.{List, [], ◌∷◌, ◌++◌, AllPairs, ◌⊎◌, inl, inr, sum_by, zero-add, slice_index_or, arith}
 use Rattle.std.specs.Prelude.{IsPermutation}
 use Rattle.std.specs.List.{AllByRecursion}
 use Rattle.std.specs.List.Sorted.{IsSortedBy}
@@ -7,7 +8,8 @@ use Rattle.std.proofs.lemmas.Bool.Decides.{nat_tests}
 use Rattle.std.proofs.lemmas.Grind.{common_steps}
 use Rattle.std.proofs.lemmas.List.Elements.{All-from_recursion}
 use Rattle.std.proofs.lemmas.List.Kept.{AllPairs-cons}
-use Rattle.std.proofs.lemmas.List.Sorted.{IsPermutation-refl, IsPermutation-sym, IsPermutation-cons, IsPermutation-trans, IsPermutation-middle, sum_by-IsPermutation}
+use Rattle.std.proofs.lemmas.List.Sorted.{IsPermutation-refl, IsPermutation-sym, IsPermutation-cons}
+use Rattle.std.proofs.lemmas.List.Sorted.{IsPermutation-trans, IsPermutation-middle, sum_by-IsPermutation}
 use Rattle.std.proofs.lemmas.List.Sums.{sum_by-cons}
 use Rattle.task_desc.specs.declared.desc.Name.{Name}
 use Rattle.serial_machine.specs.Names.{one}
@@ -68,7 +70,8 @@ none_named : (name : Name) (ps : List Pending) → count name ps ≡ 0 → AllBy
 none_named name [] none = tt
 none_named name (q ∷ qs) none = go (named name q) refl none (none_named name qs)
   where
-    go : (b : Bool) → named name q ≡ b → one b + count name qs ≡ 0 → (count name qs ≡ 0 → AllByRecursion (λ x. named name x ≡ false) qs)
+    go : (b : Bool) → named name q ≡ b → one b + count name qs ≡ 0
+        → (count name qs ≡ 0 → AllByRecursion (λ x. named name x ≡ false) qs)
         → (named name q ≡ false) × AllByRecursion (λ x. named name x ≡ false) qs
     go true is zero_all rest = absurd (omega (arith, zero_all))
     go false is zero_all rest = (is, rest (omega (arith, zero_all)))
@@ -80,14 +83,16 @@ tail_sorted p ps sorted = λ k d low high.
     subst (λ n. pending_before (slice_index_or (p ∷ ps) n d) (slice_index_or ps k d) ≡ false) next (sorted (suc k) d (omega arith) (omega (arith, high)))
 
 -- none comes before the first of a sorted list
-none_before : (p : Pending) (ps : List Pending) → IsSortedBy pending_before (p ∷ ps) → AllByRecursion (λ q. pending_before q p ≡ false) ps
+none_before : (p : Pending) (ps : List Pending) → IsSortedBy pending_before (p ∷ ps)
+    → AllByRecursion (λ q. pending_before q p ≡ false) ps
 none_before p [] sorted = tt
 none_before p (q ∷ qs) sorted = (first, further first qs (none_before q qs (tail_sorted p (q ∷ qs) sorted)))
   where
     first : pending_before q p ≡ false
     first = sorted zero p (omega arith) (omega arith)
 
-    further : pending_before q p ≡ false → (rs : List Pending) → AllByRecursion (λ r. pending_before r q ≡ false) rs → AllByRecursion (λ r. pending_before r p ≡ false) rs
+    further : pending_before q p ≡ false → (rs : List Pending) → AllByRecursion (λ r. pending_before r q ≡ false) rs
+        → AllByRecursion (λ r. pending_before r p ≡ false) rs
     further one_step [] each = tt
     further one_step (r ∷ rs) each = (over one_step each.0, further one_step rs each.1)
       where
@@ -135,7 +140,8 @@ split_at (q ∷ qs) p (inr held) =
     let rest = split_at qs p held in
     record { front = q ∷ rest.front; back = rest.back; is = ap (λ xs. q ∷ xs) rest.is }
 
-held_without : (front back : List Pending) (p r : Pending) → Holds (front ++ p ∷ back) r → (p ≡ r) ⊎ Holds (front ++ back) r
+held_without : (front back : List Pending) (p r : Pending) → Holds (front ++ p ∷ back) r
+    → (p ≡ r) ⊎ Holds (front ++ back) r
 held_without [] back p r held = held
 held_without (q ∷ qs) back p r (inl same) = inr (inl same)
 held_without (q ∷ qs) back p r (inr held) = elim (held_without qs back p r held) [
@@ -148,14 +154,16 @@ held_with [] back p r held = inr held
 held_with (q ∷ qs) back p r (inl same) = inl same
 held_with (q ∷ qs) back p r (inr held) = inr (held_with qs back p r held)
 
-count_without : (name : Name) (front back : List Pending) (p : Pending) → count name (front ++ p ∷ back) ≡ one (named name p) + count name (front ++ back)
+count_without : (name : Name) (front back : List Pending) (p : Pending)
+    → count name (front ++ p ∷ back) ≡ one (named name p) + count name (front ++ back)
 count_without name front back p =
     let long = count-append name front (p ∷ back) in
     let short = count-append name front back in
     omega (arith, long, short)
 
 -- two lists that hold the same tasks, in neither of which a name stands twice, are one list but for the order
-pub permuted : (ps qs : List Pending) → AreApart ps → AreApart qs → ((p : Pending) → Holds ps p → Holds qs p) → ((p : Pending) → Holds qs p → Holds ps p)
+pub permuted : (ps qs : List Pending) → AreApart ps → AreApart qs → ((p : Pending) → Holds ps p → Holds qs p)
+    → ((p : Pending) → Holds qs p → Holds ps p)
     → IsPermutation ps qs
 permuted [] [] first second there back = IsPermutation-refl []
 permuted [] (q ∷ qs) first second there back = absurd (back q (inl refl))
@@ -181,16 +189,18 @@ permuted (p ∷ ps) qs first second there back = go (split_at qs p (there p (inl
             omega (arith, upto, without)
 
         onward : (r : Pending) → Holds ps r → Holds (split.front ++ split.back) r
-        onward r held = elim (held_without split.front split.back p r (subst (λ xs. Holds xs r) split.is (there r (inr held)))) [
-          | inl same ↦
-              let some = held_counts ps p (subst (Holds ps) (sym same) held) in
-              let none = none_left p ps first in
-              absurd (omega (arith, some, none))
-          | inr other ↦ other
-        ]
+        onward r held =
+            elim (held_without split.front split.back p r (subst (λ xs. Holds xs r) split.is (there r (inr held)))) [
+              | inl same ↦
+                  let some = held_counts ps p (subst (Holds ps) (sym same) held) in
+                  let none = none_left p ps first in
+                  absurd (omega (arith, some, none))
+              | inr other ↦ other
+            ]
 
         backward : (r : Pending) → Holds (split.front ++ split.back) r → Holds ps r
-        backward r held = by (back r (subst (λ xs. Holds xs r) (sym split.is) (held_with split.front split.back p r held)))
+        backward r held =
+            by (back r (subst (λ xs. Holds xs r) (sym split.is) (held_with split.front split.back p r held)))
           where
             by : Holds (p ∷ ps) r → Holds ps r
             by (inl same) =

@@ -1,5 +1,7 @@
 -- The pending tasks of a view, and those of the serial machine's bags, as lists: which they are, and how often a name stands there.
-use Rattle.std.proofs.Common.{◌≡◌, refl, sym, ap, ◌∙◌, subst, zero, suc, ℕ, ◌+◌, ◌≤◌, nat_le, Bool, true, false, List, [], ◌∷◌, ◌++◌, length, map, Option, Some, None, slice_index_or, option_map, if◌then◌else◌, ◌⊎◌, inl, inr, zero-add, arith}
+use Rattle.std.proofs.Common.{◌≡◌, refl, sym, ap, ◌∙◌, subst, zero, suc, ℕ, ◌+◌, ◌≤◌, nat_le, Bool, true, false, List}
+use Rattle.std.proofs.Common.{[], ◌∷◌, ◌++◌, length, map, Option, Some, None, slice_index_or, option_map, if◌then◌else◌}
+use Rattle.std.proofs.Common.{◌⊎◌, inl, inr, zero-add, arith}
 use Rattle.std.specs.List.{filter_map, cons_option}
 use Rattle.std.proofs.lemmas.Bool.Decides.{nat_tests}
 use Rattle.task_desc.specs.declared.desc.Desc.{Desc}
@@ -19,7 +21,8 @@ use Rattle.spec_state.specs.declared.task.Task.{Task}
 use Rattle.spec_state.specs.View.{View, task_at}
 use Rattle.spec_state.specs.Tasks.{depth_of}
 use Rattle.spec_state.specs.Groups.{all_spilled, bag_creator, bag_spilled, bag_task, bag_tasks, bags_spilled}
-use Rattle.spec_state.specs.Pendings.{all_pending, pending_at, pending_by, pending_queued, pending_spilled, pendings_in, spilled_pending}
+use Rattle.spec_state.specs.Pendings.{all_pending, pending_at, pending_by, pending_queued, pending_spilled, pendings_in}
+use Rattle.spec_state.specs.Pendings.{spilled_pending}
 use Rattle.pending_law.proofs.Counts.{AreApart, count, count-append, Holds, named, named_so}
 use Rattle.fractal_vt.proofs.Proved.{mapped_some}
 
@@ -49,7 +52,13 @@ held_either (x ∷ ps) qs p (inr held) = elim (held_either ps qs p held) [
 -- a queued task of a creator that has committed, as one that pends
 abbrev pub queued_as : ℕ → ℕ → Task → Pending
 queued_as turn index task =
-    record { name = record { creator = turn; index = index }; depth = depth_of task; entry = task.entry; ts = task.key.ts; args = task.args }
+    record {
+      name = record { creator = turn; index = index };
+      depth = depth_of task;
+      entry = task.entry;
+      ts = task.key.ts;
+      args = task.args;
+    }
 
 -- it stands in one of the slots
 pub record IsQueuedPending (slots : List (Option Task)) (p : Pending) : Type 0 where
@@ -61,10 +70,21 @@ pub record IsQueuedPending (slots : List (Option Task)) (p : Pending) : Type 0 w
   pub creator : task.creator ≡ Committed turn index
   pub is : p ≡ queued_as turn index task
 
-later : (slot : Option Task) (slots : List (Option Task)) (p : Pending) → IsQueuedPending slots p → IsQueuedPending (slot ∷ slots) p
-later slot slots p q = record { id = suc q.id; task = q.task; turn = q.turn; index = q.index; there = q.there; creator = q.creator; is = q.is }
+later : (slot : Option Task) (slots : List (Option Task)) (p : Pending) → IsQueuedPending slots p
+    → IsQueuedPending (slot ∷ slots) p
+later slot slots p q =
+    record {
+      id = suc q.id;
+      task = q.task;
+      turn = q.turn;
+      index = q.index;
+      there = q.there;
+      creator = q.creator;
+      is = q.is;
+    }
 
-pub held_queued : (slots : List (Option Task)) (p : Pending) → Holds (filter_map pending_queued slots) p → IsQueuedPending slots p
+pub held_queued : (slots : List (Option Task)) (p : Pending) → Holds (filter_map pending_queued slots) p
+    → IsQueuedPending slots p
 held_queued [] p held = absurd held
 held_queued (None ∷ slots) p held = later None slots p (held_queued slots p held)
 held_queued (Some task ∷ slots) p held = go task.creator refl held (held_queued slots p)
@@ -76,7 +96,8 @@ held_queued (Some task ∷ slots) p held = go task.creator refl held (held_queue
     go (Committed turn index) is (inr other) rest = later (Some task) slots p (rest other)
     go (Live creator index) is other rest = later (Some task) slots p (rest other)
 
-pub queued_held : (slots : List (Option Task)) (id : ℕ) (task : Task) (turn index : ℕ) → slice_index_or slots id None ≡ Some task
+pub queued_held : (slots : List (Option Task)) (id : ℕ) (task : Task) (turn index : ℕ)
+    → slice_index_or slots id None ≡ Some task
     → task.creator ≡ Committed turn index → Holds (filter_map pending_queued slots) (queued_as turn index task)
 queued_held [] id task turn index at is = absurd (cc (at))
 queued_held (slot ∷ slots) zero task turn index at is =
@@ -90,20 +111,23 @@ queued_held (slot ∷ slots) (suc id) task turn index at is =
 
 -- the slot's task was made so
 abbrev Made : Name → List (Option Task) → ℕ → Task → Type 0
-Made name slots id task = (slice_index_or slots id None ≡ Some task) × (task.creator ≡ Committed name.creator name.index)
+Made name slots id task =
+    (slice_index_or slots id None ≡ Some task) × (task.creator ≡ Committed name.creator name.index)
 
 pub none_queued : (name : Name) (slots : List (Option Task)) → ((id : ℕ) (task : Task) → Made name slots id task → ⊥)
     → count name (filter_map pending_queued slots) ≡ 0
 none_queued name [] none = refl
 none_queued name (None ∷ slots) none = none_queued name slots (λ id task made. none (suc id) task made)
-none_queued name (Some task ∷ slots) none = go task.creator refl (none_queued name slots (λ id t made. none (suc id) t made))
+none_queued name (Some task ∷ slots) none =
+    go task.creator refl (none_queued name slots (λ id t made. none (suc id) t made))
   where
     go : (c : Creator) → task.creator ≡ c → count name (filter_map pending_queued slots) ≡ 0
         → count name (cons_option (pending_by c task) (filter_map pending_queued slots)) ≡ 0
     go (Live creator index) is rest = rest
     go (Committed turn index) is rest = by (named name (queued_as turn index task)) refl
       where
-        by : (b : Bool) → named name (queued_as turn index task) ≡ b → one b + count name (filter_map pending_queued slots) ≡ 0
+        by : (b : Bool) → named name (queued_as turn index task) ≡ b
+            → one b + count name (filter_map pending_queued slots) ≡ 0
         by true same =
             let so = named_so name (queued_as turn index task) same in
             absurd (none zero task (refl, is ∙ ap (λ (n : Name). Committed n.creator n.index) so))
@@ -123,7 +147,8 @@ queued_apart name (Some task ∷ slots) one_slot =
     go (Live creator index) is rest = rest
     go (Committed turn index) is rest = by (named name (queued_as turn index task)) refl
       where
-        by : (b : Bool) → named name (queued_as turn index task) ≡ b → one b + count name (filter_map pending_queued slots) ≤ 1
+        by : (b : Bool) → named name (queued_as turn index task) ≡ b
+            → one b + count name (filter_map pending_queued slots) ≤ 1
         by true same =
             let so = named_so name (queued_as turn index task) same in
             let first : task.creator ≡ Committed name.creator name.index = is ∙ ap (λ (n : Name). Committed n.creator n.index) so in
@@ -144,7 +169,8 @@ module _ (turns : ℕ) where
   held_spilled [] p held = absurd held
   held_spilled (s ∷ ss) p held = go (nat_le s.desc.name.creator turns) refl held (held_spilled ss p)
     where
-      go : (b : Bool) → nat_le s.desc.name.creator turns ≡ b → Holds (cons_option (if b then Some (spilled_as s.desc) else None) (spilled_pending turns ss)) p
+      go : (b : Bool) → nat_le s.desc.name.creator turns ≡ b
+          → Holds (cons_option (if b then Some (spilled_as s.desc) else None) (spilled_pending turns ss)) p
           → (Holds (spilled_pending turns ss) p → (e : SpilledBagTask) × In e (map bag_spilled ss) × (e.task.name.creator ≤ turns) × (p ≡ pending_at e.depth e.task))
           → (e : SpilledBagTask) × In e (map bag_spilled (s ∷ ss)) × (e.task.name.creator ≤ turns) × (p ≡ pending_at e.depth e.task)
       go true low (inl same) rest = (bag_spilled s, inl refl, grind (arith, nat_tests), sym same)
@@ -163,9 +189,11 @@ module _ (turns : ℕ) where
   spilled_held (s ∷ ss) e (inr among) low =
       held_cons (pending_spilled turns s.desc) (spilled_pending turns ss) (pending_at e.depth e.task) (spilled_held ss e among low)
 
-  pub none_spilled : (name : Name) (ss : List Spilled) → IsFresh name (map bag_spilled ss) → count name (spilled_pending turns ss) ≡ 0
+  pub none_spilled : (name : Name) (ss : List Spilled) → IsFresh name (map bag_spilled ss)
+      → count name (spilled_pending turns ss) ≡ 0
   none_spilled name [] fresh = refl
-  none_spilled name (s ∷ ss) fresh = go (nat_le s.desc.name.creator turns) (none_spilled name ss (λ e among. fresh e (inr among)))
+  none_spilled name (s ∷ ss) fresh =
+      go (nat_le s.desc.name.creator turns) (none_spilled name ss (λ e among. fresh e (inr among)))
     where
       go : (b : Bool) → count name (spilled_pending turns ss) ≡ 0
           → count name (cons_option (if b then Some (spilled_as s.desc) else None) (spilled_pending turns ss)) ≡ 0
@@ -176,7 +204,8 @@ module _ (turns : ℕ) where
           by true same = absurd (fresh (bag_spilled s) (inl refl) (named_so name (spilled_as s.desc) same))
           by false other = omega (arith, rest)
 
-  pub spilled_apart : (name : Name) (ss : List Spilled) → NamesDiffer (map bag_spilled ss) → count name (spilled_pending turns ss) ≤ 1
+  pub spilled_apart : (name : Name) (ss : List Spilled) → NamesDiffer (map bag_spilled ss)
+      → count name (spilled_pending turns ss) ≤ 1
   spilled_apart name [] differ = omega arith
   spilled_apart name (s ∷ ss) differ = go (nat_le s.desc.name.creator turns) (spilled_apart name ss differ.1)
     where
@@ -205,9 +234,12 @@ module _ (turns : ℕ) where
       by false other (inr found) = inr (found.0, inr found.1, found.2)
       by false other (inl none) = inl (go (nat_le s.desc.name.creator turns))
         where
-          go : (b : Bool) → count name (cons_option (if b then Some (spilled_as s.desc) else None) (spilled_pending turns ss)) ≡ 0
+          go : (b : Bool)
+              → count name (cons_option (if b then Some (spilled_as s.desc) else None) (spilled_pending turns ss)) ≡ 0
           go false = none
-          go true = ap (λ c. one c + count name (spilled_pending turns ss)) other ∙ zero-add (count name (spilled_pending turns ss)) ∙ none
+          go true =
+              ap (λ c. one c + count name (spilled_pending turns ss)) other
+              ∙ zero-add (count name (spilled_pending turns ss)) ∙ none
 
 -- ---- of a view
 
@@ -229,7 +261,8 @@ module _ (view : View) (least : ℕ) (runs : Bool) (names : AreSound (length vie
           names.distinct i j (bag_task x) (bag_task y) (ap (option_map bag_task) first.0) (ap (option_map bag_task) second.0)
           (ap bag_creator (first.1 ∙ sym second.1))
 
-      other : (e : SpilledBagTask) → In e (bags_spilled view) → e.task.name ≡ name → (id : ℕ) (task : Task) → Made name view.tasks id task → ⊥
+      other : (e : SpilledBagTask) → In e (bags_spilled view) → e.task.name ≡ name → (id : ℕ) (task : Task)
+          → Made name view.tasks id task → ⊥
       other e among same id task made =
           let there : bag_tasks view id ≡ Some (bag_task task) = ap (option_map bag_task) made.0 in
           let by : (bag_task task).creator ≡ bags.Committed name.creator name.index = ap bag_creator made.1 in
@@ -262,43 +295,48 @@ module _ (view : View) (least : ℕ) (runs : Bool) (names : AreSound (length vie
           λ i. Committed (turns i) (places i)
       committed (Live task index) is = absurd (cc (is))
 
-  pub held_is_free : (x : Pending) → Holds (pendings_in view) x → (depth : ℕ) × (p : PendingTask) × Free depth p × (x ≡ pending_at depth p)
-  held_is_free x held = elim (held_either (filter_map pending_queued view.tasks) (spilled_pending (length view.history) (all_spilled view)) x held) [
-    | inl queued ↦
-        let q = held_queued view.tasks x queued in
-        let task = bag_task q.task in (
-          task.depth,
-          bags.pending q.turn q.index task.body task.ts,
-          inl (record {
-            id = q.id;
-            task = task;
-            there = ap (option_map bag_task) q.there;
-            turn = q.turn;
-            index = q.index;
-            creator = ap bag_creator q.creator;
-            depth_is = refl;
-            pending_is = refl;
-          }),
-          q.is,
-        )
-    | inr spilled ↦
-        let s = held_spilled (length view.history) (all_spilled view) x spilled in
-        (s.0.depth, s.0.task, inr (s.1, s.2), s.3)
-  ]
+  pub held_is_free : (x : Pending) → Holds (pendings_in view) x
+      → (depth : ℕ) × (p : PendingTask) × Free depth p × (x ≡ pending_at depth p)
+  held_is_free x held =
+      elim (held_either (filter_map pending_queued view.tasks) (spilled_pending (length view.history) (all_spilled view)) x held) [
+        | inl queued ↦
+            let q = held_queued view.tasks x queued in
+            let task = bag_task q.task in (
+              task.depth,
+              bags.pending q.turn q.index task.body task.ts,
+              inl (record {
+                id = q.id;
+                task = task;
+                there = ap (option_map bag_task) q.there;
+                turn = q.turn;
+                index = q.index;
+                creator = ap bag_creator q.creator;
+                depth_is = refl;
+                pending_is = refl;
+              }),
+              q.is,
+            )
+        | inr spilled ↦
+            let s = held_spilled (length view.history) (all_spilled view) x spilled in
+            (s.0.depth, s.0.task, inr (s.1, s.2), s.3)
+      ]
 
 -- ---- of the serial machine
 
-in_mapped : (depth : ℕ) (tasks : List PendingTask) (p : PendingTask) → In p tasks → Holds (map (pending_at depth) tasks) (pending_at depth p)
+in_mapped : (depth : ℕ) (tasks : List PendingTask) (p : PendingTask) → In p tasks
+    → Holds (map (pending_at depth) tasks) (pending_at depth p)
 in_mapped depth [] p among = absurd among
 in_mapped depth (t ∷ ts) p (inl same) = inl (ap (pending_at depth) (sym same))
 in_mapped depth (t ∷ ts) p (inr among) = inr (in_mapped depth ts p among)
 
-from_mapped : (depth : ℕ) (tasks : List PendingTask) (x : Pending) → Holds (map (pending_at depth) tasks) x → (p : PendingTask) × In p tasks × (x ≡ pending_at depth p)
+from_mapped : (depth : ℕ) (tasks : List PendingTask) (x : Pending) → Holds (map (pending_at depth) tasks) x
+    → (p : PendingTask) × In p tasks × (x ≡ pending_at depth p)
 from_mapped depth [] x held = absurd held
 from_mapped depth (t ∷ ts) x (inl same) = (t, inl refl, sym same)
 from_mapped depth (t ∷ ts) x (inr held) = let found = from_mapped depth ts x held in (found.0, inr found.1, found.2)
 
-pub stands_is_held : (stack : List BagValue) (depth : ℕ) (p : PendingTask) → Stands stack depth p → Holds (all_pending stack) (pending_at depth p)
+pub stands_is_held : (stack : List BagValue) (depth : ℕ) (p : PendingTask) → Stands stack depth p
+    → Holds (all_pending stack) (pending_at depth p)
 stands_is_held [] depth p stands = absurd stands
 stands_is_held (bag ∷ outer) depth p (inl here) =
     held_front (map (pending_at bag.depth) bag.tasks) (all_pending outer) (pending_at depth p)
@@ -306,14 +344,17 @@ stands_is_held (bag ∷ outer) depth p (inl here) =
 stands_is_held (bag ∷ outer) depth p (inr stands) =
     held_back (map (pending_at bag.depth) bag.tasks) (all_pending outer) (pending_at depth p) (stands_is_held outer depth p stands)
 
-pub held_stands : (stack : List BagValue) (x : Pending) → Holds (all_pending stack) x → (depth : ℕ) × (p : PendingTask) × Stands stack depth p × (x ≡ pending_at depth p)
+pub held_stands : (stack : List BagValue) (x : Pending) → Holds (all_pending stack) x
+    → (depth : ℕ) × (p : PendingTask) × Stands stack depth p × (x ≡ pending_at depth p)
 held_stands [] x held = absurd held
-held_stands (bag ∷ outer) x held = elim (held_either (map (pending_at bag.depth) bag.tasks) (all_pending outer) x held) [
-  | inl here ↦ let found = from_mapped bag.depth bag.tasks x here in (bag.depth, found.0, inl (refl, found.1), found.2)
-  | inr there ↦ let found = held_stands outer x there in (found.0, found.1, inr found.2, found.3)
-]
+held_stands (bag ∷ outer) x held =
+    elim (held_either (map (pending_at bag.depth) bag.tasks) (all_pending outer) x held) [
+      | inl here ↦ let found = from_mapped bag.depth bag.tasks x here in (bag.depth, found.0, inl (refl, found.1), found.2)
+      | inr there ↦ let found = held_stands outer x there in (found.0, found.1, inr found.2, found.3)
+    ]
 
-count_mapped : (name : Name) (depth : ℕ) (tasks : List PendingTask) → count name (map (pending_at depth) tasks) ≡ times name tasks
+count_mapped : (name : Name) (depth : ℕ) (tasks : List PendingTask)
+    → count name (map (pending_at depth) tasks) ≡ times name tasks
 count_mapped name depth [] = refl
 count_mapped name depth (t ∷ ts) = ap (λ n. one (named name (pending_at depth t)) + n) (count_mapped name depth ts)
 

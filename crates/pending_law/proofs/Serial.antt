@@ -11,7 +11,8 @@ use Rattle.spec_state.specs.View.{View}
 use Rattle.spec_state.specs.Pendings.{all_pending, pending_before, pendings_in, ArePendings}
 use Rattle.spec_law.specs.Sound.{Sound}
 use Rattle.pending_law.proofs.Counts.{AreApart, count, count-permutation, Holds, permuted, strictly}
-use Rattle.pending_law.proofs.Listed.{count_all, free_is_held, held_is_free, held_stands, pendings_apart, stands_is_held}
+use Rattle.pending_law.proofs.Listed.{count_all, free_is_held, held_is_free, held_stands, pendings_apart}
+use Rattle.pending_law.proofs.Listed.{stands_is_held}
 
 module _ (image : ImageValue) (view : View) (sound : Sound image view) where
   abbrev stack : List Rattle.serial_machine.specs.BagValue.BagValue
@@ -42,7 +43,8 @@ module _ (image : ImageValue) (view : View) (sound : Sound image view) where
       let few = at_most_one (nat_le name.creator sound.serial.count) in
       omega (arith, named, all, few)
 
-  pub pendings_are_serial : (pendings : List Pending) → IsPermutation (pendings_in view) pendings → IsSortedBy pending_before pendings → ArePendings stack pendings
+  pub pendings_are_serial : (pendings : List Pending) → IsPermutation (pendings_in view) pendings
+      → IsSortedBy pending_before pendings → ArePendings stack pendings
   pendings_are_serial pendings moved sorted = record {
     sorted = strictly pendings sorted few;
     held =

@@ -1,12 +1,16 @@
 -- Slots with their ranks, as a task joins or leaves.
-use Rattle.std.proofs.Common.{◌≡◌, ◌≢◌, ◌⊎◌, inl, inr, refl, sym, ap, ◌∙◌, subst, ℕ, ◌+◌, ◌*◌, ◌-◌, ◌^◌, ◌<◌, ◌≤◌, true, false, List, [], ◌∷◌, ◌++◌, length, get_or, set, drop, arith}
+use Rattle.std.proofs.Common.{◌≡◌, ◌≢◌, ◌⊎◌, inl, inr, refl, sym, ap, ◌∙◌, subst, ℕ, ◌+◌, ◌*◌, ◌-◌, ◌^◌, ◌<◌, ◌≤◌, true}
+use Rattle.std.proofs.Common.{false, List, [], ◌∷◌, ◌++◌, length, get_or, set, drop, arith}
 use Rattle.std.specs.List.Sorted.{IsPartitionedBy, IsPartitionPoint}
 use Rattle.std.proofs.lemmas.Bool.{cases_eq, cases_lt}
-use Rattle.std.proofs.lemmas.List.{get_or_default, get_or_past, get_or_push, get_or_append_left, get_or-set_same, get_or-set_other, get_or-take, get_or-drop, length-set, length_push, take-append-drop, append-nil}
+use Rattle.std.proofs.lemmas.List.{get_or_default, get_or_past, get_or_push, get_or_append_left, get_or-set_same}
+use Rattle.std.proofs.lemmas.List.{get_or-set_other, get_or-take, get_or-drop, length-set, length_push}
+use Rattle.std.proofs.lemmas.List.{take-append-drop, append-nil}
 use Rattle.task_desc.specs.declared.desc.Name.{Name}
 use Rattle.pending_list.specs.declared.slot.Slot.{Slot}
 use Rattle.pending_list.specs.Pending.{name_before, AllBefore}
-use Rattle.pending_list.specs.Slots.{present, slot_at, vacant, NamesRise, IsFirstNotBefore, IsPlaceOfName, IsTrimmed, rank_of, AreRanked}
+use Rattle.pending_list.specs.Slots.{present, slot_at, vacant, NamesRise, IsFirstNotBefore, IsPlaceOfName, IsTrimmed}
+use Rattle.pending_list.specs.Slots.{rank_of, AreRanked}
 use Rattle.pending_list.specs.Tournament.{no_rank}
 use Rattle.pending_list.proofs.Before.{before_trans}
 use Rattle.pending_list.proofs.Presents.{present-append, present-All, present-vacant}

@@ -1,5 +1,6 @@
 -- Each operation of the cell keeps the rule.
-use Rattle.std.proofs.Common.{◌≡◌, ◌≢◌, ℕ, zero, suc, ◌^◌, ◌<◌, List, [], ◌∷◌, ◌++◌, All, length, set, ⊎_elim, refl, sym, subst, ◌∙◌, arith}
+use Rattle.std.proofs.Common.{◌≡◌, ◌≢◌, ℕ, zero, suc, ◌^◌, ◌<◌, List, [], ◌∷◌, ◌++◌, All, length, set, ⊎_elim, refl}
+use Rattle.std.proofs.Common.{sym, subst, ◌∙◌, arith}
 use mathlib.Core.Option.{some, some-injective, some-ne-none}
 use lib.ListN.{get_elem?}
 use Rattle.std.proofs.lemmas.List.Elements.{All-nil, All-cons, All-weaker}
@@ -11,10 +12,13 @@ use Rattle.progress_cell.specs.Steps.{PassStores, PassSees, PassConfirms, new_re
 use Rattle.progress_cell.specs.declared.reading.Reading.{Reading}
 use Rattle.progress_cell.specs.declared.view.PassView.{PassView}
 use Rattle.progress_cell.specs.declared.view.PassView.TheVariants.{Writes, Reads, Spent}
-use Rattle.progress_cell.proofs.Places.{IsAtMost-refl, IsAtMost-trans, last_pushed, last_place, NeverFalls-push, StandsIn-longer, StandsIn-last, StandsIn-one, StandsIn-last_seen}
+use Rattle.progress_cell.proofs.Places.{IsAtMost-refl, IsAtMost-trans, last_pushed, last_place, NeverFalls-push}
+use Rattle.progress_cell.proofs.Places.{StandsIn-longer, StandsIn-last, StandsIn-one, StandsIn-last_seen}
 
 -- one pass knows something else, and what the others know fits still
-AllFit-set : (old new : Telling) (before after : List ℕ) (views : List PassView) (pass : ℕ) (w : PassView) → ((other : ℕ) (u : PassView) → other ≢ pass → PassFits old before other u → PassFits new after other u) → PassFits new after pass w → AllFit old before views → AllFit new after (set views pass w)
+AllFit-set : (old new : Telling) (before after : List ℕ) (views : List PassView) (pass : ℕ) (w : PassView)
+    → ((other : ℕ) (u : PassView) → other ≢ pass → PassFits old before other u → PassFits new after other u)
+    → PassFits new after pass w → AllFit old before views → AllFit new after (set views pass w)
 AllFit-set old new before after views pass w others own fit j u at =
     ⊎_elim
     (λ (t : (j ≡ pass) × (w ≡ u)). subst (λ (k : ℕ). PassFits new after k u) (sym t.0) (subst (PassFits new after pass) t.1 own))
@@ -22,16 +26,21 @@ AllFit-set old new before after views pass w others own fit j u at =
     (at_set views pass j w u at)
 
 -- one more pass
-AllFit-push : (telling : Telling) (words : List ℕ) (views : List PassView) (w : PassView) → ((pass : ℕ) → PassFits telling words pass w) → AllFit telling words views → AllFit telling words (views ++ w ∷ [])
+AllFit-push : (telling : Telling) (words : List ℕ) (views : List PassView) (w : PassView)
+    → ((pass : ℕ) → PassFits telling words pass w) → AllFit telling words views → AllFit telling words (views ++ w ∷ [])
 AllFit-push telling words views w fits fit j u at =
     ⊎_elim (λ (was : get_elem? views j ≡ some u). fit j u was) (λ (same : w ≡ u). subst (PassFits telling words j) same (fits j)) (at_snoc views w u j at)
 
 -- what the writer's pass knows is what was told and taken in
-writer_knows : (telling : Telling) (words : List ℕ) (pass : ℕ) (v : PassView) → v ≡ Writes (readings_of v) (joined_of v) → PassFits telling words pass v → (pass ≡ telling.writer) × (readings_of v ≡ telling.told) × (joined_of v ≡ telling.joined)
+writer_knows : (telling : Telling) (words : List ℕ) (pass : ℕ) (v : PassView) → v ≡ Writes (readings_of v) (joined_of v)
+    → PassFits telling words pass v
+    → (pass ≡ telling.writer) × (readings_of v ≡ telling.told) × (joined_of v ≡ telling.joined)
 writer_knows telling words pass v writes fits = subst (PassFits telling words pass) writes fits
 
 -- what a reader's pass knows stands in what was told
-reader_knows : (telling : Telling) (words : List ℕ) (pass : ℕ) (v : PassView) → v ≡ Reads (readings_of v) → PassFits telling words pass v → StandsIn (readings_of v) telling.told × IsAtMost (last_of (readings_of v)) (reading_of words)
+reader_knows : (telling : Telling) (words : List ℕ) (pass : ℕ) (v : PassView) → v ≡ Reads (readings_of v)
+    → PassFits telling words pass v
+    → StandsIn (readings_of v) telling.told × IsAtMost (last_of (readings_of v)) (reading_of words)
 reader_knows telling words pass v reads fits = subst (PassFits telling words pass) reads fits
 
 -- a new board keeps the rule
@@ -49,17 +58,23 @@ opens = record {
 }
   where
     first_fits : AllFit (record { writer = 0; told = opening_reading ∷ []; joined = [] }) (0 ∷ 0 ∷ []) (Writes (opening_reading ∷ []) [] ∷ [])
-    first_fits zero u at = subst (PassFits (record { writer = 0; told = opening_reading ∷ []; joined = [] }) (0 ∷ 0 ∷ []) 0) (some-injective _ _ at) (refl, refl, refl)
+    first_fits zero u at =
+        subst (PassFits (record { writer = 0; told = opening_reading ∷ []; joined = [] }) (0 ∷ 0 ∷ []) 0) (some-injective _ _ at) (refl, refl, refl)
     first_fits (suc j) u at = absurd (some-ne-none u (sym at))
 
 -- the passes beside the writer's fit when it tells a reading that isn't below the words
-others_fit : (old : Telling) (before : List ℕ) (reading : Reading) → IsAtMost (reading_of before) reading → (other : ℕ) (u : PassView) → other ≢ old.writer → PassFits old before other u → PassFits (record old { told = old.told ++ reading ∷ [] }) (reading.commits ∷ reading.output ∷ []) other u
+others_fit : (old : Telling) (before : List ℕ) (reading : Reading) → IsAtMost (reading_of before) reading
+    → (other : ℕ) (u : PassView) → other ≢ old.writer → PassFits old before other u
+    → PassFits (record old { told = old.told ++ reading ∷ [] }) (reading.commits ∷ reading.output ∷ []) other u
 others_fit old before reading above other (Writes told joined) apart fits = absurd (apart fits.0)
-others_fit old before reading above other (Reads seen) apart fits = (StandsIn-longer seen old.told reading fits.0, IsAtMost-trans _ _ _ fits.1 above)
+others_fit old before reading above other (Reads seen) apart fits =
+    (StandsIn-longer seen old.told reading fits.0, IsAtMost-trans _ _ _ fits.1 above)
 others_fit old before reading above other Spent apart fits = tt
 
 -- a store by the writer's pass
-pub stores : (pass : ℕ) (v : PassView) (reading : Reading) → v ≡ Writes (readings_of v) (joined_of v) → reading.commits < 2 ^ 32 → IsAtMost (last_of (readings_of v)) reading → Turns RuleHolds pass v (λ _. reading.commits ∷ reading.output ∷ []) PassStores
+pub stores : (pass : ℕ) (v : PassView) (reading : Reading) → v ≡ Writes (readings_of v) (joined_of v)
+    → reading.commits < 2 ^ 32 → IsAtMost (last_of (readings_of v)) reading
+    → Turns RuleHolds pass v (λ _. reading.commits ∷ reading.output ∷ []) PassStores
 stores pass v reading writes narrow above x views kept at =
     let mine = writer_knows kept.telling x pass v writes (kept.fit pass v at) in
     let old : Telling = kept.telling in
@@ -74,7 +89,8 @@ stores pass v reading writes narrow above x views kept at =
           last = sym (last_pushed old.told reading);
           narrow = narrow;
           never_falls = NeverFalls-push old.told reading kept.told.never_falls over;
-          joined_stand = All-weaker (λ seen. StandsIn seen old.told) (λ seen. StandsIn seen new.told) (λ seen. StandsIn-longer seen old.told reading) old.joined kept.told.joined_stand;
+          joined_stand =
+              All-weaker (λ seen. StandsIn seen old.told) (λ seen. StandsIn seen new.told) (λ seen. StandsIn-longer seen old.told reading) old.joined kept.told.joined_stand;
         };
         fit = AllFit-set old new x (reading.commits ∷ reading.output ∷ []) views pass w
             (λ other u apart. others_fit old x reading (subst (λ r. IsAtMost r reading) (sym kept.told.last) over) other u (λ same. apart (same ∙ sym mine.0)))
@@ -119,7 +135,9 @@ confirms pass v writes x views kept at =
     )
 
 -- one more pass, which knows what fits
-one_more : (x : List ℕ) (views : List PassView) (pass : ℕ) (v w : PassView) → (kept : RuleHolds x views) → get_elem? views pass ≡ some v → ((other : ℕ) → PassFits kept.telling x other w) → RuleHolds x (set views pass v ++ w ∷ [])
+one_more : (x : List ℕ) (views : List PassView) (pass : ℕ) (v w : PassView) → (kept : RuleHolds x views)
+    → get_elem? views pass ≡ some v → ((other : ℕ) → PassFits kept.telling x other w)
+    → RuleHolds x (set views pass v ++ w ∷ [])
 one_more x views pass v w kept at fits =
     subst (λ l. RuleHolds x (l ++ w ∷ [])) (sym (set_again views pass v at)) (record {
       telling = kept.telling;
@@ -161,13 +179,15 @@ leaves pass v reads x views kept at =
     }
 
 -- the passes beside the writer's fit when it takes a reader's in
-others_stay : (old : Telling) (words : List ℕ) (seen : List Reading) (other : ℕ) (u : PassView) → other ≢ old.writer → PassFits old words other u → PassFits (record old { joined = seen ∷ old.joined }) words other u
+others_stay : (old : Telling) (words : List ℕ) (seen : List Reading) (other : ℕ) (u : PassView) → other ≢ old.writer
+    → PassFits old words other u → PassFits (record old { joined = seen ∷ old.joined }) words other u
 others_stay old words seen other (Writes told joined) apart fits = absurd (apart fits.0)
 others_stay old words seen other (Reads readings) apart fits = fits
 others_stay old words seen other Spent apart fits = tt
 
 -- joining a reader's pass to the writer's
-pub joins : (pass : ℕ) (v : PassView) (other : ℕ) (w : PassView) → v ≡ Writes (readings_of v) (joined_of v) → w ≡ Reads (readings_of w) → Merges RuleHolds pass v other w (with_joined v w) Spent
+pub joins : (pass : ℕ) (v : PassView) (other : ℕ) (w : PassView) → v ≡ Writes (readings_of v) (joined_of v)
+    → w ≡ Reads (readings_of w) → Merges RuleHolds pass v other w (with_joined v w) Spent
 joins pass v other w writes reads x views kept at apart there =
     let mine = writer_knows kept.telling x pass v writes (kept.fit pass v at) in
     let old : Telling = kept.telling in

@@ -1,5 +1,6 @@
 -- Hex digits that are written are read again.
-use Rattle.std.proofs.Common.{◌≡◌, ℕ, ◌+◌, ◌-◌, ◌*◌, ◌/◌, ◌%◌, ◌^◌, ◌<◌, ◌≤◌, ◌==◌, nat_lt, nat_le, not, List, [], ◌∷◌, ◌++◌, Some, suc, refl, ap, ◌∙◌, arith, true, false, Bool, if◌then◌else◌}
+use Rattle.std.proofs.Common.{◌≡◌, ℕ, ◌+◌, ◌-◌, ◌*◌, ◌/◌, ◌%◌, ◌^◌, ◌<◌, ◌≤◌, ◌==◌, nat_lt, nat_le, not, List, [], ◌∷◌}
+use Rattle.std.proofs.Common.{◌++◌, Some, suc, refl, ap, ◌∙◌, arith, true, false, Bool, if◌then◌else◌}
 use Rattle.std.specs.List.{flat_map}
 use Rattle.std.proofs.lemmas.Grind.{common_steps}
 use Rattle.std.proofs.lemmas.Bool.Decides.{nat_tests}
@@ -29,7 +30,8 @@ by_range d false is lt = from_ten d (grind (arith, nat_tests, common_steps)) lt
 pub value-digit : (d : ℕ) → d < 16 → hex_value (hex_digit d) ≡ Some d
 value-digit d lt = by_range d (nat_lt d 10) refl lt
 
-number-byte : (read b : ℕ) (ds : List ℕ) → b < 256 → hex_number read (hex_digit (b / 16) ∷ hex_digit (b % 16) ∷ ds) ≡ hex_number (read * 256 + b) ds
+number-byte : (read b : ℕ) (ds : List ℕ) → b < 256
+    → hex_number read (hex_digit (b / 16) ∷ hex_digit (b % 16) ∷ ds) ≡ hex_number (read * 256 + b) ds
 number-byte read b ds lt =
     let high : b / 16 < 16 = omega arith in
     let low : b % 16 < 16 = omega arith in

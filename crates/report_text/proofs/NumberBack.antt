@@ -1,5 +1,7 @@
 -- Decimal numbers that are written are read again, and where a line ends.
-use Rattle.std.proofs.Common.{◌≡◌, ◌≢◌, ℕ, ◌/◌, ◌%◌, ◌<◌, ◌≤◌, ◌^◌, ◌==◌, nat_le, option_map, List, [], ◌∷◌, ◌++◌, length, get_or, Some, None, refl, ap, arith, rules, true, false, Bool, suc, eq-eqb, subst, length-append}
+use Rattle.std.proofs.Common.{◌≡◌, ◌≢◌, ℕ, ◌/◌, ◌%◌, ◌<◌, ◌≤◌, ◌^◌, ◌==◌, nat_le, option_map, List, [], ◌∷◌, ◌++◌}
+use Rattle.std.proofs.Common.{length, get_or, Some, None, refl, ap, arith, rules, true, false, Bool, suc, eq-eqb, subst}
+use Rattle.std.proofs.Common.{length-append}
 use Rattle.std.specs.Fmt.{decimal}
 use Rattle.std.specs.List.{list_all, flat_map}
 use Rattle.std.specs.Char.{is_ascii_digit}
@@ -16,18 +18,22 @@ use Rattle.text_lines.proofs.Proved.{cut_without}
 use Rattle.report_text.proofs.HexBack.{digit-free}
 
 -- a list that has no c is cut off whole before a c
-cut_before : (c : ℕ) (xs rest : List ℕ) → ((k : ℕ) → k < length xs → get_or xs k 0 ≢ c) → cut c (xs ++ c ∷ rest) ≡ Some (xs, rest)
+cut_before : (c : ℕ) (xs rest : List ℕ) → ((k : ℕ) → k < length xs → get_or xs k 0 ≢ c)
+    → cut c (xs ++ c ∷ rest) ≡ Some (xs, rest)
 cut_before c [] rest none = rw (eq-eqb c c refl) refl
 cut_before c (x ∷ xs) rest none =
     let ne : (x == c) ≡ false = search (rules, none 0 (omega arith)) in
     rw ne (ap (option_map (λ p. (x ∷ p.0, p.1))) (cut_before c xs rest (λ k lt. none (suc k) (omega (arith, lt)))))
 
-no_digit : (n c : ℕ) → n < 2 ^ 64 → (IsInRange 48 57 c → ⊥) → (k : ℕ) → k < length (decimal n) → get_or (decimal n) k 0 ≢ c
+no_digit : (n c : ℕ) → n < 2 ^ 64 → (IsInRange 48 57 c → ⊥) → (k : ℕ) → k < length (decimal n)
+    → get_or (decimal n) k 0 ≢ c
 no_digit n c small out k lt = not_in_digits own (decimal n) c (all_digits n small) out k lt
 
 -- and so is a field
-pub field_back : (n c : ℕ) (rest : List ℕ) → n < 2 ^ 32 → (IsInRange 48 57 c → ⊥) → field c (decimal n ++ c ∷ rest) ≡ Some (n, rest)
-field_back n c rest small out = rw (cut_before c (decimal n) rest (no_digit n c (omega (arith, small)) out), number_back n small) refl
+pub field_back : (n c : ℕ) (rest : List ℕ) → n < 2 ^ 32 → (IsInRange 48 57 c → ⊥)
+    → field c (decimal n ++ c ∷ rest) ≡ Some (n, rest)
+field_back n c rest small out =
+    rw (cut_before c (decimal n) rest (no_digit n c (omega (arith, small)) out), number_back n small) refl
 
 pub space : IsInRange 48 57 32 → ⊥
 space h = omega (arith, h)
@@ -39,11 +45,15 @@ dot h = omega (arith, h)
 
 digit_free : (x : ℕ) (b : Bool) → (x == 10) ≡ b → is_ascii_digit x ≡ true → b ≡ false
 digit_free x false is digit = refl
-digit_free x true is digit = let bad : is_ascii_digit 10 ≡ true = subst (λ k. is_ascii_digit k ≡ true) (eqb-true x 10 is) digit in cc
+digit_free x true is digit =
+    let bad : is_ascii_digit 10 ≡ true = subst (λ k. is_ascii_digit k ≡ true) (eqb-true x 10 is) digit in cc
 
 digits_free : (xs : List ℕ) → list_all is_ascii_digit xs ≡ true → IsWithout 10 xs
 digits_free [] h = refl
-digits_free (x ∷ xs) h = let both = and_parts (is_ascii_digit x) _ h in let e : (x == 10) ≡ false = digit_free x (x == 10) refl both.0 in rw (e, digits_free xs both.1) refl
+digits_free (x ∷ xs) h =
+    let both = and_parts (is_ascii_digit x) _ h in
+    let e : (x == 10) ≡ false = digit_free x (x == 10) refl both.0 in
+    rw (e, digits_free xs both.1) refl
 
 pub number_free : (n : ℕ) → n < 2 ^ 32 → IsWithout 10 (decimal n)
 number_free n small = digits_free (decimal n) (all_digits n (omega (arith, small)))

@@ -1,5 +1,6 @@
 -- What stands at a place of a journal, where two windows differ, and how a turn is refused.
-use Rattle.std.proofs.Common.{◌≡◌, ◌≢◌, ℕ, zero, suc, ◌<◌, List, [], ◌∷◌, length, take, get_or, Some, None, Bool, true, false, refl, sym, ap, ◌∙◌, arith, MatchBool}
+use Rattle.std.proofs.Common.{◌≡◌, ◌≢◌, ℕ, zero, suc, ◌<◌, List, [], ◌∷◌, length, take, get_or, Some, None, Bool, true}
+use Rattle.std.proofs.Common.{false, refl, sym, ap, ◌∙◌, arith, MatchBool}
 use Rattle.std.specs.List.{slice_get}
 use Rattle.std.proofs.lemmas.Option.{slice_get-get_or, same_Some}
 use Rattle.std.proofs.Math.Seq.{take-length}
@@ -23,14 +24,16 @@ none-other a h = cc
 -- ---- windows
 
 -- the lists are equal up to the end of the second, and the first goes on
-pub last_other : {X : Type 0} (xs ys : List X) (n : ℕ) → n ≡ length ys → take n xs ≡ take n ys → length xs ≢ n → slice_get xs n ≢ slice_get ys n
+pub last_other : {X : Type 0} (xs ys : List X) (n : ℕ) → n ≡ length ys → take n xs ≡ take n ys → length xs ≢ n
+    → slice_get xs n ≢ slice_get ys n
 last_other [] [] n e same other = absurd (other (sym e))
 last_other [] (y ∷ ys) zero e same other = absurd (omega (arith, e))
 last_other [] (y ∷ ys) (suc n) e same other = cc
 last_other (x ∷ xs) [] zero e same other = λ h. none-other x (sym h)
 last_other (x ∷ xs) [] (suc n) e same other = absurd (omega (arith, e))
 last_other (x ∷ xs) (y ∷ ys) zero e same other = absurd (omega (arith, e))
-last_other (x ∷ xs) (y ∷ ys) (suc n) e same other = last_other xs ys n (omega (arith, e)) (cc) (λ h. other (omega (arith, h)))
+last_other (x ∷ xs) (y ∷ ys) (suc n) e same other =
+    last_other xs ys n (omega (arith, e)) (cc) (λ h. other (omega (arith, h)))
 
 -- the lists are equal up to the end of both
 pub last_same : {X : Type 0} (xs ys : List X) (n : ℕ) → n ≡ length ys → take n xs ≡ take n ys → length xs ≡ n → xs ≡ ys
@@ -42,7 +45,8 @@ last_same xs ys n e same len =
 -- ---- traps
 
 -- a task that traps takes no turn
-pub trap-none : (image : ImageValue) (budget : ℕ) (s : SerialState) (name : Name) (cause pc : ℕ) → TrapsSo image budget s name cause pc → turn image budget s name ≡ None
+pub trap-none : (image : ImageValue) (budget : ℕ) (s : SerialState) (name : Name) (cause pc : ℕ)
+    → TrapsSo image budget s name cause pc → turn image budget s name ≡ None
 unfolding turn
 trap-none image budget s name cause pc h = rw (h.may.top, h.may.found, h.may.least, h.run) refl
 
@@ -60,10 +64,14 @@ to_fault (Done t) = faults.Memory
 
 -- a task that traps is refused so
 pub trap-why : (image : ImageValue) (budget : ℕ) (s : SerialState) (name : Name) (cause pc : ℕ) (fault : TurnFault)
-    → TrapsSo image budget s name cause pc → RefusesTurn image budget s name fault → fault ≢ faults.Memory → fault ≡ faults.Trap cause pc
-trap-why image budget s name cause pc faults.NotPending t h other = absurd (may-why image budget s name faults.NotPending t.bag t.outer t.task t.may h)
-trap-why image budget s name cause pc (faults.NotTop depth) t h other = absurd (may-why image budget s name (faults.NotTop depth) t.bag t.outer t.task t.may h)
-trap-why image budget s name cause pc (faults.NotLeast ts) t h other = absurd (may-why image budget s name (faults.NotLeast ts) t.bag t.outer t.task t.may h)
+    → TrapsSo image budget s name cause pc → RefusesTurn image budget s name fault → fault ≢ faults.Memory
+    → fault ≡ faults.Trap cause pc
+trap-why image budget s name cause pc faults.NotPending t h other =
+    absurd (may-why image budget s name faults.NotPending t.bag t.outer t.task t.may h)
+trap-why image budget s name cause pc (faults.NotTop depth) t h other =
+    absurd (may-why image budget s name (faults.NotTop depth) t.bag t.outer t.task t.may h)
+trap-why image budget s name cause pc (faults.NotLeast ts) t h other =
+    absurd (may-why image budget s name (faults.NotLeast ts) t.bag t.outer t.task t.may h)
 trap-why image budget s name cause pc (faults.Trap c p) t h other =
     let bags : h.bag ≡ t.bag = ap (first-of t.bag) (sym h.may.top ∙ t.may.top) in
     let outers : h.outer ≡ t.outer = ap rest-of (sym h.may.top ∙ t.may.top) in

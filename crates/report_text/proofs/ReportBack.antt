@@ -1,5 +1,7 @@
 -- A report that was written is read back, line by line.
-use Rattle.std.proofs.Common.{◌≡◌, ℕ, ◌+◌, ◌*◌, ◌/◌, ◌%◌, ◌<◌, ◌≤◌, ◌^◌, ◌==◌, nat_le, List, [], ◌∷◌, ◌++◌, length, drop, Some, None, Ok, refl, ap, sym, ◌∙◌, arith, rules, true, false, Bool, append_assoc, append-nil, zero, suc, eq-eqb, codes, subst, map}
+use Rattle.std.proofs.Common.{◌≡◌, ℕ, ◌+◌, ◌*◌, ◌/◌, ◌%◌, ◌<◌, ◌≤◌, ◌^◌, ◌==◌, nat_le, List, [], ◌∷◌, ◌++◌, length}
+use Rattle.std.proofs.Common.{drop, Some, None, Ok, refl, ap, sym, ◌∙◌, arith, rules, true, false, Bool, append_assoc}
+use Rattle.std.proofs.Common.{append-nil, zero, suc, eq-eqb, codes, subst, map}
 use Rattle.std.specs.Fmt.{decimal}
 use Rattle.std.specs.declared.option.Option.{Option}
 use Rattle.std.specs.Char.{is_ascii_digit}
@@ -18,13 +20,17 @@ use Rattle.report_text.specs.declared.report.WindowWord.{WindowWord}
 use Rattle.report_text.specs.Hex.{byte_hex, word_hex, hex_digit, hex_bytes}
 use Rattle.text_lines.specs.Lines.{behind, lines_of, cut}
 use Rattle.text_lines.proofs.Proved.{all_digits, number_back, IsWithout, without_both, cut_without}
-use Rattle.report_text.specs.Grammar.{entry_in, output_in, output_bytes, window_in, trap_in, end_in, onto_journal, onto_window, with_output, entries_at, window_at, report_of}
-use Rattle.report_text.specs.Report.{name_text, entry_line, entry_lines, output_digits, output_line, window_word, window_of, window_line, body_lines, end_line, report}
+use Rattle.report_text.specs.Grammar.{entry_in, output_in, output_bytes, window_in, trap_in, end_in, onto_journal}
+use Rattle.report_text.specs.Grammar.{onto_window, with_output, entries_at, window_at, report_of}
+use Rattle.report_text.specs.Report.{name_text, entry_line, entry_lines, output_digits, output_line, window_word}
+use Rattle.report_text.specs.Report.{window_of, window_line, body_lines, end_line, report}
 use Rattle.report_text.specs.ReadBack.{IsName, EntryFits, TrapFits, EndFits, ReportReadsBack}
 use Rattle.undo_log.specs.Number.{AreBytes}
-use Rattle.report_text.proofs.Steps.{onto_journal_both, onto_journal_none, entry_step, output_step, onto_window_both, onto_window_none, word_step}
+use Rattle.report_text.proofs.Steps.{onto_journal_both, onto_journal_none, entry_step, output_step, onto_window_both}
+use Rattle.report_text.proofs.Steps.{onto_window_none, word_step}
 use Rattle.report_text.proofs.HexBack.{word-back, bytes-back}
-use Rattle.report_text.proofs.NumberBack.{field_back, space, dot, number_free, bytes_free, word_free, lines_on, behind_front, behind_other}
+use Rattle.report_text.proofs.NumberBack.{field_back, space, dot, number_free, bytes_free, word_free, lines_on}
+use Rattle.report_text.proofs.NumberBack.{behind_front, behind_other}
 
 -- ---- entries
 
@@ -36,7 +42,8 @@ entry_line_is : (n : ℕ) (e : Entry) → entry_line (n, e) ≡ entry_text n e +
 unfolding entry_line
 entry_line_is n e = refl
 
-entry_regrouped : (n : ℕ) (e : Entry) → entry_text n e ≡ decimal n ++ 32 ∷ (decimal e.name.creator ++ 46 ∷ (decimal e.name.index ++ 32 ∷ (decimal e.depth ++ 32 ∷ decimal e.ts)))
+entry_regrouped : (n : ℕ) (e : Entry)
+    → entry_text n e ≡ decimal n ++ 32 ∷ (decimal e.name.creator ++ 46 ∷ (decimal e.name.index ++ 32 ∷ (decimal e.depth ++ 32 ∷ decimal e.ts)))
 entry_regrouped n e = simp (append_assoc) refl
 
 entry_back : (n : ℕ) (e : Entry) → n ≤ MAX_ENTRIES → EntryFits e → entry_in n (entry_text n e) ≡ Some e
@@ -67,21 +74,26 @@ entry_free n e small fits =
 -- a digit is no o
 digit_other : (x : ℕ) (b : Bool) → (x == 111) ≡ b → is_ascii_digit x ≡ true → b ≡ false
 digit_other x false is digit = refl
-digit_other x true is digit = let bad : is_ascii_digit 111 ≡ true = subst (λ k. is_ascii_digit k ≡ true) (eqb-true x 111 is) digit in cc
+digit_other x true is digit =
+    let bad : is_ascii_digit 111 ≡ true = subst (λ k. is_ascii_digit k ≡ true) (eqb-true x 111 is) digit in cc
 
 -- a line that begins with a digit has no output
-no_output : (digits rest : List ℕ) → list_all is_ascii_digit digits ≡ true → 0 < length digits → output_in (digits ++ rest) ≡ None
+no_output : (digits rest : List ℕ) → list_all is_ascii_digit digits ≡ true → 0 < length digits
+    → output_in (digits ++ rest) ≡ None
 unfolding output_in
 no_output [] rest all some = absurd (omega (arith, some))
 no_output (x ∷ xs) rest all some =
     rw (behind_other 111 x (codes "utput ") (xs ++ rest) (digit_other x (x == 111) refl (and_parts (is_ascii_digit x) _ all).0)) refl
 
 entry_no_output : (n : ℕ) (e : Entry) → n ≤ MAX_ENTRIES → output_in (entry_text n e) ≡ None
-entry_no_output n e small = ap output_in (entry_regrouped n e) ∙ no_output (decimal n) _ (all_digits n (omega (arith, small))) (decimal_nonempty n (omega (arith, small)))
+entry_no_output n e small =
+    ap output_in (entry_regrouped n e)
+    ∙ no_output (decimal n) _ (all_digits n (omega (arith, small))) (decimal_nonempty n (omega (arith, small)))
 
 entries_back : (n : ℕ) (es : List Entry) (rest : List ℕ) → AllByRecursion EntryFits es → n + length es ≤ MAX_ENTRIES + 1
     → entries_at n (lines_of (flat_map entry_line (enumerate_from n es) ++ rest)) ≡ onto_journal es (entries_at (n + length es) (lines_of rest))
-entries_back n [] rest all few = let e : n + 0 ≡ n = omega arith in rw e (sym (onto_journal_none (entries_at n (lines_of rest))))
+entries_back n [] rest all few =
+    let e : n + 0 ≡ n = omega arith in rw e (sym (onto_journal_none (entries_at n (lines_of rest))))
 entries_back n (e ∷ es) rest all few =
     let more = flat_map entry_line (enumerate_from (n + 1) es) ++ rest in
     let small : n ≤ MAX_ENTRIES = omega (arith, few) in
@@ -98,14 +110,16 @@ entries_back n (e ∷ es) rest all few =
 
 -- ---- the output
 
-two_digits : (x y : ℕ) (digits : List ℕ) (found : Option (List ℕ)) → hex_bytes (x ∷ y ∷ digits) ≡ found → output_bytes (x ∷ y ∷ digits) ≡ found
+two_digits : (x y : ℕ) (digits : List ℕ) (found : Option (List ℕ)) → hex_bytes (x ∷ y ∷ digits) ≡ found
+    → output_bytes (x ∷ y ∷ digits) ≡ found
 two_digits x y digits found is =
     let some : (length (x ∷ y ∷ digits) == 0) ≡ false = grind (arith, nat_tests) in
     rw (and_right (x == 45) false refl, some) is
 
 digits_back : (output : List ℕ) → AreBytes output → output_bytes (output_digits output) ≡ Some output
 digits_back [] all = refl
-digits_back (b ∷ bs) all = two_digits (hex_digit (b / 16)) (hex_digit (b % 16)) (flat_map byte_hex bs) (Some (b ∷ bs)) (bytes-back (b ∷ bs) all)
+digits_back (b ∷ bs) all =
+    two_digits (hex_digit (b / 16)) (hex_digit (b % 16)) (flat_map byte_hex bs) (Some (b ∷ bs)) (bytes-back (b ∷ bs) all)
 
 output_back : (output : List ℕ) → AreBytes output → output_in (codes "output " ++ output_digits output) ≡ Some output
 unfolding output_in
@@ -115,7 +129,8 @@ digits_free : (output : List ℕ) → IsWithout 10 (output_digits output)
 digits_free [] = refl
 digits_free (b ∷ bs) = bytes_free 10 (b ∷ bs) (omega arith)
 
-output_line_back : (n : ℕ) (output rest : List ℕ) → AreBytes output → entries_at n (lines_of (output_line output ++ rest)) ≡ with_output output (window_at (n + 2) (lines_of rest))
+output_line_back : (n : ℕ) (output rest : List ℕ) → AreBytes output
+    → entries_at n (lines_of (output_line output ++ rest)) ≡ with_output output (window_at (n + 2) (lines_of rest))
 unfolding output_line
 output_line_back n output rest all =
     let text = codes "output " ++ output_digits output in
@@ -153,11 +168,13 @@ window_free w =
 
 window_no_end : (w : WindowWord) → end_in (window_text w) ≡ None
 unfolding end_in
-window_no_end w = rw (behind_other 101 119 (codes "nd trap ") (codes "indow " ++ word_hex w.addr ++ codes " " ++ word_hex w.value) refl) refl
+window_no_end w =
+    rw (behind_other 101 119 (codes "nd trap ") (codes "indow " ++ word_hex w.addr ++ codes " " ++ word_hex w.value) refl) refl
 
 words_back : (k : ℕ) (ws : List WindowWord) (rest : List ℕ) → AllByRecursion WordFits ws
     → window_at k (lines_of (flat_map window_line ws ++ rest)) ≡ onto_window ws (window_at (k + length ws) (lines_of rest))
-words_back k [] rest all = let e : k + 0 ≡ k = omega arith in rw e (sym (onto_window_none (window_at k (lines_of rest))))
+words_back k [] rest all =
+    let e : k + 0 ≡ k = omega arith in rw e (sym (onto_window_none (window_at k (lines_of rest))))
 words_back k (w ∷ ws) rest all =
     let more = flat_map window_line ws ++ rest in
     let next : k + 1 + length ws ≡ k + length (w ∷ ws) = omega arith in
@@ -176,7 +193,8 @@ words_back k (w ∷ ws) rest all =
 trap_rest : Name → ℕ → ℕ → List ℕ
 trap_rest name cause pc = decimal cause ++ 32 ∷ (word_hex pc ++ 32 ∷ (decimal name.creator ++ 46 ∷ decimal name.index))
 
-trap_back : (name : Name) (cause pc : ℕ) → TrapFits name cause pc → trap_in (trap_rest name cause pc) ≡ Some (ends.Trap name cause pc)
+trap_back : (name : Name) (cause pc : ℕ) → TrapFits name cause pc
+    → trap_in (trap_rest name cause pc) ≡ Some (ends.Trap name cause pc)
 unfolding trap_in trap_rest
 trap_back name cause pc fits =
     let least : nat_le 1 cause ≡ true = search (rules, fits.least) in
@@ -246,7 +264,8 @@ word_at-fits memory at all =
     let bytes = drop-bytes memory at all in
     omega (arith, bytes 0, bytes 1, bytes 2, bytes 3)
 
-words_fit : (image : ImageValue) (memory : List ℕ) (k n : ℕ) → IsImage image → AreBytes memory → k + n ≤ image.window_words
+words_fit : (image : ImageValue) (memory : List ℕ) (k n : ℕ) → IsImage image → AreBytes memory
+    → k + n ≤ image.window_words
     → AllByRecursion WordFits (map (window_word image memory) (range_with_len k n))
 words_fit image memory k zero h all le = tt
 words_fit image memory k (suc n) h all le = (
@@ -254,7 +273,8 @@ words_fit image memory k (suc n) h all le = (
   words_fit image memory (k + 1) n h all (omega (arith, le)),
 )
 
-window_fits : (image : ImageValue) (memory : List ℕ) → IsImage image → AreBytes memory → AllByRecursion WordFits (window_of image memory)
+window_fits : (image : ImageValue) (memory : List ℕ) → IsImage image → AreBytes memory
+    → AllByRecursion WordFits (window_of image memory)
 unfolding window_of
 window_fits image memory h all = words_fit image memory 0 image.window_words h all (omega arith)
 

@@ -12,7 +12,8 @@ pub record TurnKeeps (s after : SerialState) : Type 0 where
   pub count : after.count ≡ s.count + 1
   pub size : length after.memory ≡ length s.memory
 
-pub turn-keeps : (image : ImageValue) (budget : ℕ) (s after : SerialState) (name : Name) (e : Entry) → turn image budget s name ≡ Some (after, e) → TurnKeeps s after
+pub turn-keeps : (image : ImageValue) (budget : ℕ) (s after : SerialState) (name : Name) (e : Entry)
+    → turn image budget s name ≡ Some (after, e) → TurnKeeps s after
 turn-keeps image budget s after name e is =
     let did = turn-did image budget s after name e is in
     record { count = ap (λ t. t.count) did.state; size = turned-keeps image budget s after name e did }

@@ -1,5 +1,6 @@
 -- What holds of the tasks of each bag, by the kind of its domain, is kept by a turn.
-use Rattle.std.proofs.Common.{◌≡◌, refl, ◌==◌, ℕ, ◌+◌, Bool, true, false, List, [], ◌∷◌, ◌++◌, length, Option, Some, None, if◌then◌else◌}
+use Rattle.std.proofs.Common.{◌≡◌, refl, ◌==◌, ℕ, ◌+◌, Bool, true, false, List, [], ◌∷◌, ◌++◌, length, Option, Some}
+use Rattle.std.proofs.Common.{None, if◌then◌else◌}
 use Rattle.guest_image.specs.declared.image.Kind.{Kind}
 use Rattle.task_desc.specs.declared.desc.Name.{Name}
 use Rattle.task_desc.specs.declared.desc.Spawn.{Spawn}
@@ -22,11 +23,13 @@ module _ (Good : Kind → List PendingTask → Type 0) where
       go false rest = good
 
   good_sub : (depth floor owner : ℕ) (tasks : List PendingTask) (sub : Option Kind) (rest : List BagValue)
-      → ((kind : Kind) → sub ≡ Some kind → Good kind tasks) → AreGood rest → AreGood (sub_bags depth floor owner tasks sub ++ rest)
+      → ((kind : Kind) → sub ≡ Some kind → Good kind tasks) → AreGood rest
+      → AreGood (sub_bags depth floor owner tasks sub ++ rest)
   good_sub depth floor owner tasks None rest inside good = good
   good_sub depth floor owner tasks (Some kind) rest inside good = go (length tasks == 0)
     where
-      go : (b : Bool) → AreGood ((if b then [] else record { depth = depth; kind = kind; floor = floor; owner = owner; tasks = tasks } ∷ []) ++ rest)
+      go : (b : Bool)
+          → AreGood ((if b then [] else record { depth = depth; kind = kind; floor = floor; owner = owner; tasks = tasks } ∷ []) ++ rest)
       go true = good
       go false = (inside kind refl, good)
 
@@ -42,7 +45,8 @@ module _ (Before Good : Kind → List PendingTask → Type 0) (stays : (kind : K
   good_super tasks [] above good = tt
   good_super tasks (bag ∷ outer) above good = (above bag.kind refl bag.tasks good.0, good_stays outer good.1)
 
-  pub good_after : (bag : BagValue) (outer : List BagValue) (name : Name) (n ts : ℕ) (spawns : List Spawn) (sub : Option Kind) → AreGood Before (bag ∷ outer)
+  pub good_after : (bag : BagValue) (outer : List BagValue) (name : Name) (n ts : ℕ) (spawns : List Spawn) (sub : Option Kind)
+      → AreGood Before (bag ∷ outer)
       → Good bag.kind (without_name name bag.tasks ++ children Same n spawns)
       → ((kind : Kind) → sub ≡ Some kind → Good kind (children Sub n spawns))
       → ((kind : Kind) → kind_outside outer ≡ Some kind → (own : List PendingTask) → Before kind own → Good kind (own ++ children Super n spawns))

@@ -1,5 +1,6 @@
 -- Who takes a turn was made by the image or by a turn before it.
-use Rattle.std.proofs.Common.{◌≡◌, refl, ap, subst, ℕ, ◌+◌, ◌≤◌, Bool, true, false, List, [], ◌∷◌, length, All, Some, if◌then◌else◌, arith}
+use Rattle.std.proofs.Common.{◌≡◌, refl, ap, subst, ℕ, ◌+◌, ◌≤◌, Bool, true, false, List, [], ◌∷◌, length, All, Some}
+use Rattle.std.proofs.Common.{if◌then◌else◌, arith}
 use Rattle.std.specs.List.{AllByRecursion}
 use Rattle.std.proofs.lemmas.Bool.Decides.{nat_tests}
 use Rattle.std.proofs.lemmas.Grind.{common_steps}
@@ -18,10 +19,12 @@ use Rattle.resume_image.proofs.Bags.{AreGood, good_inner}
 use Rattle.resume_image.proofs.Rising.{AreOld, IsOld}
 use Rattle.resume_image.proofs.Standing.{Stands, opening_stands, turn_stands}
 
-found_old : (count : ℕ) (kind : Kind) (name : Name) (tasks : List PendingTask) (t : PendingTask) → find_named name tasks ≡ Some t
+found_old : (count : ℕ) (kind : Kind) (name : Name) (tasks : List PendingTask) (t : PendingTask)
+    → find_named name tasks ≡ Some t
     → AllByRecursion (IsOld count kind) tasks → name.creator ≤ count
 found_old count kind name [] t found each = absurd (none-some _ found)
-found_old count kind name (u ∷ us) t found each = go (is_named name u) refl found (λ later. found_old count kind name us t later each.1)
+found_old count kind name (u ∷ us) t found each =
+    go (is_named name u) refl found (λ later. found_old count kind name us t later each.1)
   where
     go : (b : Bool) → is_named name u ≡ b → (if b then Some u else find_named name us) ≡ Some t
         → (find_named name us ≡ Some t → name.creator ≤ count) → name.creator ≤ count
@@ -31,12 +34,14 @@ found_old count kind name (u ∷ us) t found each = go (is_named name u) refl fo
         omega (arith, creator, old)
     go false is at rest = rest at
 
-turn_old : (image : ImageValue) (budget : ℕ) (s after : SerialState) (e : Entry) → Stands image s → Turned image budget s after e.name e → e.name.creator ≤ s.count
+turn_old : (image : ImageValue) (budget : ℕ) (s after : SerialState) (e : Entry) → Stands image s
+    → Turned image budget s after e.name e → e.name.creator ≤ s.count
 turn_old image budget s after e stands did =
     let old : AreGood (AreOld s.count) (did.bag ∷ did.outer) = subst (AreGood (AreOld s.count)) did.may.top (good_inner (AreOld s.count) s.stack stands.old) in
     found_old s.count did.bag.kind e.name did.bag.tasks did.task did.may.found old.0.each
 
-runs_old : (image : ImageValue) (budget : ℕ) (s : SerialState) (es : List Entry) (last : SerialState) (most : ℕ) → s.count + length es ≤ most → Stands image s
+runs_old : (image : ImageValue) (budget : ℕ) (s : SerialState) (es : List Entry) (last : SerialState) (most : ℕ)
+    → s.count + length es ≤ most → Stands image s
     → Runs image budget s es last → AllByRecursion (λ (e : Entry). e.name.creator ≤ most) es
 runs_old image budget s [] last most fits stands run = tt
 runs_old image budget s (e ∷ es) last most fits stands (mid, turned, rest) =
@@ -46,7 +51,8 @@ runs_old image budget s (e ∷ es) last most fits stands (mid, turned, rest) =
       runs_old image budget mid es last most (omega (arith, count, fits)) (turn_stands image budget s mid e.name e did stands) rest,
     )
 
-pub creators_are_turns : (image : ImageValue) → (budget : ℕ) → (journal : List Entry) → (state : SerialState) → IsRun image budget journal state
+pub creators_are_turns : (image : ImageValue) → (budget : ℕ) → (journal : List Entry) → (state : SerialState)
+    → IsRun image budget journal state
     → All (λ (e : Entry). e.name.creator ≤ length journal) journal
 creators_are_turns image budget journal state run =
     All-from_recursion (λ (e : Entry). e.name.creator ≤ length journal) journal

@@ -1,5 +1,6 @@
 -- A run of a saved image is a run of the first image from where that stopped, under shifted names.
-use Rattle.std.proofs.Common.{◌≡◌, ◌≢◌, refl, sym, ap, ◌∙◌, subst, ℕ, ◌+◌, Bool, true, false, not, List, [], ◌∷◌, ◌++◌, map, Option, Some, option_map, if◌then◌else◌, arith}
+use Rattle.std.proofs.Common.{◌≡◌, ◌≢◌, refl, sym, ap, ◌∙◌, subst, ℕ, ◌+◌, Bool, true, false, not, List, [], ◌∷◌, ◌++◌}
+use Rattle.std.proofs.Common.{map, Option, Some, option_map, if◌then◌else◌, arith}
 use Rattle.std.proofs.lemmas.Bool.Decides.{nat_tests}
 use Rattle.std.proofs.lemmas.Grind.{common_steps}
 use Rattle.std.proofs.lemmas.List.{append_assoc}
@@ -18,20 +19,24 @@ use Rattle.serial_machine.specs.BagValue.{BagValue}
 use Rattle.serial_machine.specs.State.{SerialState}
 use Rattle.serial_machine.specs.TaskRun.{Done, task_run}
 use Rattle.serial_machine.specs.Run.{Runs}
-use Rattle.serial_machine.specs.Turn.{child, children, context_in_bag, find_named, inner, is_for, is_named, run_in_bag, stack_after, sub_bags, turn, with_super, without_name, MayTurn}
+use Rattle.serial_machine.specs.Turn.{child, children, context_in_bag, find_named, inner, is_for, is_named, run_in_bag}
+use Rattle.serial_machine.specs.Turn.{stack_after, sub_bags, turn, with_super, without_name, MayTurn}
 use Rattle.serial_machine.proofs.Proved.{turn-done}
 use Rattle.run_law.proofs.Proved.{turn-did, Turned}
 use Rattle.resume_image.specs.Joined.{shifted_name, shifted_entry}
 use Rattle.resume_image.proofs.Names.{AreSaved, IsKnown, Know}
 use Rattle.resume_image.proofs.Bags.{AreGood, good_after, good_inner}
 use Rattle.resume_image.proofs.Same.{other, same_run}
-use Rattle.resume_image.proofs.Shifted.{AreShifted, IsShifted, after_shifted, context_shifted, find_shifted, inner_shifted, least_shifted, shifted_task}
+use Rattle.resume_image.proofs.Shifted.{AreShifted, IsShifted, after_shifted, context_shifted, find_shifted}
+use Rattle.resume_image.proofs.Shifted.{inner_shifted, least_shifted, shifted_task}
 
 -- a name under which a task is found is known where all names are
-known_found : (pendings : List Pending) (name : Name) (tasks : List PendingTask) (t : PendingTask) → find_named name tasks ≡ Some t
+known_found : (pendings : List Pending) (name : Name) (tasks : List PendingTask) (t : PendingTask)
+    → find_named name tasks ≡ Some t
     → Know pendings tasks → IsKnown pendings name
 known_found pendings name [] t found each = absurd (none-some _ found)
-known_found pendings name (u ∷ us) t found each = go (is_named name u) refl found (λ later. known_found pendings name us t later each.1)
+known_found pendings name (u ∷ us) t found each =
+    go (is_named name u) refl found (λ later. known_found pendings name us t later each.1)
   where
     go : (b : Bool) → is_named name u ≡ b → (if b then Some u else find_named name us) ≡ Some t
         → (find_named name us ≡ Some t → IsKnown pendings name) → IsKnown pendings name
@@ -42,15 +47,18 @@ known_found pendings name (u ∷ us) t found each = go (is_named name u) refl fo
         omega (arith, index, inside)
     go false is at rest first = rest at first
 
-known_without : (pendings : List Pending) (name : Name) (tasks : List PendingTask) → Know pendings tasks → Know pendings (without_name name tasks)
+known_without : (pendings : List Pending) (name : Name) (tasks : List PendingTask) → Know pendings tasks
+    → Know pendings (without_name name tasks)
 known_without pendings name [] each = tt
 known_without pendings name (t ∷ ts) each = go (is_named name t) (known_without pendings name ts each.1)
   where
-    go : (b : Bool) → Know pendings (without_name name ts) → Know pendings (if not b then t ∷ without_name name ts else without_name name ts)
+    go : (b : Bool) → Know pendings (without_name name ts)
+        → Know pendings (if not b then t ∷ without_name name ts else without_name name ts)
     go true rest = rest
     go false rest = (each.0, rest)
 
-known_more : (pendings : List Pending) (tasks more : List PendingTask) → Know pendings tasks → Know pendings more → Know pendings (tasks ++ more)
+known_more : (pendings : List Pending) (tasks more : List PendingTask) → Know pendings tasks → Know pendings more
+    → Know pendings (tasks ++ more)
 known_more pendings [] more first second = second
 known_more pendings (t ∷ ts) more first second = (first.0, known_more pendings ts more first.1 second)
 
@@ -58,7 +66,8 @@ known_map : (pendings : List Pending) (n : ℕ) (es : List (ℕ × Spawn)) → n
 known_map pendings n [] some = tt
 known_map pendings n (e ∷ es) some = (λ none. absurd (some none), known_map pendings n es some)
 
-known_children : (pendings : List Pending) (place : Place) (n : ℕ) (spawns : List Spawn) → n ≢ 0 → Know pendings (children place n spawns)
+known_children : (pendings : List Pending) (place : Place) (n : ℕ) (spawns : List Spawn) → n ≢ 0
+    → Know pendings (children place n spawns)
 unfolding children
 known_children pendings place n spawns some = known_map pendings n _ some
 
@@ -105,8 +114,10 @@ module _ (image : ImageValue) (budget : ℕ) (initial : List ℕ) (tasks : List 
       some : second.count + 1 ≢ 0
       some none = absurd (omega (arith, none))
 
-      taken : (bag : BagValue) (outer : List BagValue) → inner first.stack ≡ bag ∷ outer → IsShifted turns pendings bag did.bag
-          → AreShifted turns pendings outer did.outer → MayTurn first.stack (shifted_name turns pendings e.name) bag outer (shifted_task turns pendings did.task)
+      taken : (bag : BagValue) (outer : List BagValue) → inner first.stack ≡ bag ∷ outer
+          → IsShifted turns pendings bag did.bag
+          → AreShifted turns pendings outer did.outer
+          → MayTurn first.stack (shifted_name turns pendings e.name) bag outer (shifted_task turns pendings did.task)
       taken bag outer top one rest = record {
         top = top;
         found =
@@ -119,7 +130,8 @@ module _ (image : ImageValue) (budget : ℕ) (initial : List ℕ) (tasks : List 
             ∙ did.may.least;
       }
 
-      ran : (bag : BagValue) (outer : List BagValue) → IsShifted turns pendings bag did.bag → AreShifted turns pendings outer did.outer
+      ran : (bag : BagValue) (outer : List BagValue) → IsShifted turns pendings bag did.bag
+          → AreShifted turns pendings outer did.outer
           → run_in_bag image budget first bag outer (shifted_task turns pendings did.task) ≡ Done did.done
       ran bag outer one rest =
           ap (λ ctx. task_run image budget ctx did.task.entry did.task.args first.memory) (context_shifted turns pendings image.version bag did.bag outer did.outer did.task one rest)
@@ -127,11 +139,13 @@ module _ (image : ImageValue) (budget : ℕ) (initial : List ℕ) (tasks : List 
           ∙ sym (same_run image initial tasks budget (context_in_bag image.version did.bag did.outer did.task) did.task.entry did.task.args second.memory)
           ∙ did.run
 
-      at : (stack : List BagValue) → inner first.stack ≡ stack → AreShifted turns pendings stack (did.bag ∷ did.outer) → Turns first mid e
+      at : (stack : List BagValue) → inner first.stack ≡ stack → AreShifted turns pendings stack (did.bag ∷ did.outer)
+          → Turns first mid e
       at [] top h = absurd h
       at (bag ∷ outer) top (one, rest) = record {
         after = record {
-          stack = stack_after bag outer (shifted_name turns pendings e.name) (first.count + 1) did.task.ts did.done.spawns did.done.sub;
+          stack =
+              stack_after bag outer (shifted_name turns pendings e.name) (first.count + 1) did.task.ts did.done.spawns did.done.sub;
           memory = did.done.memory;
           output = first.output ++ did.done.bytes;
           count = first.count + 1;
@@ -141,7 +155,8 @@ module _ (image : ImageValue) (budget : ℕ) (initial : List ℕ) (tasks : List 
             (taken bag outer top one rest) (ran bag outer one rest)
             ∙ ap (λ entry. Some (
               record {
-                stack = stack_after bag outer (shifted_name turns pendings e.name) (first.count + 1) did.task.ts did.done.spawns did.done.sub;
+                stack =
+                    stack_after bag outer (shifted_name turns pendings e.name) (first.count + 1) did.task.ts did.done.spawns did.done.sub;
                 memory = did.done.memory;
                 output = first.output ++ did.done.bytes;
                 count = first.count + 1;
@@ -149,7 +164,8 @@ module _ (image : ImageValue) (budget : ℕ) (initial : List ℕ) (tasks : List 
               entry,
             )) (told bag one);
         follows = subst (Follows turns front pendings (record {
-          stack = stack_after bag outer (shifted_name turns pendings e.name) (first.count + 1) did.task.ts did.done.spawns did.done.sub;
+          stack =
+              stack_after bag outer (shifted_name turns pendings e.name) (first.count + 1) did.task.ts did.done.spawns did.done.sub;
           memory = did.done.memory;
           output = first.output ++ did.done.bytes;
           count = first.count + 1;
@@ -158,7 +174,8 @@ module _ (image : ImageValue) (budget : ℕ) (initial : List ℕ) (tasks : List 
           memory = refl;
           output = ap (λ bytes. bytes ++ did.done.bytes) same.output ∙ append_assoc front second.output did.done.bytes;
           count = omega (arith, same.count);
-          known = known_after pendings did.bag did.outer e.name (second.count + 1) did.task.ts did.done.spawns did.done.sub some known;
+          known =
+              known_after pendings did.bag did.outer e.name (second.count + 1) did.task.ts did.done.spawns did.done.sub some known;
         });
       }
         where
@@ -168,7 +185,8 @@ module _ (image : ImageValue) (budget : ℕ) (initial : List ℕ) (tasks : List 
               ap (λ (x : BagValue). record { name = shifted_name turns pendings e.name; depth = x.depth; ts = did.task.ts }) one
               ∙ ap (λ (x : Entry). record x { name = shifted_name turns pendings e.name }) (sym did.told)
 
-          stacks : (bag : BagValue) (outer : List BagValue) → IsShifted turns pendings bag did.bag → AreShifted turns pendings outer did.outer
+          stacks : (bag : BagValue) (outer : List BagValue) → IsShifted turns pendings bag did.bag
+              → AreShifted turns pendings outer did.outer
               → AreShifted turns pendings
               (stack_after bag outer (shifted_name turns pendings e.name) (first.count + 1) did.task.ts did.done.spawns did.done.sub)
               (stack_after did.bag did.outer e.name (second.count + 1) did.task.ts did.done.spawns did.done.sub)
@@ -186,9 +204,11 @@ module _ (image : ImageValue) (budget : ℕ) (initial : List ℕ) (tasks : List 
     pub runs : Runs image budget first (map (shifted_entry turns pendings) es) after
     pub follows : Follows turns front pendings after last
 
-  pub runs_followed : (first second : SerialState) (es : List Entry) (last : SerialState) → Follows turns front pendings first second
+  pub runs_followed : (first second : SerialState) (es : List Entry) (last : SerialState)
+      → Follows turns front pendings first second
       → Runs (other image initial tasks) budget second es last → RunsOn first es last
-  runs_followed first second [] last same done = record { after = first; runs = refl; follows = subst (Follows turns front pendings first) done same }
+  runs_followed first second [] last same done =
+      record { after = first; runs = refl; follows = subst (Follows turns front pendings first) done same }
   runs_followed first second (e ∷ es) last same (mid, turned, rest) =
       let one = turn_followed first second mid e same (turn-did (other image initial tasks) budget second mid e.name e turned) in
       let more = runs_followed one.after mid es last one.follows rest in

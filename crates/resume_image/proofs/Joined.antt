@@ -1,5 +1,6 @@
 -- A run and one that went on from its saved image are one run.
-use Rattle.std.proofs.Common.{◌≡◌, refl, sym, ap, ◌∙◌, subst, ℕ, ◌<◌, ◌||◌, Bool, true, false, List, [], ◌∷◌, ◌++◌, length, map, All}
+use Rattle.std.proofs.Common.{◌≡◌, refl, sym, ap, ◌∙◌, subst, ℕ, ◌<◌, ◌||◌, Bool, true, false, List, [], ◌∷◌, ◌++◌}
+use Rattle.std.proofs.Common.{length, map, All}
 use Rattle.std.proofs.lemmas.Bool.{or_left, or_right}
 use Rattle.std.specs.List.{list_any}
 use Rattle.guest_image.specs.ImageValue.{ImageValue, IsImage}
@@ -20,10 +21,12 @@ use Rattle.resume_image.proofs.Opened.{saved_opens}
 use Rattle.resume_image.proofs.Shifted.{AreShifted, shifted_task}
 use Rattle.task_law.proofs.Proved.{named_same, same_named}
 
-runs_more : (image : ImageValue) (budget : ℕ) (es more : List Entry) (s mid after : SerialState) → Runs image budget s es mid → Runs image budget mid more after
+runs_more : (image : ImageValue) (budget : ℕ) (es more : List Entry) (s mid after : SerialState)
+    → Runs image budget s es mid → Runs image budget mid more after
     → Runs image budget s (es ++ more) after
 runs_more image budget [] more s mid after done on = subst (λ st. Runs image budget st more after) (sym done) on
-runs_more image budget (e ∷ es) more s mid after (next, turned, rest) on = (next, turned, runs_more image budget es more next mid after rest on)
+runs_more image budget (e ∷ es) more s mid after (next, turned, rest) on =
+    (next, turned, runs_more image budget es more next mid after rest on)
 
 module _ (turns : ℕ) (pendings : List Pending) where
   -- a name that pends in the second state, and its shifted name
@@ -34,7 +37,8 @@ module _ (turns : ℕ) (pendings : List Pending) where
   either true b is P one other = one refl
   either false b is P one other = other is
 
-  bag_back : (name : Name) (ts : List PendingTask) → list_any (is_named name) (map (shifted_task turns pendings) ts) ≡ true
+  bag_back : (name : Name) (ts : List PendingTask)
+      → list_any (is_named name) (map (shifted_task turns pendings) ts) ≡ true
       → Pends (λ own. list_any (is_named own) ts) name
   bag_back name [] is = absurd (cc (is))
   bag_back name (t ∷ ts) is =
@@ -53,7 +57,8 @@ module _ (turns : ℕ) (pendings : List Pending) where
       (λ here. or_left _ _ (same_named (shifted_name turns pendings own) (shifted_task turns pendings t) (ap (shifted_name turns pendings) (named_same own t here))))
       (λ there. or_right (is_named (shifted_name turns pendings own) (shifted_task turns pendings t)) _ (bag_there own ts there))
 
-  stack_back : (name : Name) (xs ys : List BagValue) → AreShifted turns pendings xs ys → is_pending name xs ≡ true → Pends (λ own. is_pending own ys) name
+  stack_back : (name : Name) (xs ys : List BagValue) → AreShifted turns pendings xs ys → is_pending name xs ≡ true
+      → Pends (λ own. is_pending own ys) name
   stack_back name [] [] same is = absurd (cc (is))
   stack_back name [] (y ∷ ys) same is = absurd same
   stack_back name (x ∷ xs) [] same is = absurd same
@@ -74,7 +79,8 @@ module _ (turns : ℕ) (pendings : List Pending) where
       (λ here. or_left _ _ (ap (λ (b : BagValue). list_any (is_named (shifted_name turns pendings own)) b.tasks) same.0 ∙ bag_there own y.tasks here))
       (λ there. or_right (list_any (is_named (shifted_name turns pendings own)) x.tasks) _ (stack_there own xs ys same.1 there))
 
-pub runs_join : (image : ImageValue) → IsImage image → (budget : ℕ) → (one two : List Entry) → (memory output : List ℕ) → (pendings : List Pending)
+pub runs_join : (image : ImageValue) → IsImage image → (budget : ℕ) → (one two : List Entry) → (memory output : List ℕ)
+    → (pendings : List Pending)
     → RunLeaves image budget one memory output pendings → 0 < length pendings
     → All (λ (p : Pending). p.depth ≡ 1) pendings
     → (second : SerialState) → IsRun (saved_image image memory pendings) budget two second
@@ -85,7 +91,8 @@ runs_join image within budget one two memory output pendings left some root seco
     left.state (opening (saved_image image memory pendings)) two second opened.follows run in
     record {
       state = on.after;
-      run = runs_more image budget one (map (shifted_entry (length one) pendings) two) (opening image) left.state on.after left.run on.runs;
+      run =
+          runs_more image budget one (map (shifted_entry (length one) pendings) two) (opening image) left.state on.after left.run on.runs;
       memory_is = on.follows.memory;
       output_is = on.follows.output;
       pending = λ name. (

@@ -1,5 +1,6 @@
 -- Names that a run of a saved image can have are told apart by their shifted names.
-use Rattle.std.proofs.Common.{◌≡◌, ◌≢◌, refl, ap, ◌∙◌, ℕ, [], ◌+◌, ◌<◌, ◌≤◌, ◌==◌, ◌&&◌, Bool, true, false, List, length, map, slice_index_or, get_or, All, AllPairs, if◌then◌else◌, inl, inr, arith}
+use Rattle.std.proofs.Common.{◌≡◌, ◌≢◌, refl, ap, ◌∙◌, ℕ, [], ◌+◌, ◌<◌, ◌≤◌, ◌==◌, ◌&&◌, Bool, true, false, List}
+use Rattle.std.proofs.Common.{length, map, slice_index_or, get_or, All, AllPairs, if◌then◌else◌, inl, inr, arith}
 use Rattle.std.specs.List.{AllByRecursion}
 use Rattle.std.proofs.lemmas.Bool.{cases_eq, cases_lt}
 use Rattle.std.proofs.lemmas.Bool.Decides.{nat_tests}
@@ -50,7 +51,8 @@ module _ (turns : ℕ) (pendings : List Pending) (saved : AreSaved turns pending
   abbrev stands_at : ℕ → Name
   stands_at k = (get_or pendings k some_task).name
 
-  stands : (k : ℕ) (d : Name) → k < length pendings → slice_index_or (map (λ (p : Pending). p.name) pendings) k d ≡ stands_at k
+  stands : (k : ℕ) (d : Name) → k < length pendings
+      → slice_index_or (map (λ (p : Pending). p.name) pendings) k d ≡ stands_at k
   stands k d inside = get_or-map (λ (p : Pending). p.name) pendings k some_task d inside
 
   -- two places are told apart by the names there
@@ -61,7 +63,8 @@ module _ (turns : ℕ) (pendings : List Pending) (saved : AreSaved turns pending
         one ∙ grind (arith, nat_tests, common_steps)
     | inr differ ↦ elim (cases_lt i j) [
       | inl before ↦
-          apart (stands_at i) (stands_at j) (saved.sorted i j some_task before second) ∙ grind (arith, nat_tests, common_steps)
+          apart (stands_at i) (stands_at j) (saved.sorted i j some_task before second)
+          ∙ grind (arith, nat_tests, common_steps)
       | inr after ↦
           turned (stands_at j) (stands_at i)
           ∙ apart (stands_at j) (stands_at i) (saved.sorted j i some_task (omega (arith, differ)) first)
@@ -70,7 +73,8 @@ module _ (turns : ℕ) (pendings : List Pending) (saved : AreSaved turns pending
   ]
 
   -- a pending task is told apart from each child of the run that goes on, which was made later
-  place_child : (i c k : ℕ) → i < length pendings → c ≢ 0 → is_one (stands_at i) (record { creator = turns + c; index = k }) ≡ false
+  place_child : (i c k : ℕ) → i < length pendings → c ≢ 0
+      → is_one (stands_at i) (record { creator = turns + c; index = k }) ≡ false
   place_child i c k inside some =
       let made : (stands_at i).creator ≤ turns = saved.made i some_task inside in
       grind (arith, nat_tests, common_steps)

@@ -1,5 +1,7 @@
 -- A saved image opens where the first run stopped.
-use Rattle.std.proofs.Common.{◌≡◌, ◌≢◌, refl, sym, ap, ◌∙◌, subst, ℕ, ◌+◌, ◌-◌, ◌≤◌, ◌<◌, ◌==◌, Bool, true, false, List, [], ◌∷◌, ◌++◌, length, map, slice_index_or, replicate, All, if◌then◌else◌, inl, inr, arith}
+use Rattle.std.proofs.Common.{◌≡◌, ◌≢◌, refl, sym, ap, ◌∙◌, subst, ℕ, ◌+◌, ◌-◌, ◌≤◌, ◌<◌, ◌==◌, Bool, true, false, List}
+use Rattle.std.proofs.Common.{[], ◌∷◌, ◌++◌, length, map, slice_index_or, replicate, All, if◌then◌else◌, inl, inr}
+use Rattle.std.proofs.Common.{arith}
 use Rattle.std.specs.List.{AllByRecursion, enumerate_from}
 use Rattle.std.proofs.lemmas.Bool.Decides.{nat_tests}
 use Rattle.std.proofs.lemmas.Grind.{common_steps}
@@ -43,7 +45,8 @@ pending_inner (bag ∷ outer) = go (length bag.tasks == 0) refl (pending_inner o
     go false is rest = refl
 
 -- the first bag that `inner` leaves isn't empty
-inner_some : (stack : List BagValue) (bag : BagValue) (outer : List BagValue) → inner stack ≡ bag ∷ outer → length bag.tasks ≢ 0
+inner_some : (stack : List BagValue) (bag : BagValue) (outer : List BagValue) → inner stack ≡ bag ∷ outer
+    → length bag.tasks ≢ 0
 inner_some [] bag outer top = absurd (cc (top))
 inner_some (b ∷ bs) bag outer top = go (length b.tasks == 0) refl top (inner_some bs bag outer)
   where
@@ -58,7 +61,8 @@ inner_some (b ∷ bs) bag outer top = go (length b.tasks == 0) refl top (inner_s
         absurd (cc (is, no_way)))
 
 -- the tasks of a bag of the root domain are in the order of their names
-all_behind : (t : PendingTask) (ts : List PendingTask) → AllBehind t ts → AllByRecursion (IsBefore (pending_at 1 t)) (map (pending_at 1) ts)
+all_behind : (t : PendingTask) (ts : List PendingTask) → AllBehind t ts
+    → AllByRecursion (IsBefore (pending_at 1 t)) (map (pending_at 1) ts)
 all_behind t [] each = tt
 all_behind t (u ∷ us) each = (each.0, all_behind t us each.1)
 
@@ -78,13 +82,15 @@ pub record IsOne (image : ImageValue) (count : ℕ) (stack : List BagValue) (pen
 
 module _ (image : ImageValue) (s : SerialState) (stands : Stands image s) (pendings : List Pending) (are : ArePendings s.stack pendings)
     (some : 0 < length pendings) (root : All (λ (p : Pending). p.depth ≡ 1) pendings) where
-  held_at_one : (p : Pending) (ps : List Pending) → AllByRecursion (λ (q : Pending). q.depth ≡ 1) ps → Holds ps p → p.depth ≡ 1
+  held_at_one : (p : Pending) (ps : List Pending) → AllByRecursion (λ (q : Pending). q.depth ≡ 1) ps → Holds ps p
+      → p.depth ≡ 1
   held_at_one p [] each held = absurd held
   held_at_one p (q ∷ qs) each (inl same) = ap (λ (x : Pending). x.depth) (sym same) ∙ each.0
   held_at_one p (q ∷ qs) each (inr held) = held_at_one p qs each.1 held
 
   to_stack : (p : Pending) → Holds pendings p → Holds (all_pending (inner s.stack)) p
-  to_stack p held = subst (λ ps. Holds ps p) (sym (pending_inner s.stack)) (holds_permuted pendings (all_pending s.stack) p are.held held)
+  to_stack p held =
+      subst (λ ps. Holds ps p) (sym (pending_inner s.stack)) (holds_permuted pendings (all_pending s.stack) p are.held held)
 
   from_stack : (p : Pending) → Holds (all_pending (inner s.stack)) p → Holds pendings p
   from_stack p held =
@@ -109,7 +115,8 @@ module _ (image : ImageValue) (s : SerialState) (stands : Stands image s) (pendi
   is_one = at (inner s.stack) refl
     where
       each_one : (p : Pending) → Holds (all_pending (inner s.stack)) p → p.depth ≡ 1
-      each_one p held = held_at_one p pendings (recursion_from_All (λ (q : Pending). q.depth ≡ 1) pendings root) (from_stack p held)
+      each_one p held =
+          held_at_one p pendings (recursion_from_All (λ (q : Pending). q.depth ≡ 1) pendings root) (from_stack p held)
 
       at : (stack : List BagValue) → inner s.stack ≡ stack → IsOne image s.count s.stack pendings
       at [] top =
@@ -124,7 +131,8 @@ module _ (image : ImageValue) (s : SerialState) (stands : Stands image s) (pendi
           let rooted : IsRooted image.kind (bag ∷ []) = subst (IsRooted image.kind) whole (rooted_inner image.kind s.stack stands.root) in
           let old : AreGood (AreOld s.count) (bag ∷ []) = subst (AreGood (AreOld s.count)) whole (good_inner (AreOld s.count) s.stack stands.old) in
           let tasks : all_pending (inner s.stack) ≡ map (pending_at 1) bag.tasks =
-          ap all_pending whole ∙ append-nil (map (pending_at bag.depth) bag.tasks) ∙ ap (λ d. map (pending_at d) bag.tasks) depth in
+          ap all_pending whole ∙ append-nil (map (pending_at bag.depth) bag.tasks)
+          ∙ ap (λ d. map (pending_at d) bag.tasks) depth in
           record {
             bag = bag;
             top = whole;
@@ -144,7 +152,8 @@ name_here : (front : List Pending) (p : Pending) (rest : List Pending) (d : Name
 name_here [] p rest d = refl
 name_here (q ∷ front) p rest d = name_here front p rest d
 
-tasks_back : (turns count : ℕ) (kind : Kind) (pendings front : List Pending) (ts : List PendingTask) → pendings ≡ front ++ map (pending_at 1) ts
+tasks_back : (turns count : ℕ) (kind : Kind) (pendings front : List Pending) (ts : List PendingTask)
+    → pendings ≡ front ++ map (pending_at 1) ts
     → AllByRecursion (IsOld count kind) ts
     → ts ≡ map (shifted_task turns pendings) (map (image_task kind) (enumerate_from (length front) (map saved_task (map (pending_at 1) ts))))
 tasks_back turns count kind pendings front [] is old = refl
@@ -168,7 +177,8 @@ made_before : (count : ℕ) (kind : Kind) (ts : List PendingTask) → AllByRecur
 made_before count kind [] old = tt
 made_before count kind (t ∷ ts) old = (old.0.0, made_before count kind ts old.1)
 
-are_saved : (image : ImageValue) (count : ℕ) (stack : List BagValue) (pendings : List Pending) → ArePendings stack pendings
+are_saved : (image : ImageValue) (count : ℕ) (stack : List BagValue) (pendings : List Pending)
+    → ArePendings stack pendings
     → IsOne image count stack pendings → AreSaved count pendings
 are_saved image count stack pendings are one = record {
   sorted = are.sorted;
@@ -181,7 +191,8 @@ are_saved image count stack pendings are one = record {
 all_known : (kind : Kind) (pendings : List Pending) (k : ℕ) (ps : List Pending) → k + length ps ≤ length pendings
     → Know pendings (map (image_task kind) (enumerate_from k (map saved_task ps)))
 all_known kind pendings k [] fits = tt
-all_known kind pendings k (p ∷ ps) fits = (λ none. omega (arith, fits), all_known kind pendings (k + 1) ps (omega (arith, fits)))
+all_known kind pendings k (p ∷ ps) fits =
+    (λ none. omega (arith, fits), all_known kind pendings (k + 1) ps (omega (arith, fits)))
 
 -- the bag in which the tasks of the saved image pend
 abbrev opening_bag : ImageValue → List Pending → BagValue
@@ -193,7 +204,8 @@ opening_bag image pendings = record {
   tasks = map (image_task image.kind) (enumerate_from 0 (map saved_task pendings));
 }
 
-long_opening : (kind : Kind) (k : ℕ) (ps : List Pending) → 0 < length ps → (length (map (image_task kind) (enumerate_from k (map saved_task ps))) == 0) ≡ false
+long_opening : (kind : Kind) (k : ℕ) (ps : List Pending) → 0 < length ps
+    → (length (map (image_task kind) (enumerate_from k (map saved_task ps))) == 0) ≡ false
 long_opening kind k [] some = absurd (omega (arith, some))
 long_opening kind k (p ∷ ps) some = grind (arith, nat_tests, common_steps)
 
@@ -201,7 +213,8 @@ opening_inner : (image : ImageValue) (pendings : List Pending) → 0 < length pe
     → inner (opening_bag image pendings ∷ []) ≡ opening_bag image pendings ∷ []
 opening_inner image pendings some = rw (long_opening image.kind 0 pendings some) refl
 
-opened_bag : (turns : ℕ) (image : ImageValue) (count : ℕ) (stack : List BagValue) (pendings : List Pending) → (one : IsOne image count stack pendings)
+opened_bag : (turns : ℕ) (image : ImageValue) (count : ℕ) (stack : List BagValue) (pendings : List Pending)
+    → (one : IsOne image count stack pendings)
     → one.bag ≡ record (opening_bag image pendings) { owner = one.bag.owner; tasks = map (shifted_task turns pendings) (opening_bag image pendings).tasks }
 opened_bag turns image count stack pendings one =
     let tasks : one.bag.tasks ≡ map (shifted_task turns pendings) (opening_bag image pendings).tasks =
@@ -221,8 +234,10 @@ pub record IsOpened (image : ImageValue) (one : List Entry) (memory output : Lis
   pub saved : AreSaved (length one) pendings
   pub follows : Follows (length one) output pendings s (opening (saved_image image memory pendings))
 
-pub saved_opens : (image : ImageValue) (budget : ℕ) (one : List Entry) (memory output : List ℕ) (pendings : List Pending) → IsImage image
-    → (left : RunLeaves image budget one memory output pendings) → 0 < length pendings → All (λ (p : Pending). p.depth ≡ 1) pendings
+pub saved_opens : (image : ImageValue) (budget : ℕ) (one : List Entry) (memory output : List ℕ) (pendings : List Pending)
+    → IsImage image
+    → (left : RunLeaves image budget one memory output pendings) → 0 < length pendings
+    → All (λ (p : Pending). p.depth ≡ 1) pendings
     → IsOpened image one memory output pendings left.state
 saved_opens image budget one memory output pendings within left some root =
     let stands = run_stands image budget one left.state left.run in
@@ -230,7 +245,8 @@ saved_opens image budget one memory output pendings within left some root =
     let count : left.state.count ≡ length one = count-run image budget one left.state left.run in
     let sized : length memory ≡ image.data_size = ap length left.memory_is ∙ run_sized image budget one left.state within left.run in
     record {
-      saved = subst (λ n. AreSaved n pendings) count (are_saved image left.state.count left.state.stack pendings left.pending bag);
+      saved =
+          subst (λ n. AreSaved n pendings) count (are_saved image left.state.count left.state.stack pendings left.pending bag);
       follows = record {
         stack =
             subst (AreShifted (length one) pendings (inner left.state.stack)) (sym (opening_inner image pendings some))

@@ -13,14 +13,16 @@ use Rattle.run_law.proofs.Proved.{run_sized}
 use Rattle.spec_state.specs.Pendings.{RunLeaves, all_pending, pending_at}
 use Rattle.resume_image.proofs.Standing.{run_stands}
 
-tasks_deep : (depth : ℕ) (ts : List PendingTask) (rest : List Pending) → 1 ≤ depth → AllByRecursion (λ (p : Pending). 1 ≤ p.depth) rest
+tasks_deep : (depth : ℕ) (ts : List PendingTask) (rest : List Pending) → 1 ≤ depth
+    → AllByRecursion (λ (p : Pending). 1 ≤ p.depth) rest
     → AllByRecursion (λ (p : Pending). 1 ≤ p.depth) (map (pending_at depth) ts ++ rest)
 tasks_deep depth [] rest deep each = each
 tasks_deep depth (t ∷ ts) rest deep each = (deep, tasks_deep depth ts rest deep each)
 
 stack_deep : (stack : List BagValue) → IsStack stack → AllByRecursion (λ (p : Pending). 1 ≤ p.depth) (all_pending stack)
 stack_deep [] is = tt
-stack_deep (bag ∷ outer) is = tasks_deep bag.depth bag.tasks (all_pending outer) (omega (arith, is.0)) (stack_deep outer is.2)
+stack_deep (bag ∷ outer) is =
+    tasks_deep bag.depth bag.tasks (all_pending outer) (omega (arith, is.0)) (stack_deep outer is.2)
 
 pub left_deep : (image : ImageValue) (budget : ℕ) (journal : List Entry) (memory output : List ℕ) (pendings : List Pending)
     → RunLeaves image budget journal memory output pendings → All (λ (p : Pending). 1 ≤ p.depth) pendings
@@ -30,7 +32,8 @@ left_deep image budget journal memory output pendings left =
     (All-from_recursion (λ (p : Pending). 1 ≤ p.depth) (all_pending left.state.stack)
     (stack_deep left.state.stack (run_stands image budget journal left.state left.run).stack))
 
-pub left_sized : (image : ImageValue) (budget : ℕ) (journal : List Entry) (memory output : List ℕ) (pendings : List Pending) → IsImage image
+pub left_sized : (image : ImageValue) (budget : ℕ) (journal : List Entry) (memory output : List ℕ) (pendings : List Pending)
+    → IsImage image
     → RunLeaves image budget journal memory output pendings → length memory ≡ image.data_size
 left_sized image budget journal memory output pendings within left =
     ap length left.memory_is ∙ run_sized image budget journal left.state within left.run

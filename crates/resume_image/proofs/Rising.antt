@@ -1,6 +1,7 @@
 -- The tasks of each bag stand in the order of their names, were made by the image or by turns that were taken, and
 -- have timestamps that their domain takes for what they are.
-use Rattle.std.proofs.Common.{◌≡◌, refl, subst, ℕ, ◌+◌, ◌≤◌, ◌==◌, Bool, true, false, not, List, [], ◌∷◌, ◌++◌, map, Option, Some, if◌then◌else◌, arith}
+use Rattle.std.proofs.Common.{◌≡◌, refl, subst, ℕ, ◌+◌, ◌≤◌, ◌==◌, Bool, true, false, not, List, [], ◌∷◌, ◌++◌, map}
+use Rattle.std.proofs.Common.{Option, Some, if◌then◌else◌, arith}
 use Rattle.std.specs.List.{AllByRecursion, enumerate_from}
 use Rattle.std.specs.Prelude.{filter}
 use Rattle.std.proofs.lemmas.Bool.Decides.{nat_tests}
@@ -15,7 +16,8 @@ use Rattle.pending_list.specs.declared.task.PendingTask.{PendingTask}
 use Rattle.pending_list.specs.Pending.{name_before}
 use Rattle.serial_machine.specs.BagValue.{BagValue}
 use Rattle.serial_machine.specs.Run.{image_task}
-use Rattle.serial_machine.specs.Turn.{child, children, is_for, is_named, kind_outside, place_number, stack_after, without_name}
+use Rattle.serial_machine.specs.Turn.{child, children, is_for, is_named, kind_outside, place_number, stack_after}
+use Rattle.serial_machine.specs.Turn.{without_name}
 use Rattle.resume_image.proofs.Bags.{AreGood, good_after}
 use Rattle.resume_image.proofs.Settled.{IsSettled, Settle, SettlesIn, settled_ts}
 
@@ -36,19 +38,23 @@ pub record AreOld (count : ℕ) (kind : Kind) (tasks : List PendingTask) : Type 
   pub each : AllByRecursion (IsOld count kind) tasks
 
 -- what holds of each task holds of those that stay
-kept : (P : PendingTask → Type 0) (name : Name) (tasks : List PendingTask) → AllByRecursion P tasks → AllByRecursion P (without_name name tasks)
+kept : (P : PendingTask → Type 0) (name : Name) (tasks : List PendingTask) → AllByRecursion P tasks
+    → AllByRecursion P (without_name name tasks)
 kept P name [] each = tt
 kept P name (t ∷ ts) each = go (is_named name t) (kept P name ts each.1)
   where
-    go : (b : Bool) → AllByRecursion P (without_name name ts) → AllByRecursion P (if not b then t ∷ without_name name ts else without_name name ts)
+    go : (b : Bool) → AllByRecursion P (without_name name ts)
+        → AllByRecursion P (if not b then t ∷ without_name name ts else without_name name ts)
     go true rest = rest
     go false rest = (each.0, rest)
 
-both : (P : PendingTask → Type 0) (tasks more : List PendingTask) → AllByRecursion P tasks → AllByRecursion P more → AllByRecursion P (tasks ++ more)
+both : (P : PendingTask → Type 0) (tasks more : List PendingTask) → AllByRecursion P tasks → AllByRecursion P more
+    → AllByRecursion P (tasks ++ more)
 both P [] more first second = second
 both P (t ∷ ts) more first second = (first.0, both P ts more first.1 second)
 
-weaker : (P Q : PendingTask → Type 0) (tasks : List PendingTask) → ((t : PendingTask) → P t → Q t) → AllByRecursion P tasks → AllByRecursion Q tasks
+weaker : (P Q : PendingTask → Type 0) (tasks : List PendingTask) → ((t : PendingTask) → P t → Q t)
+    → AllByRecursion P tasks → AllByRecursion Q tasks
 weaker P Q [] by each = tt
 weaker P Q (t ∷ ts) by each = (by t each.0, weaker P Q ts by each.1)
 
@@ -70,7 +76,8 @@ older count kind t (u ∷ us) old new =
     let second : u.name.creator ≡ count + 1 = new.0 in
     (grind (arith, nat_tests, common_steps), older count kind t us old new.1)
 
-rise_more : (count : ℕ) (kind : Kind) (tasks more : List PendingTask) → Rise tasks → AllByRecursion (IsOld count kind) tasks → Rise more
+rise_more : (count : ℕ) (kind : Kind) (tasks more : List PendingTask) → Rise tasks
+    → AllByRecursion (IsOld count kind) tasks → Rise more
     → AllByRecursion (λ (u : PendingTask). u.name.creator ≡ count + 1) more → Rise (tasks ++ more)
 rise_more count kind [] more rise old also new = also
 rise_more count kind (t ∷ ts) more rise old also new = (
@@ -91,7 +98,8 @@ behind n k t (u ∷ us) creator index each =
     let at : k + 1 ≤ u.name.index = each.0.1 in
     (grind (arith, nat_tests, common_steps), behind n k t us creator index each.1)
 
-one_numbered : (n k : ℕ) (t : PendingTask) (ts : List PendingTask) → t.name.creator ≡ n → t.name.index ≡ k → AreNumbered n (k + 1) ts → AreNumbered n k (t ∷ ts)
+one_numbered : (n k : ℕ) (t : PendingTask) (ts : List PendingTask) → t.name.creator ≡ n → t.name.index ≡ k
+    → AreNumbered n (k + 1) ts → AreNumbered n k (t ∷ ts)
 one_numbered n k t ts creator index rest = record {
   rise = (behind n k t ts creator index rest.each, rest.rise);
   each = (
@@ -109,7 +117,8 @@ later_numbered n k ts rest = record {
       (λ u holds. (holds.0, omega (arith, holds.1))) rest.each;
 }
 
-children_numbered : (place : Place) (n k : ℕ) (spawns : List Spawn) → AreNumbered n k (map (child n) (filter (is_for place) (enumerate_from k spawns)))
+children_numbered : (place : Place) (n k : ℕ) (spawns : List Spawn)
+    → AreNumbered n k (map (child n) (filter (is_for place) (enumerate_from k spawns)))
 children_numbered place n k [] = record { rise = tt; each = tt }
 children_numbered place n k (s ∷ ss) = go (is_for place (k, s)) (children_numbered place n (k + 1) ss)
   where
@@ -118,7 +127,8 @@ children_numbered place n k (s ∷ ss) = go (is_for place (k, s)) (children_numb
     go true rest = one_numbered n k (child n (k, s)) _ refl refl rest
     go false rest = later_numbered n k _ rest
 
-pub image_numbered : (kind : Kind) (k : ℕ) (tasks : List ImageTask) → AreNumbered 0 k (map (image_task kind) (enumerate_from k tasks))
+pub image_numbered : (kind : Kind) (k : ℕ) (tasks : List ImageTask)
+    → AreNumbered 0 k (map (image_task kind) (enumerate_from k tasks))
 image_numbered kind k [] = record { rise = tt; each = tt }
 image_numbered kind k (t ∷ ts) = one_numbered 0 k (image_task kind (k, t)) _ refl refl (image_numbered kind (k + 1) ts)
 
@@ -129,10 +139,12 @@ image_settled kind k (t ∷ ts) = (settled_ts kind t.ts, image_settled kind (k +
 
 -- the children for a domain of this kind are settled in it
 module _ (place : Place) (kind own : Kind) (outer sub : Option Kind) (fits : (ts : ℕ) → SettlesIn own outer sub place ts → IsSettled kind ts) where
-  same_place : (p : Place) → (place_number p == place_number place) ≡ true → (ts : ℕ) → SettlesIn own outer sub p ts → SettlesIn own outer sub place ts
+  same_place : (p : Place) → (place_number p == place_number place) ≡ true → (ts : ℕ) → SettlesIn own outer sub p ts
+      → SettlesIn own outer sub place ts
   same_place p is ts here = go p place is here
     where
-      go : (p q : Place) → (place_number p == place_number q) ≡ true → SettlesIn own outer sub p ts → SettlesIn own outer sub q ts
+      go : (p q : Place) → (place_number p == place_number q) ≡ true → SettlesIn own outer sub p ts
+          → SettlesIn own outer sub q ts
       go Same Same is here = here
       go Sub Sub is here = here
       go Super Super is here = here
@@ -154,18 +166,21 @@ module _ (place : Place) (kind own : Kind) (outer sub : Option Kind) (fits : (ts
       go true is rest = (fits s.ts (same_place s.place is s.ts each.0), rest)
       go false is rest = rest
 
-  pub children_old : (count : ℕ) (spawns : List Spawn) → Settle own outer sub spawns → AreOld (count + 1) kind (children place (count + 1) spawns)
+  pub children_old : (count : ℕ) (spawns : List Spawn) → Settle own outer sub spawns
+      → AreOld (count + 1) kind (children place (count + 1) spawns)
   unfolding children
   children_old count spawns each =
       let numbered = children_numbered place (count + 1) 0 spawns in
       record { rise = numbered.rise; each = join _ numbered.each (children_settled (count + 1) 0 spawns each) }
     where
-      join : (ts : List PendingTask) → AllByRecursion (λ (t : PendingTask). (t.name.creator ≡ count + 1) × (0 ≤ t.name.index)) ts
+      join : (ts : List PendingTask)
+          → AllByRecursion (λ (t : PendingTask). (t.name.creator ≡ count + 1) × (0 ≤ t.name.index)) ts
           → AllByRecursion (λ (t : PendingTask). IsSettled kind t.ts) ts → AllByRecursion (IsOld (count + 1) kind) ts
       join [] one two = tt
       join (t ∷ ts) one two = ((omega (arith, one.0.0), two.0), join ts one.1 two.1)
 
-  pub old_more : (count : ℕ) (spawns : List Spawn) (tasks : List PendingTask) → Settle own outer sub spawns → AreOld count kind tasks
+  pub old_more : (count : ℕ) (spawns : List Spawn) (tasks : List PendingTask) → Settle own outer sub spawns
+      → AreOld count kind tasks
       → AreOld (count + 1) kind (tasks ++ children place (count + 1) spawns)
   unfolding children
   old_more count spawns tasks each old =
@@ -178,13 +193,17 @@ module _ (place : Place) (kind own : Kind) (outer sub : Option Kind) (fits : (ts
             (weaker (IsOld count kind) (IsOld (count + 1) kind) tasks (λ t holds. (omega (arith, holds.0), holds.1)) old.each) made.each;
       }
 
-old_without : (count : ℕ) (kind : Kind) (name : Name) (tasks : List PendingTask) → AreOld count kind tasks → AreOld count kind (without_name name tasks)
-old_without count kind name tasks old = record { rise = rise_without name tasks old.rise; each = kept (IsOld count kind) name tasks old.each }
+old_without : (count : ℕ) (kind : Kind) (name : Name) (tasks : List PendingTask) → AreOld count kind tasks
+    → AreOld count kind (without_name name tasks)
+old_without count kind name tasks old =
+    record { rise = rise_without name tasks old.rise; each = kept (IsOld count kind) name tasks old.each }
 
-old_later : (count : ℕ) (kind : Kind) (tasks : List PendingTask) → AreOld count kind tasks → AreOld (count + 1) kind tasks
+old_later : (count : ℕ) (kind : Kind) (tasks : List PendingTask) → AreOld count kind tasks
+    → AreOld (count + 1) kind tasks
 old_later count kind tasks old = record {
   rise = old.rise;
-  each = weaker (IsOld count kind) (IsOld (count + 1) kind) tasks (λ t holds. (omega (arith, holds.0), holds.1)) old.each;
+  each =
+      weaker (IsOld count kind) (IsOld (count + 1) kind) tasks (λ t holds. (omega (arith, holds.0), holds.1)) old.each;
 }
 
 -- a turn keeps it
@@ -197,7 +216,8 @@ old_after count bag outer name ts spawns sub each old =
     (λ kind is. children_old Sub kind bag.kind (kind_outside outer) sub (by_kind sub kind is) count spawns each)
     (λ kind is tasks own. old_more Super kind bag.kind (kind_outside outer) sub (by_kind (kind_outside outer) kind is) count spawns tasks each own)
   where
-    by_kind : (o : Option Kind) (kind : Kind) → o ≡ Some kind → (t : ℕ) → ((k : Kind) × (o ≡ Some k) × IsSettled k t) → IsSettled kind t
+    by_kind : (o : Option Kind) (kind : Kind) → o ≡ Some kind → (t : ℕ) → ((k : Kind) × (o ≡ Some k) × IsSettled k t)
+        → IsSettled kind t
     by_kind o kind is t (k, at, settled) =
         let same : k ≡ kind = cc (at, is) in
         subst (λ x. IsSettled x t) same settled

@@ -1,5 +1,6 @@
 -- A child's timestamp is what its domain takes it for.
-use Rattle.std.proofs.Common.{◌≡◌, refl, sym, ap, subst, ℕ, nat_lt, Bool, true, false, List, [], ◌∷◌, ◌++◌, Option, Some, None, Result, Ok, Err, if◌then◌else◌}
+use Rattle.std.proofs.Common.{◌≡◌, refl, sym, ap, subst, ℕ, nat_lt, Bool, true, false, List, [], ◌∷◌, ◌++◌, Option}
+use Rattle.std.proofs.Common.{Some, None, Result, Ok, Err, if◌then◌else◌}
 use Rattle.std.specs.List.{AllByRecursion}
 use Rattle.guest_image.specs.ImageValue.{ImageValue}
 use Rattle.guest_image.specs.declared.image.Kind.{Kind}
@@ -8,7 +9,8 @@ use Rattle.task_desc.specs.declared.desc.Ctx.{Ctx}
 use Rattle.task_desc.specs.declared.desc.Spawn.{Spawn}
 use Rattle.task_desc.specs.declared.desc.Place.{Place}
 use Rattle.task_desc.specs.declared.desc.Place.TheVariants.{Same, Sub, Super}
-use Rattle.task_desc.specs.Calls.{most_children, allowed_spawn, allowed_at, allowed_sub, allowed_super, one_more_child, domain_ts, is_early}
+use Rattle.task_desc.specs.Calls.{most_children, allowed_spawn, allowed_at, allowed_sub, allowed_super, one_more_child}
+use Rattle.task_desc.specs.Calls.{domain_ts, is_early}
 use Rattle.pending_list.specs.declared.task.PendingTask.{PendingTask}
 use Rattle.serial_machine.specs.BagValue.{BagValue}
 use Rattle.serial_machine.specs.State.{SerialState}
@@ -43,7 +45,8 @@ settle_more : (own : Kind) (outer sub : Option Kind) (spawns : List Spawn) (spaw
 settle_more own outer sub [] spawn each here = (here, tt)
 settle_more own outer sub (s ∷ ss) spawn each here = (each.0, settle_more own outer sub ss spawn each.1 here)
 
-settle_sub : (own : Kind) (outer sub : Option Kind) (kind : Kind) (spawns : List Spawn) → sub ≡ None → Settle own outer sub spawns
+settle_sub : (own : Kind) (outer sub : Option Kind) (kind : Kind) (spawns : List Spawn) → sub ≡ None
+    → Settle own outer sub spawns
     → Settle own outer (Some kind) spawns
 settle_sub own outer sub kind [] none each = tt
 settle_sub own outer sub kind (s ∷ ss) none each = (one s.place each.0, settle_sub own outer sub kind ss none each.1)
@@ -54,24 +57,30 @@ settle_sub own outer sub kind (s ∷ ss) none each = (one s.place each.0, settle
     one Super here = here
 
 -- an enqueue that is allowed is settled
-allowed_settles : (ctx : Ctx) (spawn : Spawn) (ts : ℕ) → allowed_spawn ctx spawn ≡ Ok ts → SettlesIn ctx.own ctx.outer ctx.sub spawn.place ts
+allowed_settles : (ctx : Ctx) (spawn : Spawn) (ts : ℕ) → allowed_spawn ctx spawn ≡ Ok ts
+    → SettlesIn ctx.own ctx.outer ctx.sub spawn.place ts
 allowed_settles ctx spawn ts allows = by_place spawn.place allows
   where
-    by_count : (b : Bool) (kind : Kind) → if◌then◌else◌ {A = Result ℕ ℕ} b (Ok (domain_ts kind spawn.ts)) (Err 15) ≡ Ok ts → IsSettled kind ts
+    by_count : (b : Bool) (kind : Kind)
+        → if◌then◌else◌ {A = Result ℕ ℕ} b (Ok (domain_ts kind spawn.ts)) (Err 15) ≡ Ok ts → IsSettled kind ts
     by_count true kind is =
         let same : domain_ts kind spawn.ts ≡ ts = cc (is) in
         subst (IsSettled kind) same (settled_ts kind spawn.ts)
     by_count false kind is = absurd (cc (is))
 
-    by_time : (b : Bool) (kind : Kind) → if◌then◌else◌ {A = Result ℕ ℕ} b (Err 10) (one_more_child ctx (domain_ts kind spawn.ts)) ≡ Ok ts → IsSettled kind ts
+    by_time : (b : Bool) (kind : Kind)
+        → if◌then◌else◌ {A = Result ℕ ℕ} b (Err 10) (one_more_child ctx (domain_ts kind spawn.ts)) ≡ Ok ts
+        → IsSettled kind ts
     by_time true kind is = absurd (cc (is))
     by_time false kind is = by_count (nat_lt ctx.children (most_children ctx.version)) kind is
 
-    by_sub : (o : Option Kind) → ctx.sub ≡ o → allowed_sub ctx spawn.ts o ≡ Ok ts → SettlesIn ctx.own ctx.outer ctx.sub Sub ts
+    by_sub : (o : Option Kind) → ctx.sub ≡ o → allowed_sub ctx spawn.ts o ≡ Ok ts
+        → SettlesIn ctx.own ctx.outer ctx.sub Sub ts
     by_sub None at is = absurd (cc (is))
     by_sub (Some kind) at is = (kind, at, by_count (nat_lt ctx.children (most_children ctx.version)) kind is)
 
-    by_super : (o : Option Kind) → ctx.outer ≡ o → allowed_super ctx spawn.ts o ≡ Ok ts → SettlesIn ctx.own ctx.outer ctx.sub Super ts
+    by_super : (o : Option Kind) → ctx.outer ≡ o → allowed_super ctx spawn.ts o ≡ Ok ts
+        → SettlesIn ctx.own ctx.outer ctx.sub Super ts
     by_super None at is = absurd (cc (is))
     by_super (Some kind) at is = (kind, at, by_time (is_early kind spawn.ts ctx.floor) kind is)
 
@@ -84,7 +93,8 @@ allowed_settles ctx spawn ts allows = by_place spawn.place allows
 abbrev AreSettled : Ctx → TaskState → Type 0
 AreSettled ctx task = Settle ctx.own ctx.outer task.sub task.spawns
 
-request_settles : (ctx : Ctx) (task : TaskState) (asked : Request) → AllowedBy (context ctx task) asked → AreSettled ctx task
+request_settles : (ctx : Ctx) (task : TaskState) (asked : Request) → AllowedBy (context ctx task) asked
+    → AreSettled ctx task
     → HoldsAfter (AreSettled ctx) (after_request task asked)
 request_settles ctx task request.Continue allows each = each
 request_settles ctx task (request.Load width rd offset) allows each = each
@@ -108,5 +118,6 @@ run_settles image budget ctx entry args memory =
 -- so it holds of the children of a task that is done
 pub done_settles : (image : ImageValue) (budget : ℕ) (s : SerialState) (bag : BagValue) (outer : List BagValue) (task : PendingTask) (done : TaskState)
     → run_in_bag image budget s bag outer task ≡ Done done → Settle bag.kind (kind_outside outer) done.sub done.spawns
-done_settles image budget s bag outer task done ran = subst (EndHolds (AreSettled (context_in_bag image.version bag outer task))) ran
+done_settles image budget s bag outer task done ran =
+    subst (EndHolds (AreSettled (context_in_bag image.version bag outer task))) ran
     (run_settles image budget (context_in_bag image.version bag outer task) task.entry task.args s.memory)

@@ -1,5 +1,6 @@
 -- Stacks of bags that are alike but for the names of their tasks, which are shifted.
-use Rattle.std.proofs.Common.{◌≡◌, ◌≢◌, refl, sym, ap, ◌∙◌, subst, ℕ, ◌+◌, ◌==◌, ◌&&◌, nat_le, Bool, true, false, not, List, [], ◌∷◌, ◌++◌, length, map, Option, Some, None, option_map, if◌then◌else◌, arith}
+use Rattle.std.proofs.Common.{◌≡◌, ◌≢◌, refl, sym, ap, ◌∙◌, subst, ℕ, ◌+◌, ◌==◌, ◌&&◌, nat_le, Bool, true, false, not}
+use Rattle.std.proofs.Common.{List, [], ◌∷◌, ◌++◌, length, map, Option, Some, None, option_map, if◌then◌else◌, arith}
 use Rattle.std.proofs.lemmas.Bool.Decides.{nat_tests}
 use Rattle.std.proofs.lemmas.Grind.{common_steps}
 use Rattle.std.proofs.lemmas.List.{length-map, map-append}
@@ -11,7 +12,8 @@ use Rattle.task_desc.specs.declared.desc.Place.TheVariants.{Same, Sub, Super}
 use Rattle.pending_list.specs.declared.task.PendingTask.{PendingTask}
 use Rattle.spec_state.specs.declared.pending.Pending.{Pending}
 use Rattle.serial_machine.specs.BagValue.{BagValue}
-use Rattle.serial_machine.specs.Turn.{child, children, context_in_bag, find_named, inner, is_least, is_named, kind_outside, stack_after, sub_bags, with_super, without_name}
+use Rattle.serial_machine.specs.Turn.{child, children, context_in_bag, find_named, inner, is_least, is_named}
+use Rattle.serial_machine.specs.Turn.{kind_outside, stack_after, sub_bags, with_super, without_name}
 use Rattle.resume_image.specs.Joined.{shifted_name}
 use Rattle.resume_image.proofs.Names.{AreSaved, IsKnown, Know, same_name}
 
@@ -43,7 +45,8 @@ module _ (turns : ℕ) (pendings : List Pending) where
         (same_name turns pendings saved name t.name known each.0)
         ∙ go (is_named name t) (find_shifted name ts known each.1)
       where
-        go : (b : Bool) → find_named (shifted_name turns pendings name) (map shifted_task ts) ≡ option_map shifted_task (find_named name ts)
+        go : (b : Bool)
+            → find_named (shifted_name turns pendings name) (map shifted_task ts) ≡ option_map shifted_task (find_named name ts)
             → (if b then Some (shifted_task t) else find_named (shifted_name turns pendings name) (map shifted_task ts))
             ≡ option_map shifted_task (if b then Some t else find_named name ts)
         go true rest = refl
@@ -58,7 +61,8 @@ module _ (turns : ℕ) (pendings : List Pending) where
         (same_name turns pendings saved name t.name known each.0)
         ∙ go (is_named name t) (without_shifted name ts known each.1)
       where
-        go : (b : Bool) → without_name (shifted_name turns pendings name) (map shifted_task ts) ≡ map shifted_task (without_name name ts)
+        go : (b : Bool)
+            → without_name (shifted_name turns pendings name) (map shifted_task ts) ≡ map shifted_task (without_name name ts)
             → (if not b then shifted_task t ∷ without_name (shifted_name turns pendings name) (map shifted_task ts) else without_name (shifted_name turns pendings name) (map shifted_task ts))
             ≡ map shifted_task (if not b then t ∷ without_name name ts else without_name name ts)
         go true rest = rest
@@ -73,10 +77,12 @@ module _ (turns : ℕ) (pendings : List Pending) where
       let no : (n == 0) ≡ false = grind (arith, nat_tests, common_steps) in
       rw no refl
 
-  all_shifted : (n : ℕ) (es : List (ℕ × Spawn)) → n ≢ 0 → map (child (turns + n)) es ≡ map shifted_task (map (child n) es)
+  all_shifted : (n : ℕ) (es : List (ℕ × Spawn)) → n ≢ 0
+      → map (child (turns + n)) es ≡ map shifted_task (map (child n) es)
   all_shifted n [] some = refl
   all_shifted n (e ∷ es) some =
-      ap (λ t. t ∷ map (child (turns + n)) es) (child_shifted n e some) ∙ ap (λ ts. shifted_task (child n e) ∷ ts) (all_shifted n es some)
+      ap (λ t. t ∷ map (child (turns + n)) es) (child_shifted n e some)
+      ∙ ap (λ ts. shifted_task (child n e) ∷ ts) (all_shifted n es some)
 
   pub children_shifted : (place : Place) (n : ℕ) (spawns : List Spawn) → n ≢ 0
       → children place (turns + n) spawns ≡ map shifted_task (children place n spawns)
@@ -84,7 +90,8 @@ module _ (turns : ℕ) (pendings : List Pending) where
   children_shifted place n spawns some = all_shifted n _ some
 
   long_shifted : (a b : BagValue) → IsShifted a b → (length a.tasks == 0) ≡ (length b.tasks == 0)
-  long_shifted a b same = ap (λ (x : BagValue). length x.tasks == 0) same ∙ ap (λ n. n == 0) (length-map b.tasks shifted_task)
+  long_shifted a b same =
+      ap (λ (x : BagValue). length x.tasks == 0) same ∙ ap (λ n. n == 0) (length-map b.tasks shifted_task)
 
   pub inner_shifted : (xs ys : List BagValue) → AreShifted xs ys → AreShifted (inner xs) (inner ys)
   inner_shifted [] [] same = tt
@@ -93,7 +100,8 @@ module _ (turns : ℕ) (pendings : List Pending) where
   inner_shifted (a ∷ xs) (b ∷ ys) same =
       go (length a.tasks == 0) (length b.tasks == 0) (long_shifted a b same.0) (inner_shifted xs ys same.1)
     where
-      go : (p q : Bool) → p ≡ q → AreShifted (inner xs) (inner ys) → AreShifted (if p then inner xs else a ∷ xs) (if q then inner ys else b ∷ ys)
+      go : (p q : Bool) → p ≡ q → AreShifted (inner xs) (inner ys)
+          → AreShifted (if p then inner xs else a ∷ xs) (if q then inner ys else b ∷ ys)
       go true true both rest = rest
       go false false both rest = same
       go true false both rest = cc
@@ -111,23 +119,28 @@ module _ (turns : ℕ) (pendings : List Pending) where
           ((if p then [] else record { depth = depth; kind = kind; floor = floor; owner = o; tasks = tasks } ∷ []) ++ xs)
           ((if q then [] else record { depth = depth; kind = kind; floor = floor; owner = own; tasks = plain } ∷ []) ++ ys)
       go true true both = rest
-      go false false both = (ap (λ ts. record { depth = depth; kind = kind; floor = floor; owner = o; tasks = ts }) same, rest)
+      go false false both =
+          (ap (λ ts. record { depth = depth; kind = kind; floor = floor; owner = o; tasks = ts }) same, rest)
       go true false both = cc
       go false true both = cc
 
-  more_shifted : (tasks plain more own : List PendingTask) → tasks ≡ map shifted_task plain → more ≡ map shifted_task own
+  more_shifted : (tasks plain more own : List PendingTask) → tasks ≡ map shifted_task plain
+      → more ≡ map shifted_task own
       → tasks ++ more ≡ map shifted_task (plain ++ own)
   more_shifted tasks plain more own same also =
-      ap (λ ts. ts ++ more) same ∙ ap (λ ts. map shifted_task plain ++ ts) also ∙ sym (map-append shifted_task plain own)
+      ap (λ ts. ts ++ more) same ∙ ap (λ ts. map shifted_task plain ++ ts) also
+      ∙ sym (map-append shifted_task plain own)
 
-  super_shifted : (tasks plain : List PendingTask) (xs ys : List BagValue) → tasks ≡ map shifted_task plain → AreShifted xs ys
+  super_shifted : (tasks plain : List PendingTask) (xs ys : List BagValue) → tasks ≡ map shifted_task plain
+      → AreShifted xs ys
       → AreShifted (with_super tasks xs) (with_super plain ys)
   super_shifted tasks plain [] [] also same = tt
   super_shifted tasks plain [] (b ∷ ys) also same = absurd same
   super_shifted tasks plain (a ∷ xs) [] also same = absurd same
   super_shifted tasks plain (a ∷ xs) (b ∷ ys) also same =
       let all : a.tasks ++ tasks ≡ map shifted_task (b.tasks ++ plain) = more_shifted a.tasks b.tasks tasks plain (ap (λ (x : BagValue). x.tasks) same.0) also in (
-        ap (λ (x : BagValue). shifted_bag a.owner (a.tasks ++ tasks) x) same.0 ∙ ap (λ ts. shifted_bag a.owner ts b) all,
+        ap (λ (x : BagValue). shifted_bag a.owner (a.tasks ++ tasks) x) same.0
+            ∙ ap (λ ts. shifted_bag a.owner ts b) all,
         same.1,
       )
 
@@ -140,7 +153,8 @@ module _ (turns : ℕ) (pendings : List Pending) where
     after_shifted a b xs ys name n ts spawns sub some known each same rest =
         let here : without_name (shifted_name turns pendings name) a.tasks
         ≡ map shifted_task (without_name name b.tasks) =
-        ap (λ (x : BagValue). without_name (shifted_name turns pendings name) x.tasks) same ∙ without_shifted saved name b.tasks known each in
+        ap (λ (x : BagValue). without_name (shifted_name turns pendings name) x.tasks) same
+        ∙ without_shifted saved name b.tasks known each in
         let stay : without_name (shifted_name turns pendings name) a.tasks ++ children Same (turns + n) spawns ≡ map shifted_task (without_name name b.tasks ++ children Same n spawns) =
         more_shifted _ (without_name name b.tasks) _ (children Same n spawns) here
         (children_shifted Same n spawns some) in
@@ -171,7 +185,8 @@ module _ (turns : ℕ) (pendings : List Pending) where
   kinds_shifted (a ∷ xs) [] same = absurd same
   kinds_shifted (a ∷ xs) (b ∷ ys) same = ap (λ (x : BagValue). Some x.kind) same.0
 
-  pub context_shifted : (version : ℕ) (a b : BagValue) (xs ys : List BagValue) (t : PendingTask) → IsShifted a b → AreShifted xs ys
+  pub context_shifted : (version : ℕ) (a b : BagValue) (xs ys : List BagValue) (t : PendingTask) → IsShifted a b
+      → AreShifted xs ys
       → context_in_bag version a xs (shifted_task t) ≡ context_in_bag version b ys t
   context_shifted version a b xs ys t same rest =
       ap (λ (x : BagValue). context_in_bag version x xs (shifted_task t)) same

@@ -1,6 +1,7 @@
 -- Two lists of pending tasks, each sorted by the tasks' names, that hold the same tasks are one list; permuted lists
 -- hold the same tasks.
-use Rattle.std.proofs.Common.{◌≡◌, refl, sym, ap, ◌∙◌, subst, zero, suc, true, false, List, [], ◌∷◌, Contains, AllPairs, IsPermutation, ◌⊎◌, inl, inr, arith}
+use Rattle.std.proofs.Common.{◌≡◌, refl, sym, ap, ◌∙◌, subst, zero, suc, true, false, List, [], ◌∷◌, Contains, AllPairs}
+use Rattle.std.proofs.Common.{IsPermutation, ◌⊎◌, inl, inr, arith}
 use Rattle.std.specs.List.{AllByRecursion}
 use Rattle.std.proofs.lemmas.Bool.Decides.{nat_tests}
 use Rattle.std.proofs.lemmas.Grind.{common_steps}
@@ -33,7 +34,8 @@ contains_held (q ∷ qs) p (inl same) = (zero, omega arith, same)
 contains_held (q ∷ qs) p (inr held) = (let at = contains_held qs p held in (suc at.0, omega (arith, at.1), at.2))
 
 pub holds_permuted : (ps qs : List Pending) (p : Pending) → IsPermutation ps qs → Holds ps p → Holds qs p
-holds_permuted ps qs p permuted held = holds_contained qs p (Contains-permutation ps qs p permuted (contains_held ps p held))
+holds_permuted ps qs p permuted held =
+    holds_contained qs p (Contains-permutation ps qs p permuted (contains_held ps p held))
 
 before_held : (p q : Pending) (ps : List Pending) → AllByRecursion (IsBefore p) ps → Holds ps q → IsBefore p q
 before_held p q [] each held = absurd held
@@ -46,7 +48,8 @@ never_both p q one other =
     absurd (cc (no_way))
 
 -- one list is the other where each holds what the other holds
-pub one_list : (ps qs : List Pending) → AreInOrder ps → AreInOrder qs → ((p : Pending) → Holds ps p → Holds qs p) → ((p : Pending) → Holds qs p → Holds ps p)
+pub one_list : (ps qs : List Pending) → AreInOrder ps → AreInOrder qs → ((p : Pending) → Holds ps p → Holds qs p)
+    → ((p : Pending) → Holds qs p → Holds ps p)
     → ps ≡ qs
 one_list [] [] first second there back = refl
 one_list [] (q ∷ qs) first second there back = absurd (back q (inl refl))
@@ -58,7 +61,8 @@ one_list (p ∷ ps) (q ∷ qs) first second there back =
     heads : Holds (q ∷ qs) p → Holds (p ∷ ps) q → p ≡ q
     heads (inl same) other = sym same
     heads (inr held) (inl same) = same
-    heads (inr held) (inr kept) = absurd (never_both p q (before_held p q ps first.0 kept) (before_held q p qs second.0 held))
+    heads (inr held) (inr kept) =
+        absurd (never_both p q (before_held p q ps first.0 kept) (before_held q p qs second.0 held))
 
     onward : p ≡ q → (r : Pending) → Holds ps r → Holds qs r
     onward head r held = go (there r (inr held))

@@ -1,5 +1,6 @@
 -- What holds of the stack in every state that a run leads to.
-use Rattle.std.proofs.Common.{◌≡◌, refl, sym, subst, ℕ, ◌+◌, ◌≤◌, ◌==◌, Bool, true, false, List, [], ◌∷◌, ◌++◌, length, Option, Some, None, if◌then◌else◌, arith, lit≤}
+use Rattle.std.proofs.Common.{◌≡◌, refl, sym, subst, ℕ, ◌+◌, ◌≤◌, ◌==◌, Bool, true, false, List, [], ◌∷◌, ◌++◌, length}
+use Rattle.std.proofs.Common.{Option, Some, None, if◌then◌else◌, arith, lit≤}
 use Rattle.std.specs.List.{AllByRecursion}
 use Rattle.guest_image.specs.ImageValue.{ImageValue}
 use Rattle.guest_image.specs.declared.image.Kind.{Kind}
@@ -25,19 +26,22 @@ IsRooted kind [] = Unit {0}
 IsRooted kind (bag ∷ []) = (bag.kind ≡ kind) × (bag.floor ≡ 0)
 IsRooted kind (bag ∷ next ∷ outer) = IsRooted kind (next ∷ outer)
 
-rooted_front : (kind : Kind) (bag : BagValue) (outer : List BagValue) → IsRooted kind (bag ∷ outer) → IsRooted kind outer
+rooted_front : (kind : Kind) (bag : BagValue) (outer : List BagValue) → IsRooted kind (bag ∷ outer)
+    → IsRooted kind outer
 rooted_front kind bag [] root = tt
 rooted_front kind bag (next ∷ outer) root = root
 
 pub rooted_inner : (kind : Kind) (stack : List BagValue) → IsRooted kind stack → IsRooted kind (inner stack)
 rooted_inner kind [] root = tt
-rooted_inner kind (bag ∷ outer) root = go (length bag.tasks == 0) (rooted_inner kind outer (rooted_front kind bag outer root))
+rooted_inner kind (bag ∷ outer) root =
+    go (length bag.tasks == 0) (rooted_inner kind outer (rooted_front kind bag outer root))
   where
     go : (b : Bool) → IsRooted kind (inner outer) → IsRooted kind (if b then inner outer else bag ∷ outer)
     go true rest = rest
     go false rest = root
 
-rooted_super : (kind : Kind) (bag : BagValue) (own tasks : List PendingTask) (outer : List BagValue) → IsRooted kind (bag ∷ outer)
+rooted_super : (kind : Kind) (bag : BagValue) (own tasks : List PendingTask) (outer : List BagValue)
+    → IsRooted kind (bag ∷ outer)
     → IsRooted kind (record bag { tasks = own } ∷ with_super tasks outer)
 rooted_super kind bag own tasks [] root = root
 rooted_super kind bag own tasks (next ∷ []) root = root
@@ -48,7 +52,8 @@ rooted_sub : (kind : Kind) (depth floor owner : ℕ) (tasks : List PendingTask) 
 rooted_sub kind depth floor owner tasks None bag rest root = root
 rooted_sub kind depth floor owner tasks (Some own) bag rest root = go (length tasks == 0)
   where
-    go : (b : Bool) → IsRooted kind ((if b then [] else record { depth = depth; kind = own; floor = floor; owner = owner; tasks = tasks } ∷ []) ++ bag ∷ rest)
+    go : (b : Bool)
+        → IsRooted kind ((if b then [] else record { depth = depth; kind = own; floor = floor; owner = owner; tasks = tasks } ∷ []) ++ bag ∷ rest)
     go true = root
     go false = root
 
@@ -78,7 +83,8 @@ opening_stands image =
     join [] one two = tt
     join (t ∷ ts) one two = ((omega (arith, one.0.0), two.0), join ts one.1 two.1)
 
-pub turn_stands : (image : ImageValue) (budget : ℕ) (s after : SerialState) (name : Name) (e : Entry) → Turned image budget s after name e → Stands image s → Stands image after
+pub turn_stands : (image : ImageValue) (budget : ℕ) (s after : SerialState) (name : Name) (e : Entry)
+    → Turned image budget s after name e → Stands image s → Stands image after
 turn_stands image budget s after name e did stands =
     let deep : IsStack (did.bag ∷ did.outer) = subst IsStack did.may.top (IsStack-inner s.stack stands.stack) in
     let root : IsRooted image.kind (did.bag ∷ did.outer) = subst (IsRooted image.kind) did.may.top (rooted_inner image.kind s.stack stands.root) in
@@ -94,10 +100,12 @@ turn_stands image budget s after name e did stands =
           (done_settles image budget s did.bag did.outer did.task did.done did.run) old;
     })
 
-runs_stand : (image : ImageValue) (budget : ℕ) (s : SerialState) (es : List Entry) (last : SerialState) → Runs image budget s es last → Stands image s → Stands image last
+runs_stand : (image : ImageValue) (budget : ℕ) (s : SerialState) (es : List Entry) (last : SerialState)
+    → Runs image budget s es last → Stands image s → Stands image last
 runs_stand image budget s [] last done stands = subst (Stands image) done stands
 runs_stand image budget s (e ∷ es) last (mid, turned, rest) stands =
     runs_stand image budget mid es last rest (turn_stands image budget s mid e.name e (turn-did image budget s mid e.name e turned) stands)
 
-pub run_stands : (image : ImageValue) (budget : ℕ) (es : List Entry) (last : SerialState) → IsRun image budget es last → Stands image last
+pub run_stands : (image : ImageValue) (budget : ℕ) (es : List Entry) (last : SerialState) → IsRun image budget es last
+    → Stands image last
 run_stands image budget es last run = runs_stand image budget (opening image) es last run (opening_stands image)

@@ -1,5 +1,6 @@
 -- Only names that were made take a turn, and where no task is pending each of them took one.
-use Rattle.std.proofs.Common.{◌≡◌, refl, sym, ap, ◌∙◌, subst, ◌≤◌, ◌<◌, ◌+◌, ◌==◌, ◌&&◌, ◌⊎◌, inl, inr, nat_le, nat_lt, ℕ, zero, suc, Bool, true, false, List, [], ◌∷◌, ◌++◌, length, arith, append_assoc}
+use Rattle.std.proofs.Common.{◌≡◌, refl, sym, ap, ◌∙◌, subst, ◌≤◌, ◌<◌, ◌+◌, ◌==◌, ◌&&◌, ◌⊎◌, inl, inr, nat_le, nat_lt}
+use Rattle.std.proofs.Common.{ℕ, zero, suc, Bool, true, false, List, [], ◌∷◌, ◌++◌, length, arith, append_assoc}
 use Rattle.std.proofs.lemmas.Grind.{common_steps}
 use Rattle.std.proofs.lemmas.Bool.Decides.{nat_tests}
 use Rattle.std.proofs.lemmas.Option.{same_Some}
@@ -19,10 +20,12 @@ use Rattle.run_law.proofs.Distinct.{turn-at-most, distinct}
 use Rattle.run_law.proofs.Counted.{times-numbered, turn-at-least, AreNamed-turn, AreNamed-run, times_in-runs, count-run}
 
 -- the children of a turn, and the tasks of the image, by their names
-times-children : (x : Name) (n : ℕ) (spawns : List Spawn) → times x (all_children n 0 spawns) ≡ one ((n == x.creator) && (nat_le 0 x.index && nat_lt x.index (0 + length spawns)))
+times-children : (x : Name) (n : ℕ) (spawns : List Spawn)
+    → times x (all_children n 0 spawns) ≡ one ((n == x.creator) && (nat_le 0 x.index && nat_lt x.index (0 + length spawns)))
 times-children x n spawns = times-numbered n (child n) (λ k a. refl) x 0 spawns
 
-times-image : (x : Name) (image : ImageValue) → times_in x (opening image).stack ≡ one ((0 == x.creator) && (nat_le 0 x.index && nat_lt x.index (0 + length image.tasks))) + 0
+times-image : (x : Name) (image : ImageValue)
+    → times_in x (opening image).stack ≡ one ((0 == x.creator) && (nat_le 0 x.index && nat_lt x.index (0 + length image.tasks))) + 0
 times-image x image = ap (λ n. n + 0) (times-numbered 0 (image_task image.kind) (λ k a. refl) x 0 image.tasks)
 
 -- what a count of a name says, and from what it follows
@@ -41,7 +44,8 @@ one-of : (a k : ℕ) (P : Type 0) → 1 ≤ a + k → (1 ≤ k → P) → (1 ≤
 one-of zero k P h make = inr (make (omega (arith, h)))
 one-of (suc a) k P h make = inl (omega arith)
 
-from-turn : (b : Bool) (a k m c : ℕ) (P : Type 0) → one b + m ≤ a + k → 1 ≤ one b + c → (1 ≤ c → (1 ≤ m) ⊎ P) → (1 ≤ k → P) → (1 ≤ a) ⊎ P
+from-turn : (b : Bool) (a k m c : ℕ) (P : Type 0) → one b + m ≤ a + k → 1 ≤ one b + c → (1 ≤ c → (1 ≤ m) ⊎ P)
+    → (1 ≤ k → P) → (1 ≤ a) ⊎ P
 from-turn true a k m c P le h later make = one-of a k P (omega (arith, le)) make
 from-turn false a k m c P le h later make = go (later (omega (arith, h))) where
   go : (1 ≤ m) ⊎ P → (1 ≤ a) ⊎ P
@@ -49,7 +53,8 @@ from-turn false a k m c P le h later make = go (later (omega (arith, h))) where
   go (inr made) = inr made
 
 -- a name that takes a turn is pending now, or a turn of the journal makes it
-made-before : (x : Name) (image : ImageValue) (budget : ℕ) (front : List Entry) (s : SerialState) → IsRun image budget front s → (es : List Entry) (after : SerialState) → Runs image budget s es after
+made-before : (x : Name) (image : ImageValue) (budget : ℕ) (front : List Entry) (s : SerialState)
+    → IsRun image budget front s → (es : List Entry) (after : SerialState) → Runs image budget s es after
     → 1 ≤ turns_of x es → (1 ≤ times_in x s.stack) ⊎ NameIsOfChild image budget (front ++ es) x
 made-before x image budget front s run [] after on h = absurd (omega (arith, h))
 made-before x image budget front s run (e ∷ es) after (mid, t, rest) h =
@@ -61,7 +66,8 @@ made-before x image budget front s run (e ∷ es) after (mid, t, rest) h =
     (made-before x image budget (front ++ e ∷ []) mid (Runs-more image budget front (opening image) s mid e run t) es after rest more) in
     let make : 1 ≤ times x (all_children (s.count + 1) 0 d.done.spawns)
     → NameIsOfChild image budget (front ++ e ∷ es) x =
-    λ one. let parts = one-parts (s.count + 1) x.creator x.index (length d.done.spawns) (omega (arith, one, times-children x (s.count + 1) d.done.spawns)) in
+    λ one. let parts =
+    one-parts (s.count + 1) x.creator x.index (length d.done.spawns) (omega (arith, one, times-children x (s.count + 1) d.done.spawns)) in
     record {
       before = front;
       state = s;
@@ -78,19 +84,25 @@ made-before x image budget front s run (e ∷ es) after (mid, t, rest) h =
     } in
     from-turn (is_same e.name x) (times_in x s.stack) _ (times_in x mid.stack) (turns_of x es) _ step h later make
 
-only-made : (image : ImageValue) (budget : ℕ) (journal : List Entry) (state : SerialState) → IsRun image budget journal state → (x : Name) → 1 ≤ turns_of x journal → NameIsMade image budget journal x
-only-made image budget journal state run x h = go (made-before x image budget [] (opening image) refl journal state run h) where
-  go : (1 ≤ times_in x (opening image).stack) ⊎ NameIsOfChild image budget journal x → NameIsMade image budget journal x
-  go (inl first) = inl (one-parts 0 x.creator x.index (length image.tasks) (omega (arith, first, times-image x image)))
-  go (inr made) = inr made
+only-made : (image : ImageValue) (budget : ℕ) (journal : List Entry) (state : SerialState)
+    → IsRun image budget journal state → (x : Name) → 1 ≤ turns_of x journal → NameIsMade image budget journal x
+only-made image budget journal state run x h =
+    go (made-before x image budget [] (opening image) refl journal state run h) where
+      go : (1 ≤ times_in x (opening image).stack) ⊎ NameIsOfChild image budget journal x → NameIsMade image budget journal x
+      go (inl first) = inl (one-parts 0 x.creator x.index (length image.tasks) (omega (arith, first, times-image x image)))
+      go (inr made) = inr made
 
 -- what was made takes a turn or is pending
-image-taken : (image : ImageValue) (budget : ℕ) (journal : List Entry) (state : SerialState) → IsRun image budget journal state → (x : Name) → NameIsOfImage image x → 1 ≤ turns_of x journal + times_in x state.stack
+image-taken : (image : ImageValue) (budget : ℕ) (journal : List Entry) (state : SerialState)
+    → IsRun image budget journal state → (x : Name) → NameIsOfImage image x
+    → 1 ≤ turns_of x journal + times_in x state.stack
 image-taken image budget journal state run x of =
     let kept = times_in-runs x image budget (opening image) journal state (AreNamed-opening image.kind image.tasks _ refl) run in
     omega (arith, kept, times-image x image, one-whole 0 x.creator x.index (length image.tasks) of.0 of.1)
 
-child-taken : (image : ImageValue) (budget : ℕ) (journal : List Entry) (state : SerialState) → IsRun image budget journal state → (x : Name) → NameIsOfChild image budget journal x → 1 ≤ turns_of x journal + times_in x state.stack
+child-taken : (image : ImageValue) (budget : ℕ) (journal : List Entry) (state : SerialState)
+    → IsRun image budget journal state → (x : Name) → NameIsOfChild image budget journal x
+    → 1 ≤ turns_of x journal + times_in x state.stack
 child-taken image budget journal state run x made =
     let taken = turn-taken image budget journal state made.before made.state made.entry run made.stands in
     let same = same_Some _ _ (sym taken.taken ∙ turn-done image budget made.state made.entry.name made.bag made.outer made.task made.done made.may made.ran) in
@@ -106,11 +118,14 @@ child-taken image budget journal state run x made =
     ∙ turns_of-append x made.before (made.entry ∷ made.stands.entries_behind) in
     omega (arith, step, kid, kept, whole, times-children x (made.state.count + 1) made.done.spawns)
 
-made-taken : (image : ImageValue) (budget : ℕ) (journal : List Entry) (state : SerialState) → IsRun image budget journal state → (x : Name) → NameIsMade image budget journal x → 1 ≤ turns_of x journal + times_in x state.stack
+made-taken : (image : ImageValue) (budget : ℕ) (journal : List Entry) (state : SerialState)
+    → IsRun image budget journal state → (x : Name) → NameIsMade image budget journal x
+    → 1 ≤ turns_of x journal + times_in x state.stack
 made-taken image budget journal state run x (inl of) = image-taken image budget journal state run x of
 made-taken image budget journal state run x (inr made) = child-taken image budget journal state run x made
 
-pub complete : (image : ImageValue) → (budget : ℕ) → (journal : List Entry) → (state : SerialState) → IsRun image budget journal state → IsCompleteRun image budget journal state
+pub complete : (image : ImageValue) → (budget : ℕ) → (journal : List Entry) → (state : SerialState)
+    → IsRun image budget journal state → IsCompleteRun image budget journal state
 complete image budget journal state run = record {
   only = only-made image budget journal state run;
   each = λ none x made.

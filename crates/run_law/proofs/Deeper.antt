@@ -1,5 +1,7 @@
 -- While a domain has a task, what commits after the task that made the domain is deeper than that task.
-use Rattle.std.proofs.Common.{◌≡◌, refl, sym, ap, ◌∙◌, subst, ◌≤◌, ◌<◌, ◌+◌, ◌==◌, ℕ, Bool, true, false, List, [], ◌∷◌, ◌++◌, length, Option, Some, None, if◌then◌else◌, arith, append_assoc, append-nil, length-append}
+use Rattle.std.proofs.Common.{◌≡◌, refl, sym, ap, ◌∙◌, subst, ◌≤◌, ◌<◌, ◌+◌, ◌==◌, ℕ, Bool, true, false, List, [], ◌∷◌}
+use Rattle.std.proofs.Common.{◌++◌, length, Option, Some, None, if◌then◌else◌, arith, append_assoc, append-nil}
+use Rattle.std.proofs.Common.{length-append}
 use Rattle.std.specs.List.{AllByRecursion}
 use Rattle.guest_image.specs.ImageValue.{ImageValue}
 use Rattle.guest_image.specs.declared.image.Kind.{Kind}
@@ -40,7 +42,8 @@ AreBelow-more : (a b : ℕ) (stack : List BagValue) → a ≤ b → AreBelow a s
 AreBelow-more a b [] le h = tt
 AreBelow-more a b (x ∷ xs) le h = (omega (arith, h.0), h.1)
 
-AreOwned-inner : (journal : List Entry) (stack : List BagValue) → AreOwned journal stack → AreOwned journal (inner stack)
+AreOwned-inner : (journal : List Entry) (stack : List BagValue) → AreOwned journal stack
+    → AreOwned journal (inner stack)
 AreOwned-inner journal [] h = tt
 AreOwned-inner journal (bag ∷ outer) h = go (AreOwned-inner journal outer h.1) (length bag.tasks == 0) where
   go : AreOwned journal (inner outer) → (b : Bool) → AreOwned journal (if b then inner outer else bag ∷ outer)
@@ -55,11 +58,13 @@ AreBelow-inner d (bag ∷ outer) h = go (AreBelow-inner bag.depth outer h.1) (le
   go ih false = h
 
 -- one entry more
-deeper-more : (d : ℕ) (xs : List Entry) (e : Entry) → AllByRecursion (λ x. d < x.depth) xs → d < e.depth → AllByRecursion (λ x. d < x.depth) (xs ++ e ∷ [])
+deeper-more : (d : ℕ) (xs : List Entry) (e : Entry) → AllByRecursion (λ x. d < x.depth) xs → d < e.depth
+    → AllByRecursion (λ x. d < x.depth) (xs ++ e ∷ [])
 deeper-more d [] e h lt = (lt, tt)
 deeper-more d (x ∷ xs) e h lt = (h.0, deeper-more d xs e h.1 lt)
 
-HasOwner-more : (journal : List Entry) (e : Entry) (owner depth : ℕ) → HasOwner journal owner depth → depth ≤ e.depth → HasOwner (journal ++ e ∷ []) owner depth
+HasOwner-more : (journal : List Entry) (e : Entry) (owner depth : ℕ) → HasOwner journal owner depth → depth ≤ e.depth
+    → HasOwner (journal ++ e ∷ []) owner depth
 HasOwner-more journal e owner depth h le = record {
   earlier = h.earlier;
   owner_entry = h.owner_entry;
@@ -70,31 +75,40 @@ HasOwner-more journal e owner depth h le = record {
   deeper = deeper-more h.owner_entry.depth h.between e h.deeper (omega (arith, h.outside, le));
 }
 
-AreOwned-more : (journal : List Entry) (e : Entry) (d : ℕ) (stack : List BagValue) → AreOwned journal stack → AreBelow d stack → d ≤ e.depth → AreOwned (journal ++ e ∷ []) stack
+AreOwned-more : (journal : List Entry) (e : Entry) (d : ℕ) (stack : List BagValue) → AreOwned journal stack
+    → AreBelow d stack → d ≤ e.depth → AreOwned (journal ++ e ∷ []) stack
 AreOwned-more journal e d [] h b le = tt
-AreOwned-more journal e d (x ∷ xs) h b le = (λ one. HasOwner-more journal e x.owner x.depth (h.0 one) (omega (arith, b.0, le)), AreOwned-more journal e x.depth xs h.1 b.1 (omega (arith, b.0, le)))
+AreOwned-more journal e d (x ∷ xs) h b le =
+    (λ one. HasOwner-more journal e x.owner x.depth (h.0 one) (omega (arith, b.0, le)), AreOwned-more journal e x.depth xs h.1 b.1 (omega (arith, b.0, le)))
 
-AreOwned-super : (journal : List Entry) (tasks : List PendingTask) (stack : List BagValue) → AreOwned journal stack → AreOwned journal (with_super tasks stack)
+AreOwned-super : (journal : List Entry) (tasks : List PendingTask) (stack : List BagValue) → AreOwned journal stack
+    → AreOwned journal (with_super tasks stack)
 AreOwned-super journal tasks [] h = tt
 AreOwned-super journal tasks (b ∷ bs) h = h
 
-AreBelow-super : (d : ℕ) (tasks : List PendingTask) (stack : List BagValue) → AreBelow d stack → AreBelow d (with_super tasks stack)
+AreBelow-super : (d : ℕ) (tasks : List PendingTask) (stack : List BagValue) → AreBelow d stack
+    → AreBelow d (with_super tasks stack)
 AreBelow-super d tasks [] h = tt
 AreBelow-super d tasks (b ∷ bs) h = h
 
 -- the bag of a new domain has as its owner the task that made the domain
-AreOwned-sub : (journal : List Entry) (e : Entry) (depth floor n : ℕ) (tasks : List PendingTask) (sub : Option Kind) (rest : List BagValue) → n ≡ length journal + 1 → e.depth + 1 ≡ depth
+AreOwned-sub : (journal : List Entry) (e : Entry) (depth floor n : ℕ) (tasks : List PendingTask) (sub : Option Kind) (rest : List BagValue)
+    → n ≡ length journal + 1 → e.depth + 1 ≡ depth
     → AreOwned (journal ++ e ∷ []) rest → AreOwned (journal ++ e ∷ []) (sub_bags depth floor n tasks sub ++ rest)
 AreOwned-sub journal e depth floor n tasks None rest count is h = h
 AreOwned-sub journal e depth floor n tasks (Some kind) rest count is h = go (length tasks == 0) where
-  go : (b : Bool) → AreOwned (journal ++ e ∷ []) ((if b then [] else record { depth = depth; kind = kind; floor = floor; owner = n; tasks = tasks } ∷ []) ++ rest)
+  go : (b : Bool)
+      → AreOwned (journal ++ e ∷ []) ((if b then [] else record { depth = depth; kind = kind; floor = floor; owner = n; tasks = tasks } ∷ []) ++ rest)
   go true = h
-  go false = (λ one. record { earlier = journal; owner_entry = e; between = []; stands = refl; number = count; outside = is; deeper = tt }, h)
+  go false =
+      (λ one. record { earlier = journal; owner_entry = e; between = []; stands = refl; number = count; outside = is; deeper = tt }, h)
 
-AreBelow-sub : (depth floor n : ℕ) (tasks : List PendingTask) (sub : Option Kind) (rest : List BagValue) → AreBelow depth rest → AreBelow depth (sub_bags depth floor n tasks sub ++ rest)
+AreBelow-sub : (depth floor n : ℕ) (tasks : List PendingTask) (sub : Option Kind) (rest : List BagValue)
+    → AreBelow depth rest → AreBelow depth (sub_bags depth floor n tasks sub ++ rest)
 AreBelow-sub depth floor n tasks None rest h = h
 AreBelow-sub depth floor n tasks (Some kind) rest h = go (length tasks == 0) where
-  go : (b : Bool) → AreBelow depth ((if b then [] else record { depth = depth; kind = kind; floor = floor; owner = n; tasks = tasks } ∷ []) ++ rest)
+  go : (b : Bool)
+      → AreBelow depth ((if b then [] else record { depth = depth; kind = kind; floor = floor; owner = n; tasks = tasks } ∷ []) ++ rest)
   go true = h
   go false = (omega arith, h)
 
@@ -117,7 +131,8 @@ stack-after journal e bag outer name n ts d spawns sub owned below count depth =
   AreBelow-sub (bag.depth + 1) ts n (children Sub n spawns) sub _ (omega arith, AreBelow-super bag.depth (children Super n spawns) outer below.1),
 )
 
-IsNested-turn : (image : ImageValue) (budget : ℕ) (journal : List Entry) (s mid : SerialState) (e : Entry) → IsNested journal s → turn image budget s e.name ≡ Some (mid, e) → IsNested (journal ++ e ∷ []) mid
+IsNested-turn : (image : ImageValue) (budget : ℕ) (journal : List Entry) (s mid : SerialState) (e : Entry)
+    → IsNested journal s → turn image budget s e.name ≡ Some (mid, e) → IsNested (journal ++ e ∷ []) mid
 IsNested-turn image budget journal s mid e h t =
     let d = turn-did image budget s mid e.name e t in
     let owned = subst (AreOwned journal) d.may.top (AreOwned-inner journal s.stack h.owned) in
@@ -132,8 +147,10 @@ IsNested-turn image budget journal s mid e h t =
       below = subst (λ m. AreBelow (d.bag.depth + 1) m.stack) (sym d.state) both.1;
     }
 
-IsNested-runs : (image : ImageValue) (budget : ℕ) (journal : List Entry) (s : SerialState) (es : List Entry) (after : SerialState) → IsNested journal s → Runs image budget s es after → IsNested (journal ++ es) after
-IsNested-runs image budget journal s [] after h r = subst (IsNested (journal ++ [])) r (subst (λ j. IsNested j s) (sym (append-nil journal)) h)
+IsNested-runs : (image : ImageValue) (budget : ℕ) (journal : List Entry) (s : SerialState) (es : List Entry) (after : SerialState)
+    → IsNested journal s → Runs image budget s es after → IsNested (journal ++ es) after
+IsNested-runs image budget journal s [] after h r =
+    subst (IsNested (journal ++ [])) r (subst (λ j. IsNested j s) (sym (append-nil journal)) h)
 IsNested-runs image budget journal s (e ∷ es) after h (mid, t, rest) =
     subst (λ j. IsNested j after) (append_assoc journal (e ∷ []) es) (IsNested-runs image budget (journal ++ e ∷ []) mid es after (IsNested-turn image budget journal s mid e h t) rest)
 
@@ -145,7 +162,8 @@ IsNested-opening image = record {
   below = (omega arith, tt);
 }
 
-pub deeper : (image : ImageValue) → (budget : ℕ) → (journal : List Entry) → (state : SerialState) → IsRun image budget journal state → AreDeeper image budget journal
+pub deeper : (image : ImageValue) → (budget : ℕ) → (journal : List Entry) → (state : SerialState)
+    → IsRun image budget journal state → AreDeeper image budget journal
 deeper image budget journal state run before s entry t bag outer top one =
     let nested = IsNested-runs image budget [] (opening image) before s (IsNested-opening image) t.run in
     let taken = turn-taken image budget journal state before s entry run t in

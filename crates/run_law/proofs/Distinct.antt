@@ -1,5 +1,6 @@
 -- No name takes two turns.
-use Rattle.std.proofs.Common.{◌≡◌, refl, sym, ap, ◌∙◌, subst, ◌≤◌, ◌+◌, ◌==◌, ◌&&◌, not, nat_le, ℕ, Bool, true, false, List, [], ◌∷◌, ◌++◌, Option, Some, if◌then◌else◌, arith}
+use Rattle.std.proofs.Common.{◌≡◌, refl, sym, ap, ◌∙◌, subst, ◌≤◌, ◌+◌, ◌==◌, ◌&&◌, not, nat_le, ℕ, Bool, true, false}
+use Rattle.std.proofs.Common.{List, [], ◌∷◌, ◌++◌, Option, Some, if◌then◌else◌, arith}
 use Rattle.std.proofs.lemmas.Grind.{common_steps}
 use Rattle.std.proofs.lemmas.Option.{none-some}
 use Rattle.std.proofs.lemmas.Bool.Decides.{nat_tests}
@@ -15,7 +16,9 @@ use Rattle.serial_machine.specs.State.{SerialState}
 use Rattle.serial_machine.specs.Names.{one, times, times_in}
 use Rattle.serial_machine.specs.Turn.{is_named, without_name, stack_after, children, with_super, find_named}
 use Rattle.serial_machine.specs.Run.{Runs, IsRun, opening}
-use Rattle.serial_machine.proofs.Proved.{AreNamed-opening, all_children, children-fresh, children_for, times-append, times-children, times-without_name, times_in-inner, times_in-sub, times_in-super}
+use Rattle.serial_machine.proofs.Proved.{AreNamed-opening, all_children, children-fresh, children_for, times-append}
+use Rattle.serial_machine.proofs.Proved.{times-children, times-without_name, times_in-inner, times_in-sub}
+use Rattle.serial_machine.proofs.Proved.{times_in-super}
 use Rattle.run_law.specs.Laws.{is_same, turns_of, TurnsAreDistinct}
 use Rattle.run_law.proofs.Turned.{Turned, turn-did}
 
@@ -27,15 +30,18 @@ one-same x name own h = grind (arith, nat_tests, common_steps)
 times-taken : (x name : Name) (tasks : List PendingTask) (t : PendingTask) → find_named name tasks ≡ Some t
     → one (is_same name x) + times x (without_name name tasks) ≤ times x tasks
 times-taken x name [] t found = absurd (none-some _ found)
-times-taken x name (u ∷ us) t found = go (is_named name u) refl found (times-taken x name us t) (times-without_name x name us) where
-  go : (b : Bool) → is_named name u ≡ b → (if b then Some u else find_named name us) ≡ Some t
-      → (find_named name us ≡ Some t → one (is_same name x) + times x (without_name name us) ≤ times x us) → times x (without_name name us) ≤ times x us
-      → one (is_same name x) + times x (if not b then u ∷ without_name name us else without_name name us) ≤ one (is_named x u) + times x us
-  go true e f ih le = omega (arith, le, one-same x name u.name e)
-  go false e f ih le = omega (arith, ih f)
+times-taken x name (u ∷ us) t found =
+    go (is_named name u) refl found (times-taken x name us t) (times-without_name x name us) where
+      go : (b : Bool) → is_named name u ≡ b → (if b then Some u else find_named name us) ≡ Some t
+          → (find_named name us ≡ Some t → one (is_same name x) + times x (without_name name us) ≤ times x us)
+          → times x (without_name name us) ≤ times x us
+          → one (is_same name x) + times x (if not b then u ∷ without_name name us else without_name name us) ≤ one (is_named x u) + times x us
+      go true e f ih le = omega (arith, le, one-same x name u.name e)
+      go false e f ih le = omega (arith, ih f)
 
 -- a turn adds to a stack, without the name that took it, at most its children
-after-taken : (x : Name) (bag : BagValue) (outer : List BagValue) (name : Name) (n ts : ℕ) (spawns : List Spawn) (sub : Option Kind) (t : PendingTask) → find_named name bag.tasks ≡ Some t
+after-taken : (x : Name) (bag : BagValue) (outer : List BagValue) (name : Name) (n ts : ℕ) (spawns : List Spawn) (sub : Option Kind) (t : PendingTask)
+    → find_named name bag.tasks ≡ Some t
     → one (is_same name x) + times_in x (stack_after bag outer name n ts spawns sub) ≤ times_in x (bag ∷ outer) + times x (all_children n 0 spawns)
 unfolding stack_after children
 after-taken x bag outer name n ts spawns sub t found = omega (
@@ -47,7 +53,8 @@ after-taken x bag outer name n ts spawns sub t found = omega (
   times-children x n 0 spawns,
 )
 
-pub turn-at-most : (x : Name) (image : ImageValue) (budget : ℕ) (s mid : SerialState) (e : Entry) → (d : Turned image budget s mid e.name e)
+pub turn-at-most : (x : Name) (image : ImageValue) (budget : ℕ) (s mid : SerialState) (e : Entry)
+    → (d : Turned image budget s mid e.name e)
     → one (is_same e.name x) + times_in x mid.stack
     ≤ times_in x s.stack + times x (all_children (s.count + 1) 0 d.done.spawns)
 turn-at-most x image budget s mid e d =
@@ -61,9 +68,12 @@ turn-at-most x image budget s mid e d =
 one-more : (c i n m k : ℕ) → m ≡ n + 1 → k ≤ one ((n + 1 == c) && nat_le 0 i) → one (nat_le c n) + k ≤ one (nat_le c m)
 one-more c i n m k e h = grind (arith, nat_tests, common_steps)
 
-turns-fit : (x : Name) (image : ImageValue) (budget : ℕ) (s : SerialState) (journal : List Entry) (after : SerialState) (k : ℕ) → Runs image budget s journal after
-    → k + times_in x s.stack ≤ one (nat_le x.creator s.count) → k + turns_of x journal + times_in x after.stack ≤ one (nat_le x.creator after.count)
-turns-fit x image budget s [] after k run h = subst (λ z. k + 0 + times_in x z.stack ≤ one (nat_le x.creator z.count)) run (omega (arith, h))
+turns-fit : (x : Name) (image : ImageValue) (budget : ℕ) (s : SerialState) (journal : List Entry) (after : SerialState) (k : ℕ)
+    → Runs image budget s journal after
+    → k + times_in x s.stack ≤ one (nat_le x.creator s.count)
+    → k + turns_of x journal + times_in x after.stack ≤ one (nat_le x.creator after.count)
+turns-fit x image budget s [] after k run h =
+    subst (λ z. k + 0 + times_in x z.stack ≤ one (nat_le x.creator z.count)) run (omega (arith, h))
 turns-fit x image budget s (e ∷ es) after k (mid, t, rest) h =
     let d = turn-did image budget s mid e.name e t in
     let count : mid.count ≡ s.count + 1 = ap (λ m. m.count) d.state in
@@ -76,7 +86,8 @@ pub at_most_one : (b : Bool) → one b ≤ 1
 at_most_one true = omega arith
 at_most_one false = omega arith
 
-pub distinct : (image : ImageValue) → (budget : ℕ) → (journal : List Entry) → (state : SerialState) → IsRun image budget journal state → TurnsAreDistinct journal
+pub distinct : (image : ImageValue) → (budget : ℕ) → (journal : List Entry) → (state : SerialState)
+    → IsRun image budget journal state → TurnsAreDistinct journal
 distinct image budget journal state run name =
     let base = AreNamed-opening image.kind image.tasks _ refl name in
     let all = turns-fit name image budget (opening image) journal state 0 run (omega (arith, base)) in

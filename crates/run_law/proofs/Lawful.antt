@@ -10,7 +10,8 @@ use Rattle.run_law.proofs.Complete.{complete}
 use Rattle.run_law.proofs.Deeper.{deeper}
 use Rattle.run_law.proofs.Forced.{forced}
 
-pub lawful : (image : ImageValue) → (budget : ℕ) → (journal : List Entry) → (state : SerialState) → IsRun image budget journal state → AreLawful image budget journal state
+pub lawful : (image : ImageValue) → (budget : ℕ) → (journal : List Entry) → (state : SerialState)
+    → IsRun image budget journal state → AreLawful image budget journal state
 lawful image budget journal state run = record {
   distinct = distinct image budget journal state run;
   complete = complete image budget journal state run;

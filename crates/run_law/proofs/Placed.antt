@@ -30,26 +30,31 @@ abbrev pub HaveDomains : Option Kind → Option Kind → List Spawn → Type 0
 HaveDomains outer sub [] = Unit {0}
 HaveDomains outer sub (s ∷ ss) = HasDomain outer sub s.place × HaveDomains outer sub ss
 
-HaveDomains-more : (outer sub : Option Kind) (spawns : List Spawn) (spawn : Spawn) → HaveDomains outer sub spawns → HasDomain outer sub spawn.place → HaveDomains outer sub (spawns ++ spawn ∷ [])
+HaveDomains-more : (outer sub : Option Kind) (spawns : List Spawn) (spawn : Spawn) → HaveDomains outer sub spawns
+    → HasDomain outer sub spawn.place → HaveDomains outer sub (spawns ++ spawn ∷ [])
 HaveDomains-more outer sub [] spawn h here = (here, tt)
 HaveDomains-more outer sub (s ∷ ss) spawn h here = (h.0, HaveDomains-more outer sub ss spawn h.1 here)
 
 -- a subdomain more
-HasDomain-sub : (outer sub : Option Kind) (kind : Kind) (place : Place) → HasDomain outer sub place → HasDomain outer (Some kind) place
+HasDomain-sub : (outer sub : Option Kind) (kind : Kind) (place : Place) → HasDomain outer sub place
+    → HasDomain outer (Some kind) place
 HasDomain-sub outer sub kind Same h = tt
 HasDomain-sub outer sub kind Sub h = refl
 HasDomain-sub outer sub kind Super h = h
 
-HaveDomains-sub : (outer sub : Option Kind) (kind : Kind) (spawns : List Spawn) → HaveDomains outer sub spawns → HaveDomains outer (Some kind) spawns
+HaveDomains-sub : (outer sub : Option Kind) (kind : Kind) (spawns : List Spawn) → HaveDomains outer sub spawns
+    → HaveDomains outer (Some kind) spawns
 HaveDomains-sub outer sub kind [] h = tt
-HaveDomains-sub outer sub kind (s ∷ ss) h = (HasDomain-sub outer sub kind s.place h.0, HaveDomains-sub outer sub kind ss h.1)
+HaveDomains-sub outer sub kind (s ∷ ss) h =
+    (HasDomain-sub outer sub kind s.place h.0, HaveDomains-sub outer sub kind ss h.1)
 
 -- the task has made each child for a domain that there is
 abbrev pub IsPlaced : Option Kind → TaskState → Type 0
 IsPlaced outer task = HaveDomains outer task.sub task.spawns
 
 -- an enqueue that is allowed is to a domain that there is
-allowed_spawn-placed : (ctx : Ctx) (spawn : Spawn) (ts : ℕ) → allowed_spawn ctx spawn ≡ Ok ts → HasDomain ctx.outer ctx.sub spawn.place
+allowed_spawn-placed : (ctx : Ctx) (spawn : Spawn) (ts : ℕ) → allowed_spawn ctx spawn ≡ Ok ts
+    → HasDomain ctx.outer ctx.sub spawn.place
 allowed_spawn-placed ctx spawn ts allows = by_place spawn.place allows
   where
     by_sub : (o : Option Kind) → allowed_sub ctx spawn.ts o ≡ Ok ts → IsSome o
@@ -66,7 +71,8 @@ allowed_spawn-placed ctx spawn ts allows = by_place spawn.place allows
     by_place Super at = by_super ctx.outer at
 
 -- each request that is allowed keeps it
-pub request-placed : (ctx : Ctx) (task : TaskState) (asked : Request) → AllowedBy (context ctx task) asked → IsPlaced ctx.outer task
+pub request-placed : (ctx : Ctx) (task : TaskState) (asked : Request) → AllowedBy (context ctx task) asked
+    → IsPlaced ctx.outer task
     → HoldsAfter (IsPlaced ctx.outer) (after_request task asked)
 request-placed ctx task request.Continue allows placed = placed
 request-placed ctx task (request.Load width rd offset) allows placed = placed
@@ -76,7 +82,8 @@ request-placed ctx task (request.Enqueue child) allows placed =
     let there : HasDomain ctx.outer task.sub spawn.place = allowed_spawn-placed (context ctx task) spawn child.ts is_allowed in
     HaveDomains-more ctx.outer task.sub task.spawns child placed
     (subst (HasDomain ctx.outer task.sub) (sym (ap (λ s. s.place) is)) there)
-request-placed ctx task (request.MakeSub kind) allows placed = HaveDomains-sub ctx.outer task.sub kind task.spawns placed
+request-placed ctx task (request.MakeSub kind) allows placed =
+    HaveDomains-sub ctx.outer task.sub kind task.spawns placed
 request-placed ctx task (request.Emit byte) allows placed = placed
 request-placed ctx task request.End allows placed = placed
 request-placed ctx task (request.Trap cause) allows placed = tt

@@ -11,13 +11,15 @@ use Rattle.run_law.specs.Laws.{IsTurnOf}
 
 -- a run is a run of its first entries and then one of the others
 pub Runs-append : (image : ImageValue) (budget : ℕ) (es more : List Entry) (s after : SerialState)
-    → Runs image budget s (es ++ more) after → (mid : SerialState) × Runs image budget s es mid × Runs image budget mid more after
+    → Runs image budget s (es ++ more) after
+    → (mid : SerialState) × Runs image budget s es mid × Runs image budget mid more after
 Runs-append image budget [] more s after run = (s, refl, run)
 Runs-append image budget (e ∷ es) more s after (mid, t, run) =
     let parts = Runs-append image budget es more mid after run in (parts.0, (mid, t, parts.1), parts.2)
 
 -- where the same entries lead is the same
-pub Runs-same : (image : ImageValue) (budget : ℕ) (es : List Entry) (s one two : SerialState) → Runs image budget s es one → Runs image budget s es two → one ≡ two
+pub Runs-same : (image : ImageValue) (budget : ℕ) (es : List Entry) (s one two : SerialState)
+    → Runs image budget s es one → Runs image budget s es two → one ≡ two
 Runs-same image budget [] s one two a b = sym a ∙ b
 Runs-same image budget (e ∷ es) s one two (mid, t, a) (other, u, b) =
     let same : mid ≡ other = ap (λ p. p.0) (same_Some _ _ (sym t ∙ u)) in
@@ -30,7 +32,8 @@ pub record IsTaken (image : ImageValue) (budget : ℕ) (before : SerialState) (e
   pub on : Runs image budget after rest last
 
 pub turn-taken : (image : ImageValue) (budget : ℕ) (journal : List Entry) (last : SerialState) (front : List Entry) (before : SerialState) (entry : Entry)
-    → IsRun image budget journal last → (t : IsTurnOf image budget journal front before entry) → IsTaken image budget before entry t.entries_behind last
+    → IsRun image budget journal last → (t : IsTurnOf image budget journal front before entry)
+    → IsTaken image budget before entry t.entries_behind last
 turn-taken image budget journal last front before entry run t =
     let parts = Runs-append image budget front (entry ∷ t.entries_behind) (opening image) last (subst (λ j. Runs image budget (opening image) j last) t.stands run) in
     let same : parts.0 ≡ before = Runs-same image budget front (opening image) parts.0 before parts.1 t.run in

@@ -12,7 +12,8 @@ use Rattle.rv_core.specs.Legs.{next_at, effect_next}
 
 -- within the budget and the text, what comes of the instruction's effect
 pub next_at-effect : (image : ImageValue) (size budget : ℕ) (core : Core) (word : ℕ) (instr : Instr) (effect : Effect)
-    → core.used < budget → fetched_word image.text core.pc ≡ Some word → instr_of_word word ≡ Some instr → acts_on core.pc core.regs instr ≡ effect
+    → core.used < budget → fetched_word image.text core.pc ≡ Some word → instr_of_word word ≡ Some instr
+    → acts_on core.pc core.regs instr ≡ effect
     → next_at image size budget core ≡ effect_next image size core effect
 unfolding next_at
 next_at-effect image size budget core word instr effect used there reads does =

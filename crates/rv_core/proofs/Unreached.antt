@@ -1,5 +1,6 @@
 -- A task of version 1 neither reads nor writes a stack.
-use Rattle.std.proofs.Common.{◌≡◌, ℕ, zero, suc, [], ◌%◌, ◌==◌, not, Bool, true, false, List, Option, Some, None, refl, ap, nat_lt, if◌then◌else◌, sym, ◌∙◌}
+use Rattle.std.proofs.Common.{◌≡◌, ℕ, zero, suc, [], ◌%◌, ◌==◌, not, Bool, true, false, List, Option, Some, None, refl}
+use Rattle.std.proofs.Common.{ap, nat_lt, if◌then◌else◌, sym, ◌∙◌}
 use Rattle.std.specs.Option.{option_or}
 use Rattle.guest_image.specs.ImageValue.{ImageValue}
 use Rattle.guest_image.specs.Fetch.{fetched_word, text_loaded}
@@ -15,12 +16,14 @@ use Rattle.rv_core.specs.declared.state.Core.{Core}
 use Rattle.rv_core.specs.declared.state.Stop.TheVariants as stop
 use Rattle.rv_core.specs.Next.{Next, Goes, Stops}
 use Rattle.rv_core.specs.Memory.{is_within, load_width, store_width, stack_loaded}
-use Rattle.rv_core.specs.Legs.{next_at, word_next, instr_next, effect_next, load_next, store_next, plain_loaded, traps, PlainInstruction, PlainInstructions}
+use Rattle.rv_core.specs.Legs.{next_at, word_next, instr_next, effect_next, load_next, store_next, plain_loaded, traps}
+use Rattle.rv_core.specs.Legs.{PlainInstruction, PlainInstructions}
 use Rattle.rv_core.specs.LegValue.{LegValue, IsLegOfImage}
 use Rattle.rv_core.specs.Stackless.{with_stack, next_with_stack, NoAddressReachesAStack, LegsKeepTheStack}
 
 -- of either of two ways
-either_way : (stack : List ℕ) (test : Bool) (a b one other : Next) → a ≡ next_with_stack stack one → b ≡ next_with_stack stack other
+either_way : (stack : List ℕ) (test : Bool) (a b one other : Next) → a ≡ next_with_stack stack one
+    → b ≡ next_with_stack stack other
     → (if test then a else b) ≡ next_with_stack stack (if test then one else other)
 either_way stack true a b one other here there = here
 either_way stack false a b one other here there = there
@@ -67,10 +70,12 @@ effect_alike image size core stack first does.Call = refl
 effect_alike image size core stack first does.Break = refl
 effect_alike image size core stack first does.Misaligned = refl
 
-instr_alike : (image : ImageValue) (size : ℕ) (core : Core) (stack : List ℕ) → image.version ≡ 1 → (instr : Option Instr)
+instr_alike : (image : ImageValue) (size : ℕ) (core : Core) (stack : List ℕ) → image.version ≡ 1
+    → (instr : Option Instr)
     → instr_next image size (with_stack stack core) instr ≡ next_with_stack stack (instr_next image size core instr)
 instr_alike image size core stack first None = refl
-instr_alike image size core stack first (Some instr) = effect_alike image size core stack first (acts_on core.pc core.regs instr)
+instr_alike image size core stack first (Some instr) =
+    effect_alike image size core stack first (acts_on core.pc core.regs instr)
 
 word_alike : (image : ImageValue) (size : ℕ) (core : Core) (stack : List ℕ) → image.version ≡ 1 → (word : Option ℕ)
     → word_next image size (with_stack stack core) word ≡ next_with_stack stack (word_next image size core word)
@@ -89,17 +94,20 @@ stack_of (Goes core) = core.stack
 stack_of (Stops found) = []
 
 -- a plain instruction of version 1 leaves the stack as it was
-plain_keeps : (image : ImageValue) (size budget : ℕ) (from to : Core) → image.version ≡ 1 → PlainInstruction image size budget from to
+plain_keeps : (image : ImageValue) (size budget : ℕ) (from to : Core) → image.version ≡ 1
+    → PlainInstruction image size budget from to
     → to.stack ≡ from.stack
 plain_keeps image size budget from to first step =
     ap stack_of (sym step ∙ no_address_reaches image size budget from from.stack first ∙ ap (next_with_stack from.stack) step)
 
 -- so do any number of them
-pub all_plain_keep : (image : ImageValue) (size budget n : ℕ) (from to : Core) → image.version ≡ 1 → PlainInstructions image size budget n from to
+pub all_plain_keep : (image : ImageValue) (size budget n : ℕ) (from to : Core) → image.version ≡ 1
+    → PlainInstructions image size budget n from to
     → to.stack ≡ from.stack
 all_plain_keep image size budget zero from to first same = ap (λ (core : Core). core.stack) (sym same)
 all_plain_keep image size budget (suc n) from to first (mid, front, last) =
     plain_keeps image size budget mid to first last ∙ all_plain_keep image size budget n from mid first front
 
 pub legs_keep_the_stack : LegsKeepTheStack
-legs_keep_the_stack image budget leg run first = all_plain_keep image image.data_size budget leg.steps leg.from leg.to first run.run
+legs_keep_the_stack image budget leg run first =
+    all_plain_keep image image.data_size budget leg.steps leg.from leg.to first run.run

@@ -1,6 +1,7 @@
 -- The rows of the table are apart: a test on each pair of them finds a fixed field in which they differ. So each row
 -- gives the instruction of every word that fits it.
-use Rattle.std.proofs.Common.{◌≡◌, ℕ, ◌==◌, ◌&&◌, ◌||◌, not, Bool, true, false, Option, Some, None, List, [], ◌∷◌, refl, ap, arith, suc, ◌<◌, length}
+use Rattle.std.proofs.Common.{◌≡◌, ℕ, ◌==◌, ◌&&◌, ◌||◌, not, Bool, true, false, Option, Some, None, List, [], ◌∷◌, refl}
+use Rattle.std.proofs.Common.{ap, arith, suc, ◌<◌, length}
 use Rattle.std.specs.List.{list_all, All, AllPairs}
 use Rattle.std.proofs.lemmas.List.Sums.{AllPass-from_list_all}
 use Rattle.std.proofs.lemmas.List.Elements.{All-cons}
@@ -67,7 +68,12 @@ has_fixed (Funct3 f3 op) word h =
 has_fixed (Funct7 f7 f3 op) word h =
     let (upper, op_is) = and_parts _ _ h in
     let (seven, three) = and_parts _ _ upper in
-    record { opcode_is = eqb-true _ _ op_is; funct3_is = eqb-true _ _ three; funct7_is = eqb-true _ _ seven; word_is = tt }
+    record {
+      opcode_is = eqb-true _ _ op_is;
+      funct3_is = eqb-true _ _ three;
+      funct7_is = eqb-true _ _ seven;
+      word_is = tt;
+    }
 has_fixed (Word v) word h =
     let same : word ≡ v = eqb-true _ _ h in
     record { opcode_is = ap opcode same; funct3_is = ap funct3 same; funct7_is = ap funct7 same; word_is = same }

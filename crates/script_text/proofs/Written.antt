@@ -15,12 +15,14 @@ tap_at lists i d lt = let k : 0 + i ≡ i = omega arith in rw (get_or-enumerate_
 -- one tap more
 pub tap_written : {E : Type 0} (lists : List (List ℕ)) (i : ℕ) (list : List ℕ) (a b c : SinkState) → i < length lists
     → get_or lists i list ≡ list → Wrote a b (flat_map tap_lines (take i (enumerate_from 0 lists)))
-    → Writes {E = E} b c (Ok tt) (tap_lines (i, list)) → Wrote a c (flat_map tap_lines (take (i + 1) (enumerate_from 0 lists)))
+    → Writes {E = E} b c (Ok tt) (tap_lines (i, list))
+    → Wrote a c (flat_map tap_lines (take (i + 1) (enumerate_from 0 lists)))
 tap_written {E} lists i list a b c lt at w h =
     wrote_item {E = E} tap_lines (enumerate_from 0 lists) i (0, list) a b c (rw length-enumerate_from lt) w (rw (tap_at lists i list lt, at) h)
 
 -- and then a front of one
-pub tap_failed : {E : Type 0} (lists : List (List ℕ)) (i : ℕ) (list : List ℕ) (a b c : SinkState) (e : E) → i < length lists
+pub tap_failed : {E : Type 0} (lists : List (List ℕ)) (i : ℕ) (list : List ℕ) (a b c : SinkState) (e : E)
+    → i < length lists
     → get_or lists i list ≡ list → Wrote a b (flat_map tap_lines (take i (enumerate_from 0 lists)))
     → Writes b c (Err e) (tap_lines (i, list)) → Writes a c (Err e) (flat_map tap_lines (enumerate_from 0 lists))
 tap_failed lists i list a b c e lt at w h =
@@ -30,7 +32,8 @@ tap_failed lists i list a b c e lt at w h =
 pub taps_written : {E : Type 0} (lists : List (List ℕ)) (i : ℕ) (a b : SinkState) → i ≡ length lists
     → Wrote a b (flat_map tap_lines (take i (enumerate_from 0 lists)))
     → Writes {E = E} a b (Ok tt) (flat_map tap_lines (enumerate_from 0 lists))
-taps_written {E} lists i a b e w = wrote_items {E = E} tap_lines (enumerate_from 0 lists) i a b (rw length-enumerate_from e) w
+taps_written {E} lists i a b e w =
+    wrote_items {E = E} tap_lines (enumerate_from 0 lists) i a b (rw length-enumerate_from e) w
 
 -- the items of the vector at a place
 pub items_at : {X : Type 0} (f : X → List ℕ) (xs : List X) (i : ℕ) (x : X) → i < length xs → get_or xs i x ≡ x

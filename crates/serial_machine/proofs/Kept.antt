@@ -13,7 +13,9 @@ use Rattle.task_request.specs.Effects.{after_request}
 use Rattle.task_request.proofs.Proved.{after_request-size, AllowedBy, HasSize, request_at-allowed_spawn}
 use Rattle.task_request.proofs.Proved.{sub_allowed-limits}
 use Rattle.serial_machine.specs.Legs.{SubFits}
-use Rattle.serial_machine.specs.TaskRun.{context, task_at_start, after_next, after_instruction, task_end_after, after_instructions, task_run, Continuation, Continues, Ends, Traps, TaskEnd, Done, Trapped}
+use Rattle.serial_machine.specs.TaskRun.{context, task_at_start, after_next, after_instruction, task_end_after}
+use Rattle.serial_machine.specs.TaskRun.{after_instructions, task_run, Continuation, Continues, Ends, Traps, TaskEnd}
+use Rattle.serial_machine.specs.TaskRun.{Done, Trapped}
 
 module _ (Holds : TaskState → Type 0) where
   -- where the task goes on or ends behind an instruction, this holds of it
@@ -27,7 +29,8 @@ module _ (Holds : TaskState → Type 0) where
   EndHolds (Done task) = Holds task
   EndHolds (Trapped cause pc) = Unit {0}
 
-  task_end_after-holds : (rest : TaskState → TaskEnd) (x : Continuation) → HoldsAfter x → ((t : TaskState) → Holds t → EndHolds (rest t)) → EndHolds (task_end_after rest x)
+  task_end_after-holds : (rest : TaskState → TaskEnd) (x : Continuation) → HoldsAfter x
+      → ((t : TaskState) → Holds t → EndHolds (rest t)) → EndHolds (task_end_after rest x)
   task_end_after-holds rest (Continues task) here on = on task here
   task_end_after-holds rest (Ends task) here on = here
   task_end_after-holds rest (Traps cause pc) here on = tt
@@ -49,19 +52,23 @@ module _ (Holds : TaskState → Type 0) where
         (after_instructions-hold left)
 
     -- so it holds of a task that is done, where it held of the task that had done nothing
-    pub task_run-holds : (entry : ℕ) (args memory : List ℕ) → Holds (task_at_start image.version entry ctx.ts args memory) → EndHolds (task_run image budget ctx entry args memory)
+    pub task_run-holds : (entry : ℕ) (args memory : List ℕ)
+        → Holds (task_at_start image.version entry ctx.ts args memory)
+        → EndHolds (task_run image budget ctx entry args memory)
     unfolding task_run
     task_run-holds entry args memory here =
         after_instructions-hold budget (task_at_start image.version entry ctx.ts args memory) here
 
 -- a task at the greatest depth makes no subdomain
-pub request-sub_fits : (ctx : Ctx) (task : TaskState) (asked : Request) → AllowedBy (context ctx task) asked → SubFits ctx.depth task.sub
+pub request-sub_fits : (ctx : Ctx) (task : TaskState) (asked : Request) → AllowedBy (context ctx task) asked
+    → SubFits ctx.depth task.sub
     → HoldsAfter (λ t. SubFits ctx.depth t.sub) (after_request task asked)
 request-sub_fits ctx task request.Continue allows fits = fits
 request-sub_fits ctx task (request.Load width rd offset) allows fits = fits
 request-sub_fits ctx task (request.Store offset bytes value) allows fits = fits
 request-sub_fits ctx task (request.Enqueue child) allows fits = fits
-request-sub_fits ctx task (request.MakeSub kind) allows fits = (sub_allowed-limits (context ctx task) allows.0 kind allows.1).1
+request-sub_fits ctx task (request.MakeSub kind) allows fits =
+    (sub_allowed-limits (context ctx task) allows.0 kind allows.1).1
 request-sub_fits ctx task (request.Emit byte) allows fits = fits
 request-sub_fits ctx task request.End allows fits = fits
 request-sub_fits ctx task (request.Trap cause) allows fits = tt
@@ -86,5 +93,7 @@ task_run-size image budget ctx entry args memory =
     same (Ends task) size e has = has ∙ e
     same (Traps cause pc) size e has = tt
 
-    asks : (task : TaskState) (asked : Request) → AllowedBy (context ctx task) asked → Sized task → HoldsAfter Sized (after_request task asked)
-    asks task asked allows sized = same (after_request task asked) (length task.memory) sized (after_request-size task asked)
+    asks : (task : TaskState) (asked : Request) → AllowedBy (context ctx task) asked → Sized task
+        → HoldsAfter Sized (after_request task asked)
+    asks task asked allows sized =
+        same (after_request task asked) (length task.memory) sized (after_request-size task asked)

@@ -1,5 +1,6 @@
 -- Why a task that may take the next turn is refused.
-use Rattle.std.proofs.Common.{◌≡◌, ◌||◌, ◌<◌, nat_le, ℕ, zero, suc, List, [], ◌∷◌, Some, Bool, true, false, refl, sym, ap, ◌∙◌, subst, arith, if◌then◌else◌, map, Contains}
+use Rattle.std.proofs.Common.{◌≡◌, ◌||◌, ◌<◌, nat_le, ℕ, zero, suc, List, [], ◌∷◌, Some, Bool, true, false, refl, sym}
+use Rattle.std.proofs.Common.{ap, ◌∙◌, subst, arith, if◌then◌else◌, map, Contains}
 use Rattle.std.specs.List.{list_any}
 use Rattle.std.proofs.lemmas.Bool.Decides.{nat_tests}
 use Rattle.std.proofs.lemmas.Grind.{common_steps}
@@ -17,15 +18,18 @@ use Rattle.serial_machine.specs.WholeRun.{IsTrapOrMemory}
 use Rattle.serial_machine.proofs.Turns.{is_pending-inner}
 
 -- a task that is found has its name among the tasks
-pub found-any : (name : Name) (tasks : List PendingTask) (t : PendingTask) → find_named name tasks ≡ Some t → list_any (is_named name) tasks ≡ true
+pub found-any : (name : Name) (tasks : List PendingTask) (t : PendingTask) → find_named name tasks ≡ Some t
+    → list_any (is_named name) tasks ≡ true
 found-any name [] t f = absurd (none-some t f)
 found-any name (x ∷ xs) t f = go (is_named name x) f (found-any name xs t) where
-  go : (b : Bool) → (if b then Some x else find_named name xs) ≡ Some t → (find_named name xs ≡ Some t → list_any (is_named name) xs ≡ true) → (b || list_any (is_named name) xs) ≡ true
+  go : (b : Bool) → (if b then Some x else find_named name xs) ≡ Some t
+      → (find_named name xs ≡ Some t → list_any (is_named name) xs ≡ true) → (b || list_any (is_named name) xs) ≡ true
   go true f ih = refl
   go false f ih = ih f
 
 -- no task has a smaller timestamp than a least one
-pub least-none : (ts u : ℕ) (tasks : List PendingTask) → is_least ts tasks ≡ true → u < ts → Contains (map (λ t. t.ts) tasks) u → ⊥
+pub least-none : (ts u : ℕ) (tasks : List PendingTask) → is_least ts tasks ≡ true → u < ts
+    → Contains (map (λ t. t.ts) tasks) u → ⊥
 least-none ts u [] h lt (k, l, e) = absurd (omega (arith, l))
 least-none ts u (t ∷ tasks) h lt (zero, l, e) = first (and_parts _ _ h).0 e where
   first : nat_le ts t.ts ≡ true → t.ts ≡ u → ⊥

@@ -1,5 +1,6 @@
 -- A turn of a task that is selected and done, and the stack after it.
-use Rattle.std.proofs.Common.{◌≡◌, refl, sym, ap, ◌≤◌, ◌+◌, ◌-◌, ◌∙◌, ◌==◌, ℕ, zero, suc, Bool, true, false, List, [], ◌∷◌, ◌++◌, length, Option, Some, None, if◌then◌else◌, arith, subst, drop}
+use Rattle.std.proofs.Common.{◌≡◌, refl, sym, ap, ◌≤◌, ◌+◌, ◌-◌, ◌∙◌, ◌==◌, ℕ, zero, suc, Bool, true, false, List, []}
+use Rattle.std.proofs.Common.{◌∷◌, ◌++◌, length, Option, Some, None, if◌then◌else◌, arith, subst, drop}
 use Rattle.std.proofs.lemmas.Grind.{common_steps}
 use Rattle.std.proofs.lemmas.List.{nil_from_length}
 use Rattle.std.proofs.lemmas.Bool.Decides.{nat_tests}
@@ -22,25 +23,31 @@ use Rattle.serial_machine.specs.Stack.{bag_value, bags, stack_behind_turn, IsSel
 use Rattle.serial_machine.specs.Names.{AreNamed}
 use Rattle.serial_machine.proofs.Naming.{all-older}
 use Rattle.serial_machine.proofs.Stacks.{bags-drop}
-use Rattle.serial_machine.specs.Turn.{context_in_bag, with_super, sub_bags, stack_after, children, inner, is_pending, MayTurn, run_in_bag, turn}
+use Rattle.serial_machine.specs.Turn.{context_in_bag, with_super, sub_bags, stack_after, children, inner, is_pending}
+use Rattle.serial_machine.specs.Turn.{MayTurn, run_in_bag, turn}
 
-pub length-with_super : (tasks : List PendingTask) (outer : List BagValue) → length (with_super tasks outer) ≡ length outer
+pub length-with_super : (tasks : List PendingTask) (outer : List BagValue)
+    → length (with_super tasks outer) ≡ length outer
 length-with_super tasks [] = refl
 length-with_super tasks (b ∷ bs) = refl
 
-pub IsStack-with_super : (tasks : List PendingTask) (outer : List BagValue) → IsStack outer → IsStack (with_super tasks outer)
+pub IsStack-with_super : (tasks : List PendingTask) (outer : List BagValue) → IsStack outer
+    → IsStack (with_super tasks outer)
 IsStack-with_super tasks [] h = tt
 IsStack-with_super tasks (b ∷ bs) h = h
 
 -- at most one bag more
-pub IsStack-chosen : (b : Bool) (bag : BagValue) (rest : List BagValue) → bag.depth ≡ length rest + 1 → bag.depth ≤ MAX_DEPTH → IsStack rest → IsStack ((if b then [] else bag ∷ []) ++ rest)
+pub IsStack-chosen : (b : Bool) (bag : BagValue) (rest : List BagValue) → bag.depth ≡ length rest + 1
+    → bag.depth ≤ MAX_DEPTH → IsStack rest → IsStack ((if b then [] else bag ∷ []) ++ rest)
 IsStack-chosen true bag rest e le h = h
 IsStack-chosen false bag rest e le h = (e, le, h)
 
 pub IsStack-sub : (depth floor owner : ℕ) (tasks : List PendingTask) (sub : Option Kind) (rest : List BagValue)
-    → depth ≡ length rest → depth ≤ MAX_DEPTH → SubFits depth sub → IsStack rest → IsStack (sub_bags (depth + 1) floor owner tasks sub ++ rest)
+    → depth ≡ length rest → depth ≤ MAX_DEPTH → SubFits depth sub → IsStack rest
+    → IsStack (sub_bags (depth + 1) floor owner tasks sub ++ rest)
 IsStack-sub depth floor owner tasks None rest e le fits h = h
-IsStack-sub depth floor owner tasks (Some kind) rest e le fits h = IsStack-chosen (length tasks == 0) _ rest (omega arith) (omega arith) h
+IsStack-sub depth floor owner tasks (Some kind) rest e le fits h =
+    IsStack-chosen (length tasks == 0) _ rest (omega arith) (omega arith) h
 
 pub IsStack-after : (bag : BagValue) (outer : List BagValue) (name : Name) (n ts : ℕ) (spawns : List Spawn) (sub : Option Kind)
     → IsStack (bag ∷ outer) → SubFits bag.depth sub → IsStack (stack_after bag outer name n ts spawns sub)
@@ -53,7 +60,8 @@ IsStack-after bag outer name n ts spawns sub h fits =
 pub is_pending-inner : (name : Name) (stack : List BagValue) → is_pending name (inner stack) ≡ is_pending name stack
 is_pending-inner name [] = refl
 is_pending-inner name (bag ∷ outer) = go (is_pending-inner name outer) (length bag.tasks == 0) refl where
-  go : is_pending name (inner outer) ≡ is_pending name outer → (b : Bool) → (length bag.tasks == 0) ≡ b → is_pending name (if b then inner outer else bag ∷ outer) ≡ is_pending name (bag ∷ outer)
+  go : is_pending name (inner outer) ≡ is_pending name outer → (b : Bool) → (length bag.tasks == 0) ≡ b
+      → is_pending name (if b then inner outer else bag ∷ outer) ≡ is_pending name (bag ∷ outer)
   go ih true e = let z : bag.tasks ≡ [] = grind (arith, nat_tests, common_steps, nil_from_length) in rw z ih
   go ih false e = refl
 
@@ -68,12 +76,14 @@ pub finish-done : (o : TaskEnd) (t : TaskState) → FinishesRun o run_ends.Done 
 finish-done (Done u) t h = ap Done (sym h)
 finish-done (Trapped cause pc) t h = absurd h
 
-pub finish-trapped : (o : TaskEnd) (cause pc : ℕ) (t : TaskState) → FinishesRun o (run_ends.Trapped cause pc) t → o ≡ Trapped cause pc
+pub finish-trapped : (o : TaskEnd) (cause pc : ℕ) (t : TaskState) → FinishesRun o (run_ends.Trapped cause pc) t
+    → o ≡ Trapped cause pc
 finish-trapped (Done u) cause pc t h = absurd h
 finish-trapped (Trapped c p) cause pc t h = rw (h.0, h.1) refl
 
 -- the instructions of a task that has done nothing are its run
-pub after_instructions-task_at_start : (image : ImageValue) (budget : ℕ) (ctx : Ctx) (entry ts : ℕ) (args memory before : List ℕ) (task : TaskState) → ctx.ts ≡ ts → before ≡ memory → task ≡ task_at_start image.version entry ts args before
+pub after_instructions-task_at_start : (image : ImageValue) (budget : ℕ) (ctx : Ctx) (entry ts : ℕ) (args memory before : List ℕ) (task : TaskState)
+    → ctx.ts ≡ ts → before ≡ memory → task ≡ task_at_start image.version entry ts args before
     → after_instructions image budget ctx (budget - task.core.used) task ≡ task_run image budget ctx entry args memory
 unfolding task_run
 after_instructions-task_at_start image budget ctx entry ts args memory before task at same is =
@@ -92,8 +102,10 @@ IsStack-inner (bag ∷ outer) h = go (length bag.tasks == 0) (IsStack-inner oute
   go false ih = h
 
 -- the task that was selected may take the next turn from the bag that stands there
-pub may_turn : (stack one two outer : List Bag) (bag : Bag) (name : Name) (place : ℕ) (task : PendingTask) → one ≡ stack → two ≡ stack
-    → IsSelected one name place task → drop place two ≡ bag ∷ outer → MayTurn (bags stack) name (bag_value bag) (bags outer) task
+pub may_turn : (stack one two outer : List Bag) (bag : Bag) (name : Name) (place : ℕ) (task : PendingTask) → one ≡ stack
+    → two ≡ stack
+    → IsSelected one name place task → drop place two ≡ bag ∷ outer
+    → MayTurn (bags stack) name (bag_value bag) (bags outer) task
 may_turn stack one two outer bag name place task e f selected stands =
     let At : List Bag → Type 0 = λ s. IsSelected s name place task in
     let here = subst At e selected in
@@ -101,7 +113,8 @@ may_turn stack one two outer bag name place task e f selected stands =
     subst From (ap (drop place) (sym f) ∙ stands) here.may
 
 -- the tasks from there on were made before
-pub older-at : (place count : ℕ) (stack : List BagValue) → AreNamed count stack → AreAllOlder (count + 1) (drop place stack)
+pub older-at : (place count : ℕ) (stack : List BagValue) → AreNamed count stack
+    → AreAllOlder (count + 1) (drop place stack)
 older-at place count stack named = go place stack (all-older count stack named) where
   go : (k : ℕ) (rest : List BagValue) → AreAllOlder (count + 1) rest → AreAllOlder (count + 1) (drop k rest)
   go zero rest older = older
@@ -109,7 +122,8 @@ older-at place count stack named = go place stack (all-older count stack named) 
   go (suc k) (bag ∷ rest) older = go k rest older.1
 
 -- the stack after a turn, as the code makes it
-pub stack-after : (stack two outer : List Bag) (bag : Bag) (new : List BagValue) (name : Name) (place n ts depth : ℕ) (spawns : List Spawn) (sub : Option Kind) → two ≡ stack → drop place two ≡ bag ∷ outer → depth ≡ bag.depth
+pub stack-after : (stack two outer : List Bag) (bag : Bag) (new : List BagValue) (name : Name) (place n ts depth : ℕ) (spawns : List Spawn) (sub : Option Kind)
+    → two ≡ stack → drop place two ≡ bag ∷ outer → depth ≡ bag.depth
     → new ≡ stack_behind_turn name n spawns (sub_bags (depth + 1) ts n (children Sub n spawns) sub)
     (drop place (bags stack))
     → new ≡ stack_after (bag_value bag) (bags outer) name n ts spawns sub
@@ -121,8 +135,10 @@ stack-after stack two outer bag new name place n ts depth spawns sub f stands de
 
 -- the turn of a task that is done
 pub turn-taken : (image : ImageValue) (budget : ℕ) (s : SerialState) (name : Name) (bag : BagValue) (outer stack : List BagValue) (task : PendingTask) (ctx : Ctx) (memory output : List ℕ) (t : TaskState)
-    → MayTurn s.stack name bag outer task → ctx ≡ context_in_bag image.version bag outer task → task_run image budget ctx task.entry task.args s.memory ≡ Done t
-    → stack ≡ stack_after bag outer name (s.count + 1) task.ts t.spawns t.sub → memory ≡ t.memory → output ≡ s.output ++ t.bytes
+    → MayTurn s.stack name bag outer task → ctx ≡ context_in_bag image.version bag outer task
+    → task_run image budget ctx task.entry task.args s.memory ≡ Done t
+    → stack ≡ stack_after bag outer name (s.count + 1) task.ts t.spawns t.sub → memory ≡ t.memory
+    → output ≡ s.output ++ t.bytes
     → turn image budget s name ≡ Some (record { stack = stack; memory = memory; output = output; count = s.count + 1 }, record { name = name; depth = ctx.depth; ts = task.ts })
 turn-taken image budget s name bag outer stack task ctx memory output t may at ran left kept told =
     let run : run_in_bag image budget s bag outer task ≡ Done t = ap (λ x. task_run image budget x task.entry task.args s.memory) (sym at) ∙ ran in

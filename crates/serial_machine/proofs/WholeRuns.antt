@@ -8,6 +8,8 @@ use Rattle.serial_machine.specs.Run.{Runs}
 
 -- a run goes on by one more turn
 pub Runs-more : (image : ImageValue) (budget : ℕ) (es : List Entry) (s before after : SerialState) (e : Entry)
-    → Runs image budget s es before → turn image budget before e.name ≡ Some (after, e) → Runs image budget s (es ++ e ∷ []) after
+    → Runs image budget s es before → turn image budget before e.name ≡ Some (after, e)
+    → Runs image budget s (es ++ e ∷ []) after
 Runs-more image budget [] s before after e run t = (after, ap (λ m. turn image budget m e.name) run ∙ t, refl)
-Runs-more image budget (x ∷ xs) s before after e (mid, first, rest) t = (mid, first, Runs-more image budget xs mid before after e rest t)
+Runs-more image budget (x ∷ xs) s before after e (mid, first, rest) t =
+    (mid, first, Runs-more image budget xs mid before after e rest t)

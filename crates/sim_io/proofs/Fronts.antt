@@ -40,10 +40,15 @@ writes_then a b c (Ok u) (Ok v) x y p h k = record {
 writes_then a b c (Ok u) (Err e) x y p h k = record {
   ok = tt;
   err = TakesFront-then a b c x y h.ok k.err;
-  cause = record { later = omega (arith, h.cause.later, k.cause.later); failed = omega (arith, h.cause.later, k.cause.failed) };
+  cause =
+      record {
+        later = omega (arith, h.cause.later, k.cause.later);
+        failed = omega (arith, h.cause.later, k.cause.failed);
+      };
 }
 
 -- no call behind one that failed
-pub writes_front : {E : Type 0} (a b : SinkState) (r : Result (Unit {0}) E) (e : E) (x y : List ℕ) → r ≡ Err e → Writes a b r x → Writes a b r (x ++ y)
+pub writes_front : {E : Type 0} (a b : SinkState) (r : Result (Unit {0}) E) (e : E) (x y : List ℕ) → r ≡ Err e
+    → Writes a b r x → Writes a b r (x ++ y)
 writes_front a b (Ok u) e x y p h = let z : ⊥ = cc in absurd z
 writes_front a b (Err f) e x y p h = record { ok = tt; err = TakesFront-more a b x y h.err; cause = h.cause }

@@ -133,7 +133,8 @@ pub one_more : (spawns : List Spawn) (spawn : Spawn) (now : List Spawn) → now 
 one_more spawns spawn now is few = let long = ap length is ∙ length_push spawns spawn in omega (arith, long, few)
 
 -- the child of the task that was looked at is that of the one that asks, in one version
-pub child_of_same : (version at tile : ℕ) (creator task child : Task) (spawn : Spawn) (id : ℕ) → version ≡ at → creator ≡ task
+pub child_of_same : (version at tile : ℕ) (creator task child : Task) (spawn : Spawn) (id : ℕ) → version ≡ at
+    → creator ≡ task
     → child ≡ idle_task version (child_descriptor creator spawn) (Live (record { 0 = id }) (length creator.spawns)) tile
     → child ≡ idle_task at (child_descriptor task spawn) (Live (record { 0 = id }) (length task.spawns)) tile
 child_of_same version at tile creator task child spawn id one same is =

@@ -1,5 +1,6 @@
 -- The latest idle firm tasks of a queue, as one place of it after another is looked at, from the last one on.
-use Rattle.std.proofs.Common.{◌≡◌, ◌⊎◌, ◌<◌, ◌≤◌, ◌+◌, ℕ, List, length, take, drop, Option, Some, sym, ap, subst, ◌∙◌, inl, inr, arith, slice_get, slice_index_or}
+use Rattle.std.proofs.Common.{◌≡◌, ◌⊎◌, ◌<◌, ◌≤◌, ◌+◌, ℕ, List, length, take, drop, Option, Some, sym, ap, subst, ◌∙◌}
+use Rattle.std.proofs.Common.{inl, inr, arith, slice_get, slice_index_or}
 use Rattle.std.specs.Prelude.{Contains, IsSome, is_some}
 use Rattle.std.proofs.lemmas.Bool.{cases_eq}
 use Rattle.std.proofs.lemmas.Option.{slice_get-get_or, slice_get_within}
@@ -18,15 +19,20 @@ use Rattle.spec_commit.proofs.Latest.{in_take, in_drop, pairs_at, one_more}
 use Rattle.spec_commit.proofs.Places.{less_precedes, place_precedes, precedes_trans}
 
 -- the id at a place
-pub item_at : (view : View) (tile : ℕ) (ids : List ℕ) (i : ℕ) → ids ≡ queue_at view tile → i < length ids → slice_get (queue_at view tile) i ≡ Some (slice_index_or ids i 0)
-item_at view tile ids i same within = subst (λ xs. slice_get xs i ≡ Some (slice_index_or ids i 0)) same (slice_get-get_or ids i 0 within)
+pub item_at : (view : View) (tile : ℕ) (ids : List ℕ) (i : ℕ) → ids ≡ queue_at view tile → i < length ids
+    → slice_get (queue_at view tile) i ≡ Some (slice_index_or ids i 0)
+item_at view tile ids i same within =
+    subst (λ xs. slice_get xs i ≡ Some (slice_index_or ids i 0)) same (slice_get-get_or ids i 0 within)
 
 -- is that of a task
-pub live_at : (size : ℕ) (view : View) (tile i id : ℕ) → IsStored size view → slice_get (queue_at view tile) i ≡ Some id → IsSome (task_at view id)
-live_at size view tile i id stored at = ap is_some ((stored.queued_are tile id).0 (held_at (queue_at view tile) i id at)).1
+pub live_at : (size : ℕ) (view : View) (tile i id : ℕ) → IsStored size view → slice_get (queue_at view tile) i ≡ Some id
+    → IsSome (task_at view id)
+live_at size view tile i id stored at =
+    ap is_some ((stored.queued_are tile id).0 (held_at (queue_at view tile) i id at)).1
 
 -- as each of the chosen is
-pub live_chosen : (view : View) (tile count : ℕ) (ids slice : List ℕ) (k other : ℕ) → AreLatest (Precedes view tile) (MayMove view tile count) MAX_MOVED ids → slice ≡ ids
+pub live_chosen : (view : View) (tile count : ℕ) (ids slice : List ℕ) (k other : ℕ)
+    → AreLatest (Precedes view tile) (MayMove view tile count) MAX_MOVED ids → slice ≡ ids
     → slice_get slice k ≡ Some other → IsSome (task_at view other)
 live_chosen view tile count ids slice k other was same at =
     ap is_some (was.each other (held_at ids k other (subst (λ xs. slice_get xs k ≡ Some other) same at))).1.1.idle.there
@@ -47,7 +53,8 @@ module _ (view : View) (tile : ℕ) (distinct : AreDistinct (queue_at view tile)
   ]
 
   -- where the task may not move they stay
-  pub passed_over : (task.status ≡ Idle × IsFirmBy heir task.creator → ⊥) → AreLatest Before (MayMove view tile (seen + 1)) MAX_MOVED chosen
+  pub passed_over : (task.status ≡ Idle × IsFirmBy heir task.creator → ⊥)
+      → AreLatest Before (MayMove view tile (seen + 1)) MAX_MOVED chosen
   passed_over not = record {
     each = λ k has. grows k (was.each k has);
     few = was.few;
@@ -81,7 +88,8 @@ module _ (view : View) (tile : ℕ) (distinct : AreDistinct (queue_at view tile)
     )
 
     along : (p q : ℕ) → MayMove view tile seen p → MayMove view tile seen q → Before p q → Before q id → Before p id
-    along p q first second = precedes_trans view tile distinct p q id second.0.0 second.1.0 (record { queued = second.0.2; there = second.1.1.idle.there })
+    along p q first second =
+        precedes_trans view tile distinct p q id second.0.0 second.1.0 (record { queued = second.0.2; there = second.1.1.idle.there })
 
     lower : (y : ℕ) → Contains (take place chosen) y → Before y id
     lower y has =
@@ -110,12 +118,14 @@ module _ (view : View) (tile : ℕ) (distinct : AreDistinct (queue_at view tile)
         ]
 
     -- and where it may it is put among them
-    pub taken : (after : List ℕ) → after ≡ with_one chosen place id → AreLatest Before (MayMove view tile (seen + 1)) MAX_MOVED after
+    pub taken : (after : List ℕ) → after ≡ with_one chosen place id
+        → AreLatest Before (MayMove view tile (seen + 1)) MAX_MOVED after
     taken after is = subst (AreLatest Before (MayMove view tile (seen + 1)) MAX_MOVED) (sym is)
         (one_more Before (MayMove view tile seen) (MayMove view tile (seen + 1)) id chosen place was grows comes which lower upper along)
 
 -- once all places are looked at they are the chosen ones
-pub all_looked_at : (view : View) (tile count : ℕ) (ids chosen : List ℕ) → ids ≡ queue_at view tile → length ids ≤ count → AreLatest (Precedes view tile) (MayMove view tile count) MAX_MOVED chosen
+pub all_looked_at : (view : View) (tile count : ℕ) (ids chosen : List ℕ) → ids ≡ queue_at view tile → length ids ≤ count
+    → AreLatest (Precedes view tile) (MayMove view tile count) MAX_MOVED chosen
     → AreChosen view tile chosen
 all_looked_at view tile count ids chosen same past is = record {
   movable = λ id has. (is.each id has).1;

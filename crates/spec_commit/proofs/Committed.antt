@@ -1,5 +1,7 @@
 -- The least task leaves by a commit, and its children have a committed creator.
-use Rattle.std.proofs.Common.{◌≡◌, ◌≢◌, ◌⊎◌, ◌<◌, ◌≤◌, ◌+◌, ◌∷◌, ◌++◌, ◌==◌, ℕ, Bool, true, false, cond, List, [], length, Option, Some, None, refl, sym, ap, subst, ◌∙◌, inl, inr, arith, slice_get, slice_index_or}
+use Rattle.std.proofs.Common.{◌≡◌, ◌≢◌, ◌⊎◌, ◌<◌, ◌≤◌, ◌+◌, ◌∷◌, ◌++◌, ◌==◌, ℕ, Bool, true, false, cond, List, []}
+use Rattle.std.proofs.Common.{length, Option, Some, None, refl, sym, ap, subst, ◌∙◌, inl, inr, arith, slice_get}
+use Rattle.std.proofs.Common.{slice_index_or}
 use Rattle.std.specs.Prelude.{IsTrue, count_by, is_some, if◌then◌else◌}
 use Rattle.std.proofs.lemmas.Bool.{cases_eq, ne_eqb}
 use Rattle.std.proofs.lemmas.Bool.Decides.{nat_tests}
@@ -21,13 +23,15 @@ use Rattle.spec_state.specs.Leaving.{TaskLeaves}
 use Rattle.spec_state.specs.Stored.{IsStored, IsWellFormed, IsIndexed}
 use Rattle.spec_state.specs.Tasks.{depth_of, own_level}
 use Rattle.spec_state.specs.View.{View, task_at}
-use Rattle.spec_state.proofs.Proved.{AreKept, formed_later, indexed_kept, keeps_none, KeepsKey, KeepsPlace, kept_all, same_place, slots_kept, stored_kept}
+use Rattle.spec_state.proofs.Proved.{AreKept, formed_later, indexed_kept, keeps_none, KeepsKey, KeepsPlace, kept_all}
+use Rattle.spec_state.proofs.Proved.{same_place, slots_kept, stored_kept}
 use Rattle.spec_commit.specs.Committing.{IsAdoptedOrSame, after_adoption}
 use Rattle.spec_commit.proofs.Moving.{cores_stay}
 
 -- with more in the journal what is stored is stored still
 pub stored_longer : (size : ℕ) (view : View) (history : List Entry) (output : List ℕ) (path : List Level)
-    → IsStored size view → length view.history ≤ length history → IsStored size (record view { history = history; output = output; path = path })
+    → IsStored size view → length view.history ≤ length history
+    → IsStored size (record view { history = history; output = output; path = path })
 stored_longer size view history output path stored longer =
     stored_kept size view (record view { history = history; output = output; path = path }) stored
     (kept_all KeepsPlace (λ t. same_place t t refl refl) view.tasks) refl refl refl stored.memory
@@ -37,11 +41,14 @@ stored_longer size view history output path stored longer =
 abbrev child_of : ℕ → ℕ → Task → Task
 child_of id n task = record task { creator = creator_after id n task.creator }
 
-was_adopted : (id n : ℕ) (o : Option Task) (t : Task) → after_adoption id n o ≡ Some t → (x : Task) × (o ≡ Some x) × (child_of id n x ≡ t)
+was_adopted : (id n : ℕ) (o : Option Task) (t : Task) → after_adoption id n o ≡ Some t
+    → (x : Task) × (o ≡ Some x) × (child_of id n x ≡ t)
 was_adopted id n None t is = absurd (cc (is))
 was_adopted id n (Some x) t is = (x, refl, (let same : child_of id n x ≡ t = cc in same))
 
-adopted_turn : (id n bound turn index : ℕ) (creator : Creator) → n ≤ bound → ((t i : ℕ) → creator ≡ Committed t i → t ≤ bound) → creator_after id n creator ≡ Committed turn index → turn ≤ bound
+adopted_turn : (id n bound turn index : ℕ) (creator : Creator) → n ≤ bound
+    → ((t i : ℕ) → creator ≡ Committed t i → t ≤ bound) → creator_after id n creator ≡ Committed turn index
+    → turn ≤ bound
 adopted_turn id n bound turn index (Committed t i) upto was is = was turn index is
 adopted_turn id n bound turn index (Live task i) upto was is = go (task.0 == id) is
   where
@@ -74,7 +81,8 @@ adopted_is_no_child id n place (Some t) is =
     by_creator (Committed turn index) at = absurd (cc (at))
     by_creator (Live task index) at = go (task.0 == id) refl at
       where
-        go : (b : Bool) → (task.0 == id) ≡ b → (if b then Committed n index else Live task index) ≡ Live (record { 0 = id }) place → ⊥
+        go : (b : Bool) → (task.0 == id) ≡ b
+            → (if b then Committed n index else Live task index) ≡ Live (record { 0 = id }) place → ⊥
         go true was at = absurd (cc (at))
         go false was at =
             let own : task.0 ≡ id = cc in
@@ -86,8 +94,10 @@ pub child_or_same : (id n : ℕ) (o : Option Task) → ((place : ℕ) × IsChild
 child_or_same id n None = inr refl
 child_or_same id n (Some t) = by_creator t.creator refl
   where
-    by_creator : (creator : Creator) → t.creator ≡ creator → ((place : ℕ) × IsChildAt id place (Some t)) ⊎ (Some (child_of id n t) ≡ Some t)
-    by_creator (Committed turn index) is = inr (ap (λ c. Some (record t { creator = c })) (ap (creator_after id n) is ∙ sym is))
+    by_creator : (creator : Creator) → t.creator ≡ creator
+        → ((place : ℕ) × IsChildAt id place (Some t)) ⊎ (Some (child_of id n t) ≡ Some t)
+    by_creator (Committed turn index) is =
+        inr (ap (λ c. Some (record t { creator = c })) (ap (creator_after id n) is ∙ sym is))
     by_creator (Live task index) is = elim (cases_eq task.0 id) [
       | inl own ↦ inl (index, record { child = t; there = refl; made_by = is ∙ ap (λ k. Live (record { 0 = k }) index) own })
       | inr other ↦
@@ -96,7 +106,8 @@ child_or_same id n (Some t) = by_creator t.creator refl
     ]
 
 -- where all that is noted for the task was adopted, all its children are
-pub all_adopted : (id n : ℕ) (tasks now : List (Option Task)) (children : ChildrenValue) (keys : List ℕ) → AreNoted tasks children
+pub all_adopted : (id n : ℕ) (tasks now : List (Option Task)) (children : ChildrenValue) (keys : List ℕ)
+    → AreNoted tasks children
     → IsTrue children.complete → keys ≡ noted_of children id
     → ((k : ℕ) → IsAdoptedOrSame id n (slice_index_or tasks k None) (slice_index_or now k None))
     → ((place k : ℕ) → slice_get keys place ≡ Some k → slice_index_or now k None ≡ after_adoption id n (slice_index_or tasks k None))
@@ -116,11 +127,13 @@ was_child id n c place (Some t) is =
     let same : child_of id n t ≡ is.child = cc (is.there) in
     record { child = t; there = refl; made_by = by_creator t.creator (ap (λ (x : Task). x.creator) same ∙ is.made_by) }
   where
-    by_creator : (creator : Creator) → creator_after id n creator ≡ Live (record { 0 = c }) place → creator ≡ Live (record { 0 = c }) place
+    by_creator : (creator : Creator) → creator_after id n creator ≡ Live (record { 0 = c }) place
+        → creator ≡ Live (record { 0 = c }) place
     by_creator (Committed turn index) at = absurd (cc (at))
     by_creator (Live task index) at = go (task.0 == id) at
       where
-        go : (b : Bool) → (if b then Committed n index else Live task index) ≡ Live (record { 0 = c }) place → Live task index ≡ Live (record { 0 = c }) place
+        go : (b : Bool) → (if b then Committed n index else Live task index) ≡ Live (record { 0 = c }) place
+            → Live task index ≡ Live (record { 0 = c }) place
         go true at = absurd (cc (at))
         go false at = at
 
@@ -140,12 +153,14 @@ noted_adopted id n tasks now children after each same others noted complete k c 
     ]
 
 -- the children that were adopted so far, and then all: all are
-pub then_all : (id n : ℕ) (old mid new : Option Task) → IsAdoptedOrSame id n old mid → new ≡ after_adoption id n mid → new ≡ after_adoption id n old
+pub then_all : (id n : ℕ) (old mid new : Option Task) → IsAdoptedOrSame id n old mid → new ≡ after_adoption id n mid
+    → new ≡ after_adoption id n old
 then_all id n old mid new (inl same) is = is ∙ ap (after_adoption id n) same
 then_all id n old mid new (inr was) is = is ∙ ap (after_adoption id n) was ∙ adopted_once id n old
 
 -- what was done to the slots of a state is done to the tasks of its view
-pub adopts_seen : (slots now : List (Option Task)) (view : View) (id n : ℕ) → slots ≡ view.tasks → n ≡ length view.history
+pub adopts_seen : (slots now : List (Option Task)) (view : View) (id n : ℕ) → slots ≡ view.tasks
+    → n ≡ length view.history
     → ((k : ℕ) → slice_index_or now k None ≡ after_adoption id n (slice_index_or slots k None))
     → (k : ℕ) → slice_index_or now k None ≡ after_adoption id (length view.history) (task_at view k)
 adopts_seen slots now view id n same turn adopts k =
@@ -180,7 +195,8 @@ module _ (id n place key : ℕ) (keys : List ℕ) (old now new : ℕ → Option 
   ]
 
 module _ (id n : ℕ) (tasks now : List (Option Task)) (each : (k : ℕ) → IsAdoptedOrSame id n (slice_index_or tasks k None) (slice_index_or now k None)) where
-  adopted_kept : (stands : Task → Task → Type 0) → ((x : Task) → stands x x) → ((x : Task) → stands x (child_of id n x)) → AreKept stands tasks now
+  adopted_kept : (stands : Task → Task → Type 0) → ((x : Task) → stands x x) → ((x : Task) → stands x (child_of id n x))
+      → AreKept stands tasks now
   adopted_kept stands stays so = record {
     forth = λ k t at. elim (each k) [
       | inl same ↦ (t, same ∙ at, stays t)
@@ -197,7 +213,8 @@ module _ (id n : ℕ) (tasks now : List (Option Task)) (each : (k : ℕ) → IsA
   indexed_adopted queues arrivals next listed =
       indexed_kept tasks now queues arrivals next listed (adopted_kept KeepsKey (λ x. record { tile = refl; key = refl }) (λ x. record { tile = refl; key = refl }))
 
-pub stored_adopted : (size id n : ℕ) (old : View) (now : List (Option Task)) → ((k : ℕ) → IsAdoptedOrSame id n (task_at old k) (slice_index_or now k None))
+pub stored_adopted : (size id n : ℕ) (old : View) (now : List (Option Task))
+    → ((k : ℕ) → IsAdoptedOrSame id n (task_at old k) (slice_index_or now k None))
     → n ≤ length old.history → IsStored size old → IsStored size (record old { tasks = now })
 stored_adopted size id n old now each upto stored =
     stored_kept size old (record old { tasks = now }) stored
@@ -208,7 +225,8 @@ stored_adopted size id n old now each upto stored =
           subst (IsWellFormed size (length old.history)) was.2 (formed was.0 (stored.tasks k was.0 was.1)))
     ])
   where
-    formed : (x : Task) → IsWellFormed size (length old.history) x → IsWellFormed size (length old.history) (child_of id n x)
+    formed : (x : Task) → IsWellFormed size (length old.history) x
+        → IsWellFormed size (length old.history) (child_of id n x)
     formed x is = record {
       depth = is.depth;
       kinds = is.kinds;
@@ -234,7 +252,8 @@ after_others id n k (Some t) other = ap (λ b. cond b None (Some (child_of id n 
 
 after_own : (id n k : ℕ) (o : Option Task) → k ≡ id → after_commit id n k o ≡ None
 after_own id n k None same = refl
-after_own id n k (Some t) same = (let is : (k == id) ≡ true = grind (arith, nat_tests) in ap (λ b. cond b None (Some (child_of id n t))) is)
+after_own id n k (Some t) same =
+    (let is : (k == id) ≡ true = grind (arith, nat_tests) in ap (λ b. cond b None (Some (child_of id n t))) is)
 
 module _ (size id : ℕ) (old left noted new : View) (task : Task) (entry : Entry) (stored : IsStored size old) (there : task_at old id ≡ Some task) (leaves : TaskLeaves id old left)
     (noted_is : noted ≡ record left { history = left.history ++ entry ∷ []; output = left.output ++ task.bytes; path = task.key.domain ++ own_level task ∷ [] })
@@ -245,7 +264,9 @@ module _ (size id : ℕ) (old left noted new : View) (task : Task) (entry : Entr
   noted_at k = ap (λ v. task_at v k) noted_is
 
   count : length noted.history ≡ length old.history + 1
-  count = ap (λ (v : View). length v.history) noted_is ∙ length_push left.history entry ∙ ap (λ (v : View). length v.history + 1) leaves.frame
+  count =
+      ap (λ (v : View). length v.history) noted_is ∙ length_push left.history entry
+      ∙ ap (λ (v : View). length v.history + 1) leaves.frame
 
   each : (k : ℕ) → task_at new k ≡ after_commit id (length old.history + 1) k (task_at old k)
   each k =
@@ -254,15 +275,24 @@ module _ (size id : ℕ) (old left noted new : View) (task : Task) (entry : Entr
       ∙ ap (after_adoption id (length old.history + 1)) (noted_at k)
       ∙ go (cases_eq k id)
     where
-      go : (k ≡ id) ⊎ (k ≢ id) → after_adoption id (length old.history + 1) (task_at left k) ≡ after_commit id (length old.history + 1) k (task_at old k)
-      go (inl same) = ap (after_adoption id (length old.history + 1)) (ap (task_at left) same ∙ leaves.changes.changed) ∙ sym (after_own id (length old.history + 1) k (task_at old k) same)
-      go (inr other) = ap (after_adoption id (length old.history + 1)) (leaves.changes.others k other) ∙ sym (after_others id (length old.history + 1) k (task_at old k) other)
+      go : (k ≡ id) ⊎ (k ≢ id)
+          → after_adoption id (length old.history + 1) (task_at left k) ≡ after_commit id (length old.history + 1) k (task_at old k)
+      go (inl same) =
+          ap (after_adoption id (length old.history + 1)) (ap (task_at left) same ∙ leaves.changes.changed)
+          ∙ sym (after_own id (length old.history + 1) k (task_at old k) same)
+      go (inr other) =
+          ap (after_adoption id (length old.history + 1)) (leaves.changes.others k other)
+          ∙ sym (after_others id (length old.history + 1) k (task_at old k) other)
 
   history : new.history ≡ old.history ++ entry ∷ []
-  history = ap (λ (v : View). v.history) rest ∙ ap (λ (v : View). v.history) noted_is ∙ ap (λ (v : View). v.history ++ entry ∷ []) leaves.frame
+  history =
+      ap (λ (v : View). v.history) rest ∙ ap (λ (v : View). v.history) noted_is
+      ∙ ap (λ (v : View). v.history ++ entry ∷ []) leaves.frame
 
   output : new.output ≡ old.output ++ task.bytes
-  output = ap (λ (v : View). v.output) rest ∙ ap (λ (v : View). v.output) noted_is ∙ ap (λ (v : View). v.output ++ task.bytes) leaves.frame
+  output =
+      ap (λ (v : View). v.output) rest ∙ ap (λ (v : View). v.output) noted_is
+      ∙ ap (λ (v : View). v.output ++ task.bytes) leaves.frame
 
   path : new.path ≡ task.key.domain ++ own_level task ∷ []
   path = ap (λ (v : View). v.path) rest ∙ ap (λ (v : View). v.path) noted_is
@@ -273,7 +303,8 @@ module _ (size id : ℕ) (old left noted new : View) (task : Task) (entry : Entr
   finished : new.finished ≡ left.finished
   finished = ap (λ (v : View). v.finished) rest ∙ ap (λ (v : View). v.finished) noted_is
 
-  committed_task : IsLeastTask old id task → task.status ≡ Finished → (turn index : ℕ) → task.creator ≡ Committed turn index
+  committed_task : IsLeastTask old id task → task.status ≡ Finished → (turn index : ℕ)
+      → task.creator ≡ Committed turn index
       → Commits old new × (new.history ≡ old.history ++ entry ∷ [])
   committed_task least done turn index creator =
       let cores : left.cores ≡ old.cores = leaves.cores ∙ cores_stay size old stored id task there (keeps_none task.status (inr done)) in (
@@ -291,7 +322,8 @@ module _ (size id : ℕ) (old left noted new : View) (task : Task) (entry : Entr
           path = path;
           queues = queues ∙ leaves.queues;
           finished = finished ∙ leaves.finished;
-          frame = ap (λ (v : View). record v { tasks = new.tasks; history = new.history; output = new.output; path = new.path; queues = new.queues; finished = new.finished }) rest
+          frame =
+              ap (λ (v : View). record v { tasks = new.tasks; history = new.history; output = new.output; path = new.path; queues = new.queues; finished = new.finished }) rest
               ∙ ap (λ (v : View). record v { tasks = new.tasks; history = new.history; output = new.output; path = new.path; queues = new.queues; finished = new.finished }) noted_is
               ∙ ap (λ (v : View). record v { tasks = new.tasks; history = new.history; output = new.output; path = new.path; queues = new.queues; finished = new.finished }) leaves.frame
               ∙ ap (λ cores. record old { tasks = new.tasks; history = new.history; output = new.output; path = new.path; queues = new.queues; finished = new.finished; cores = cores }) cores;
@@ -300,7 +332,8 @@ module _ (size id : ℕ) (old left noted new : View) (task : Task) (entry : Entr
       )
 
 -- a commit by its parts
-pub commits : (size id : ℕ) (old made left noted new : View) (task : Task) (entry : Entry) → made ≡ old → IsStored size made → task_at made id ≡ Some task → TaskLeaves id made left
+pub commits : (size id : ℕ) (old made left noted new : View) (task : Task) (entry : Entry) → made ≡ old
+    → IsStored size made → task_at made id ≡ Some task → TaskLeaves id made left
     → noted ≡ record left { history = left.history ++ entry ∷ []; output = left.output ++ task.bytes; path = task.key.domain ++ own_level task ∷ [] }
     → ((k : ℕ) → task_at new k ≡ after_adoption id (length noted.history) (task_at noted k))
     → new ≡ record noted { tasks = new.tasks }
@@ -315,7 +348,8 @@ commits size id old made left noted new task entry same stored there leaves note
     (subst (IsLeastTask old id) one least.1) (ap (λ (t : Task). t.status) (sym one) ∙ least.2) least.3.0 least.3.1 (ap (λ (t : Task). t.creator) (sym one) ∙ least.3.2)
 
 -- a commit whose entry joins the journal before its task leaves
-pub commits_entered : (size id : ℕ) (old made recorded left new : View) (task : Task) (entry : Entry) → made ≡ old → IsStored size made → task_at made id ≡ Some task
+pub commits_entered : (size id : ℕ) (old made recorded left new : View) (task : Task) (entry : Entry) → made ≡ old
+    → IsStored size made → task_at made id ≡ Some task
     → recorded ≡ record made { history = made.history ++ entry ∷ []; output = made.output ++ task.bytes; path = task.key.domain ++ own_level task ∷ [] }
     → TaskLeaves id recorded left
     → ((k : ℕ) → task_at new k ≡ after_adoption id (length left.history) (task_at left k))
@@ -335,5 +369,6 @@ commits_entered size id old made recorded left new task entry same stored there 
       frame = ap (λ (v : View). record v { history = made.history; output = made.output; path = made.path }) goes.frame;
     } in
     let after : left ≡ record before { history = before.history ++ entry ∷ []; output = before.output ++ task.bytes; path = task.key.domain ++ own_level task ∷ [] } =
-    goes.frame ∙ sym (ap (λ (v : View). record v { history = made.history ++ entry ∷ []; output = made.output ++ task.bytes; path = task.key.domain ++ own_level task ∷ [] }) goes.frame) in
+    goes.frame
+    ∙ sym (ap (λ (v : View). record v { history = made.history ++ entry ∷ []; output = made.output ++ task.bytes; path = task.key.domain ++ own_level task ∷ [] }) goes.frame) in
     commits size id old made before left new task entry same stored there gone after adopts rest named least

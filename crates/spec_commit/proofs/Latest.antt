@@ -1,10 +1,12 @@
 -- The latest of a kind, and one more of it.
-use Rattle.std.proofs.Common.{◌≡◌, ◌⊎◌, ◌<◌, ◌≤◌, ◌+◌, ◌-◌, ◌∷◌, ◌++◌, ℕ, zero, suc, List, [], length, take, drop, Some, refl, sym, ap, subst, ◌∙◌, inl, inr, arith, slice_get, slice_index_or}
+use Rattle.std.proofs.Common.{◌≡◌, ◌⊎◌, ◌<◌, ◌≤◌, ◌+◌, ◌-◌, ◌∷◌, ◌++◌, ℕ, zero, suc, List, [], length, take, drop, Some}
+use Rattle.std.proofs.Common.{refl, sym, ap, subst, ◌∙◌, inl, inr, arith, slice_get, slice_index_or}
 use Rattle.std.specs.Prelude.{All, AllPairs, Contains}
 use Rattle.std.specs.List.{insert}
 use Rattle.std.proofs.lemmas.Bool.{cases_eq, cases_lt}
 use Rattle.std.proofs.lemmas.List.{take-append-drop}
-use Rattle.std.proofs.lemmas.List.Elements.{All-contains, All-contains_itself, Contains-append_left, Contains-append_right, Contains-append_cases}
+use Rattle.std.proofs.lemmas.List.Elements.{All-contains, All-contains_itself, Contains-append_left}
+use Rattle.std.proofs.lemmas.List.Elements.{Contains-append_right, Contains-append_cases}
 use Rattle.std.proofs.lemmas.List.Kept.{AllPairs-cons}
 use Rattle.fractal_vt.proofs.Proved.{AllPairs-head, AllPairs-tail}
 use Rattle.spec_state.specs.declared.reserving.TheConstants.{MAX_MOVED}
@@ -33,7 +35,8 @@ midst_cases a b x y has = elim (Contains-append_cases a (x ∷ b) y has) [
 ]
 
 -- it stays in order
-pairs_midst : (R : ℕ → ℕ → Type 0) (a b : List ℕ) (x : ℕ) → AllPairs R (a ++ b) → ((y : ℕ) → Contains a y → R y x) → ((y : ℕ) → Contains b y → R x y) → AllPairs R (a ++ x ∷ b)
+pairs_midst : (R : ℕ → ℕ → Type 0) (a b : List ℕ) (x : ℕ) → AllPairs R (a ++ b) → ((y : ℕ) → Contains a y → R y x)
+    → ((y : ℕ) → Contains b y → R x y) → AllPairs R (a ++ x ∷ b)
 pairs_midst R [] b x pairs lower upper = AllPairs-cons R x b (all_of (R x) b upper) pairs
 pairs_midst R (h ∷ t) b x pairs lower upper =
     AllPairs-cons R h (t ++ x ∷ b)
@@ -51,7 +54,8 @@ module _ (R : ℕ → ℕ → Type 0) (may now : ℕ → Type 0) (most x : ℕ) 
     (which : (id : ℕ) → now id → may id ⊎ (x ≡ id)) (lower : (y : ℕ) → Contains a y → R y x) (upper : (y : ℕ) → Contains b y → R x y)
     (along : (p q : ℕ) → may p → may q → R p q → R q x → R p x) where
   each_now : (id : ℕ) → Contains (a ++ x ∷ b) id → now id
-  each_now id has = elim (midst_cases a b x id has) [ inl old ↦ grows id (was.each id old) | inr same ↦ subst now same comes ]
+  each_now id has =
+      elim (midst_cases a b x id has) [ inl old ↦ grows id (was.each id old) | inr same ↦ subst now same comes ]
 
   -- where there were too few of them, it is one of the latest
   short : length (a ++ b) < most → AreLatest R now most (a ++ x ∷ b)
@@ -70,8 +74,10 @@ module _ (R : ℕ → ℕ → Type 0) (may now : ℕ → Type 0) (most x : ℕ) 
       ]
 
 -- where they are as many as wanted and it comes before all of them, they stay
-skipped : (R : ℕ → ℕ → Type 0) (may now : ℕ → Type 0) (most x : ℕ) (b : List ℕ) → AreLatest R may most b → ((id : ℕ) → may id → now id)
-    → ((id : ℕ) → now id → may id ⊎ (x ≡ id)) → ((y : ℕ) → Contains b y → R x y) → most ≤ length b → AreLatest R now most b
+skipped : (R : ℕ → ℕ → Type 0) (may now : ℕ → Type 0) (most x : ℕ) (b : List ℕ) → AreLatest R may most b
+    → ((id : ℕ) → may id → now id)
+    → ((id : ℕ) → now id → may id ⊎ (x ≡ id)) → ((y : ℕ) → Contains b y → R x y) → most ≤ length b
+    → AreLatest R now most b
 skipped R may now most x b was grows which upper full = record {
   each = λ id has. grows id (was.each id has);
   few = was.few;
@@ -93,7 +99,8 @@ module _ (R : ℕ → ℕ → Type 0) (may now : ℕ → Type 0) (most x h : ℕ
   first_before : (id : ℕ) → Contains (t ++ b) id → R h id
   first_before id has = All-contains (R h) (t ++ b) id (AllPairs-head R h (t ++ b) was.rising) has
 
-  stays_before : (stays : ℕ) → may stays → (Contains (t ++ x ∷ b) stays → ⊥) → (id : ℕ) → Contains (t ++ x ∷ b) id → R stays id
+  stays_before : (stays : ℕ) → may stays → (Contains (t ++ x ∷ b) stays → ⊥) → (id : ℕ) → Contains (t ++ x ∷ b) id
+      → R stays id
   stays_before stays old not id has = elim (cases_eq stays h) [
     | inl first ↦ elim (midst_cases t b x id has) [
       | inl there ↦ subst (λ k. R k id) (sym first) (first_before id there)
@@ -142,13 +149,16 @@ in_drop (suc n) [] y has = absurd (omega (arith, has.1))
 in_drop (suc n) (x ∷ xs) y has = (let found = in_drop n xs y has in (suc found.0, omega (arith, found.1), found.2))
 
 -- of a list in order an earlier one comes before a later one
-pub pairs_at : (R : ℕ → ℕ → Type 0) (xs : List ℕ) (i j a b : ℕ) → AllPairs R xs → i < j → slice_get xs i ≡ Some a → slice_get xs j ≡ Some b → R a b
+pub pairs_at : (R : ℕ → ℕ → Type 0) (xs : List ℕ) (i j a b : ℕ) → AllPairs R xs → i < j → slice_get xs i ≡ Some a
+    → slice_get xs j ≡ Some b → R a b
 pairs_at R xs i j a b pairs less at then =
     subst (λ y. R y b) (get_or_from_slice_get xs i a b at) (subst (R (slice_index_or xs i b)) (get_or_from_slice_get xs j b b then) (pairs i j b less (slice_get_within xs j b then)))
 
 -- one more, at its place among the latest, of which the first one leaves where they are too many
-pub one_more : (R : ℕ → ℕ → Type 0) (may now : ℕ → Type 0) (x : ℕ) (ids : List ℕ) (place : ℕ) → AreLatest R may MAX_MOVED ids → ((id : ℕ) → may id → now id) → now x
-    → ((id : ℕ) → now id → may id ⊎ (x ≡ id)) → ((y : ℕ) → Contains (take place ids) y → R y x) → ((y : ℕ) → Contains (drop place ids) y → R x y)
+pub one_more : (R : ℕ → ℕ → Type 0) (may now : ℕ → Type 0) (x : ℕ) (ids : List ℕ) (place : ℕ)
+    → AreLatest R may MAX_MOVED ids → ((id : ℕ) → may id → now id) → now x
+    → ((id : ℕ) → now id → may id ⊎ (x ≡ id)) → ((y : ℕ) → Contains (take place ids) y → R y x)
+    → ((y : ℕ) → Contains (drop place ids) y → R x y)
     → ((p q : ℕ) → may p → may q → R p q → R q x → R p x) → AreLatest R now MAX_MOVED (with_one ids place x)
 one_more R may now x ids place was grows comes which lower upper along = elim (cases_lt (length ids) MAX_MOVED) [
   | inl fewer ↦
@@ -161,7 +171,8 @@ one_more R may now x ids place was grows comes which lower upper along = elim (c
       subst (λ n. AreLatest R now MAX_MOVED (drop n (insert ids place x))) (sym one) (leaves ids place was lower upper full)
 ]
   where
-    leaves : (ids : List ℕ) (place : ℕ) → AreLatest R may MAX_MOVED ids → ((y : ℕ) → Contains (take place ids) y → R y x) → ((y : ℕ) → Contains (drop place ids) y → R x y)
+    leaves : (ids : List ℕ) (place : ℕ) → AreLatest R may MAX_MOVED ids
+        → ((y : ℕ) → Contains (take place ids) y → R y x) → ((y : ℕ) → Contains (drop place ids) y → R x y)
         → MAX_MOVED ≤ length ids → AreLatest R now MAX_MOVED (drop 1 (insert ids place x))
     leaves ids zero was lower upper full = skipped R may now MAX_MOVED x ids was grows which upper full
     leaves [] (suc p) was lower upper full = absurd (omega (arith, full))

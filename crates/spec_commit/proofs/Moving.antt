@@ -1,5 +1,7 @@
 -- Idle tasks that leave their queue and are pushed into a block, one after another.
-use Rattle.std.proofs.Common.{◌≡◌, ◌≢◌, ◌<◌, ◌≤◌, ◌+◌, ◌∷◌, ◌++◌, ℕ, zero, suc, Bool, true, false, cond, not, eqb, List, [], length, map, take, Option, Some, None, option_map, refl, sym, ap, subst, ◌∙◌, inl, inr, arith, slice_get, slice_index_or}
+use Rattle.std.proofs.Common.{◌≡◌, ◌≢◌, ◌<◌, ◌≤◌, ◌+◌, ◌∷◌, ◌++◌, ℕ, zero, suc, Bool, true, false, cond, not, eqb, List}
+use Rattle.std.proofs.Common.{[], length, map, take, Option, Some, None, option_map, refl, sym, ap, subst, ◌∙◌, inl}
+use Rattle.std.proofs.Common.{inr, arith, slice_get, slice_index_or}
 use Rattle.std.specs.Prelude.{Contains, IsSome, is_some, slice_set}
 use Rattle.spec_state.specs.declared.effect.SpilledTask.{SpilledTask}
 use Rattle.spec_state.specs.Effects.{EffectValue}
@@ -16,7 +18,8 @@ use Rattle.std.proofs.lemmas.Cmp.{tied_itself}
 use Rattle.fractal_vt.specs.declared.key.Key.{Key}
 use Rattle.fractal_vt.proofs.Proved.{key_cmp_total, same_number}
 use Rattle.run_journal.specs.declared.journal.Entry.{Entry}
-use Rattle.spec_state.proofs.Proved.{all_same, freed_other, has_head, head_or_tail, held_at, held_place, in_tail, keeps_none}
+use Rattle.spec_state.proofs.Proved.{all_same, freed_other, has_head, head_or_tail, held_at, held_place, in_tail}
+use Rattle.spec_state.proofs.Proved.{keeps_none}
 use Rattle.spill_store.specs.SpilledTasks.{Spilled, after_push}
 use Rattle.spill_store.specs.Pushing.{after_pushes}
 use Rattle.tile_queues.specs.Queue.{ids_but}
@@ -50,7 +53,8 @@ module _ (size : ℕ) (view : View) (stored : IsStored size view) (id : ℕ) (ta
       (let is = (stored.finished_are j id).0 has in not_as (λ s. s ≡ Finished) (λ same. absurd (cc (same))) is.0 is.1 is.3))))
 
 -- a task that keeps no core stands on none
-pub cores_stay : (size : ℕ) (view : View) → IsStored size view → (id : ℕ) (task : Task) → task_at view id ≡ Some task → ((core : ℕ) → HasCore task.status core → ⊥)
+pub cores_stay : (size : ℕ) (view : View) → IsStored size view → (id : ℕ) (task : Task) → task_at view id ≡ Some task
+    → ((core : ℕ) → HasCore task.status core → ⊥)
     → map (map (freed_of id)) view.cores ≡ view.cores
 cores_stay size view stored id task there none =
     sym (all_same (map (freed_of id)) view.cores [] (λ j. sym (all_same (freed_of id) (cores_at view j) None (λ k. freed_other id (slice_index_or (cores_at view j) k None) (λ own.
@@ -60,7 +64,8 @@ cores_stay size view stored id task there none =
     none k (subst (λ (t : Task). HasCore t.status k) same is.3)))))))
 
 -- so its lists are left but for its queue
-pub left_idle : (size : ℕ) (old mid : View) (id : ℕ) (task : Task) → IsStored size old → task_at old id ≡ Some task → task.status ≡ Idle → TaskLeaves id old mid
+pub left_idle : (size : ℕ) (old mid : View) (id : ℕ) (task : Task) → IsStored size old → task_at old id ≡ Some task
+    → task.status ≡ Idle → TaskLeaves id old mid
     → mid ≡ record old { tasks = mid.tasks; queues = mid.queues }
 left_idle size old mid id task stored there idle leaves =
     leaves.frame ∙ λ i. record old {
@@ -70,10 +75,13 @@ left_idle size old mid id task stored there idle leaves =
       cores = (leaves.cores ∙ cores_stay size old stored id task there (keeps_none task.status (inl idle))) i;
     }
 
-spills_from : (tile id : ℕ) (old new : View) (tasks : List (Option Task)) (queues : List (List ℕ)) (task : Task) (s : Spilled) → task_at old id ≡ Some task
-    → slice_index_or tasks id None ≡ None → ((k : ℕ) → k ≢ id → slice_index_or tasks k None ≡ task_at old k) → queues ≡ map (ids_but id) old.queues
+spills_from : (tile id : ℕ) (old new : View) (tasks : List (Option Task)) (queues : List (List ℕ)) (task : Task) (s : Spilled)
+    → task_at old id ≡ Some task
+    → slice_index_or tasks id None ≡ None → ((k : ℕ) → k ≢ id → slice_index_or tasks k None ≡ task_at old k)
+    → queues ≡ map (ids_but id) old.queues
     → s ≡ spilled_as (name_given task.creator (length old.history)) (descriptor_of task)
-    → new ≡ record old { tasks = tasks; queues = queues; blocks = slice_set old.blocks tile (after_push (block_at old tile) s) } → Spills tile id old new
+    → new ≡ record old { tasks = tasks; queues = queues; blocks = slice_set old.blocks tile (after_push (block_at old tile) s) }
+    → Spills tile id old new
 spills_from tile id old new tasks queues task s there vacant others without_it is new_is =
     subst (Spills tile id old) (sym new_is)
     (record {
@@ -86,7 +94,8 @@ spills_from tile id old new tasks queues task s there vacant others without_it i
     })
 
 -- a task that leaves and is pushed
-pub spills : (size tile id : ℕ) (old mid new : View) (task : Task) (s : Spilled) (count : ℕ) → IsStored size old → IsIdleTask old id → task_at old id ≡ Some task → TaskLeaves id old mid
+pub spills : (size tile id : ℕ) (old mid new : View) (task : Task) (s : Spilled) (count : ℕ) → IsStored size old
+    → IsIdleTask old id → task_at old id ≡ Some task → TaskLeaves id old mid
     → count ≡ length old.history → s ≡ spilled_as (name_given task.creator count) (descriptor_of task)
     → new ≡ record mid { blocks = slice_set mid.blocks tile (after_push (block_at mid tile) s) }
     → Spills tile id old new
@@ -99,15 +108,19 @@ spills size tile id old mid new task s count stored idle there leaves same is pu
     (left_idle size old mid id task stored there (ap (λ (t : Task). t.status) one ∙ idle.idle) leaves))
 
 -- a queue whose ids are all tasks' stays
-all_stay : (tasks : ℕ → Option RoomTask) (ids : List ℕ) → ((k : ℕ) → Contains ids k → is_some (tasks k) ≡ true) → queue_after tasks ids ≡ ids
+all_stay : (tasks : ℕ → Option RoomTask) (ids : List ℕ) → ((k : ℕ) → Contains ids k → is_some (tasks k) ≡ true)
+    → queue_after tasks ids ≡ ids
 all_stay tasks [] live = refl
 all_stay tasks (k ∷ ids) live =
-    ap (λ b. kept_by b k (queue_after tasks ids)) (live k (has_head k ids)) ∙ ap (λ rest. k ∷ rest) (all_stay tasks ids (λ j has. live j (in_tail k ids j has)))
+    ap (λ b. kept_by b k (queue_after tasks ids)) (live k (has_head k ids))
+    ∙ ap (λ rest. k ∷ rest) (all_stay tasks ids (λ j has. live j (in_tail k ids j has)))
 
 without_own : (id k : ℕ) (ids : List ℕ) → k ≡ id → ids_but id (k ∷ ids) ≡ ids_but id ids
-without_own id k ids same = (let is : eqb k id ≡ true = grind (arith, nat_tests) in ap (λ test. cond (not test) (k ∷ ids_but id ids) (ids_but id ids)) is)
+without_own id k ids same =
+    (let is : eqb k id ≡ true = grind (arith, nat_tests) in ap (λ test. cond (not test) (k ∷ ids_but id ids) (ids_but id ids)) is)
 
-without_after : (id : ℕ) (was now : ℕ → Option RoomTask) → now id ≡ None → ((k : ℕ) → k ≢ id → now k ≡ was k) → (ids : List ℕ) → ids_but id (queue_after was ids) ≡ queue_after now ids
+without_after : (id : ℕ) (was now : ℕ → Option RoomTask) → now id ≡ None → ((k : ℕ) → k ≢ id → now k ≡ was k)
+    → (ids : List ℕ) → ids_but id (queue_after was ids) ≡ queue_after now ids
 without_after id was now gone others [] = refl
 without_after id was now gone others (k ∷ ids) = elim (cases_eq k id) [
   | inl same ↦
@@ -118,21 +131,26 @@ without_after id was now gone others (k ∷ ids) = elim (cases_eq k id) [
       ∙ sym (ap (λ o. kept_by (is_some o) k (queue_after now ids)) (others k other))
 ]
   where
-    own : (b : Bool) → k ≡ id → ids_but id (queue_after was ids) ≡ queue_after now ids → ids_but id (kept_by b k (queue_after was ids)) ≡ queue_after now ids
+    own : (b : Bool) → k ≡ id → ids_but id (queue_after was ids) ≡ queue_after now ids
+        → ids_but id (kept_by b k (queue_after was ids)) ≡ queue_after now ids
     own true same more = without_own id k (queue_after was ids) same ∙ more
     own false same more = more
 
-    rest : (b : Bool) → k ≢ id → ids_but id (queue_after was ids) ≡ queue_after now ids → ids_but id (kept_by b k (queue_after was ids)) ≡ kept_by b k (queue_after now ids)
+    rest : (b : Bool) → k ≢ id → ids_but id (queue_after was ids) ≡ queue_after now ids
+        → ids_but id (kept_by b k (queue_after was ids)) ≡ kept_by b k (queue_after now ids)
     rest true other more = ids_but-cons_other id k (queue_after was ids) other ∙ ap (λ xs. k ∷ xs) more
     rest false other more = more
 
-queues_after : (id : ℕ) (was now : ℕ → Option RoomTask) → now id ≡ None → ((k : ℕ) → k ≢ id → now k ≡ was k) → (queues : List (List ℕ))
+queues_after : (id : ℕ) (was now : ℕ → Option RoomTask) → now id ≡ None → ((k : ℕ) → k ≢ id → now k ≡ was k)
+    → (queues : List (List ℕ))
     → map (ids_but id) (map (queue_after was) queues) ≡ map (queue_after now) queues
 queues_after id was now gone others [] = refl
-queues_after id was now gone others (ids ∷ queues) = λ i. without_after id was now gone others ids i ∷ queues_after id was now gone others queues i
+queues_after id was now gone others (ids ∷ queues) =
+    λ i. without_after id was now gone others ids i ∷ queues_after id was now gone others queues i
 
 -- one more is pushed behind the others
-pushed_more : (block moved : List Spilled) (s : Spilled) → after_pushes block (moved ++ s ∷ []) ≡ after_push (after_pushes block moved) s
+pushed_more : (block moved : List Spilled) (s : Spilled)
+    → after_pushes block (moved ++ s ∷ []) ≡ after_push (after_pushes block moved) s
 pushed_more block [] s = refl
 pushed_more block (x ∷ moved) s = pushed_more (after_push block x) moved s
 
@@ -143,14 +161,16 @@ set_again [] tile block s = refl
 set_again (b ∷ blocks) zero block s = refl
 set_again (b ∷ blocks) (suc tile) block s = ap (λ rest. b ∷ rest) (set_again blocks tile block s)
 
-zip_more : (R : ℕ → Spilled → Type 0) (ids : List ℕ) (moved : List Spilled) (id : ℕ) (s : Spilled) → AllZip R ids moved → R id s → AllZip R (ids ++ id ∷ []) (moved ++ s ∷ [])
+zip_more : (R : ℕ → Spilled → Type 0) (ids : List ℕ) (moved : List Spilled) (id : ℕ) (s : Spilled) → AllZip R ids moved
+    → R id s → AllZip R (ids ++ id ∷ []) (moved ++ s ∷ [])
 zip_more R [] [] id s all is = (is, tt)
 zip_more R [] (y ∷ moved) id s all is = absurd all
 zip_more R (x ∷ ids) [] id s all is = absurd all
 zip_more R (x ∷ ids) (y ∷ moved) id s all is = (all.0, zip_more R ids moved id s all.1 is)
 
 -- a firm task has the name that its creator gives
-firm_named : (size : ℕ) (view : View) (id : ℕ) (task : Task) → IsStored size view → task_at view id ≡ Some task → IsFirm view task → HasName view task.creator (name_given task.creator (length view.history))
+firm_named : (size : ℕ) (view : View) (id : ℕ) (task : Task) → IsStored size view → task_at view id ≡ Some task
+    → IsFirm view task → HasName view task.creator (name_given task.creator (length view.history))
 firm_named size view id task stored there (inl committed) =
     subst (λ creator. HasName view creator (name_given creator (length view.history))) (sym committed.2)
     ((stored.tasks id task there).turn committed.0 committed.1 committed.2, refl)
@@ -191,7 +211,8 @@ module _ (size tile : ℕ) (ids : List ℕ) (old : View) (stored : IsStored size
   movable = chosen.movable id (held_at ids count id at_count)
 
   same_rank : (key : Key) (p : ℕ) → ranked_cmp key (Queued tile p) key (Queued tile p) ≡ Equal
-  same_rank key p = ap (λ o. ordering_then o (ordering_then (nat_cmp tile tile) (nat_cmp p p))) (tied_itself key_cmp_total key)
+  same_rank key p =
+      ap (λ o. ordering_then o (ordering_then (nat_cmp tile tile) (nat_cmp p p))) (tied_itself key_cmp_total key)
       ∙ ap (λ o. ordering_then o (nat_cmp p p)) (same_number tile) ∙ same_number p
 
   not_self : (k : ℕ) → IsMovable old tile k → Precedes old tile k k → ⊥
@@ -204,7 +225,8 @@ module _ (size tile : ℕ) (ids : List ℕ) (old : View) (stored : IsStored size
       absurd (cc (both))
 
   not_yet : Contains (take count ids) id → ⊥
-  not_yet has = (let found = in_take count ids id has in not_self id movable (pairs_at (Precedes old tile) ids found.0 count id id chosen.rising found.1 found.2 at_count))
+  not_yet has =
+      (let found = in_take count ids id has in not_self id movable (pairs_at (Precedes old tile) ids found.0 count id id chosen.rising found.1 found.2 at_count))
 
   module _ (now : View) (moved : HaveMoved tile ids old now count) where
     still_there : task_at now id ≡ Some movable.0
@@ -256,11 +278,15 @@ module _ (size tile : ℕ) (ids : List ℕ) (old : View) (stored : IsStored size
           ∙ queues_after id (room_tasks now) (room_tasks new) (ap (option_map room_task) spills.changes.changed) (λ k other. ap (option_map room_task) (spills.changes.others k other)) old.queues
 
       blocks_now : new.blocks ≡ slice_set old.blocks tile (after_pushes (block_at old tile) (moved.moved ++ s ∷ []))
-      blocks_now = spills.blocks ∙ ap (λ x. slice_set now.blocks tile (after_push (block_at now tile) x)) pushed_is ∙ go now.blocks moved.blocks
+      blocks_now =
+          spills.blocks ∙ ap (λ x. slice_set now.blocks tile (after_push (block_at now tile) x)) pushed_is
+          ∙ go now.blocks moved.blocks
         where
-          go : (blocks : List (List Spilled)) → blocks ≡ slice_set old.blocks tile (after_pushes (block_at old tile) moved.moved)
+          go : (blocks : List (List Spilled))
+              → blocks ≡ slice_set old.blocks tile (after_pushes (block_at old tile) moved.moved)
               → slice_set blocks tile (after_push (slice_index_or blocks tile []) s) ≡ slice_set old.blocks tile (after_pushes (block_at old tile) (moved.moved ++ s ∷ []))
-          go blocks is = subst (λ bs. slice_set bs tile (after_push (slice_index_or bs tile []) s) ≡ slice_set old.blocks tile (after_pushes (block_at old tile) (moved.moved ++ s ∷ []))) (sym is)
+          go blocks is =
+              subst (λ bs. slice_set bs tile (after_push (slice_index_or bs tile []) s) ≡ slice_set old.blocks tile (after_pushes (block_at old tile) (moved.moved ++ s ∷ []))) (sym is)
               (set_again old.blocks tile (after_pushes (block_at old tile) moved.moved) s ∙ ap (slice_set old.blocks tile) (sym (pushed_more (block_at old tile) moved.moved s)))
 
       -- one more has moved
@@ -274,16 +300,22 @@ module _ (size tile : ℕ) (ids : List ℕ) (old : View) (stored : IsStored size
         others = others_now;
         queues = queues_now;
         blocks = blocks_now;
-        rest = spills.frame ∙ ap (λ (v : View). record v { tasks = new.tasks; queues = new.queues; blocks = new.blocks }) moved.rest;
+        rest =
+            spills.frame
+            ∙ ap (λ (v : View). record v { tasks = new.tasks; queues = new.queues; blocks = new.blocks }) moved.rest;
       }
 
 -- once all have moved it is a coalescing
-pub all_moved : (tile : ℕ) (ids : List ℕ) (old now : View) (count : ℕ) → AreChosen old tile ids → ids ≢ [] → length ids ≤ count → HaveMoved tile ids old now count
+pub all_moved : (tile : ℕ) (ids : List ℕ) (old now : View) (count : ℕ) → AreChosen old tile ids → ids ≢ []
+    → length ids ≤ count → HaveMoved tile ids old now count
     → (c : Coalesces tile old now) × (c.ids ≡ ids)
-all_moved tile ids old now count chosen some past moved = go (take count ids) (take_all count ids past) moved.spilled moved.gone moved.others
+all_moved tile ids old now count chosen some past moved =
+    go (take count ids) (take_all count ids past) moved.spilled moved.gone moved.others
   where
-    go : (first : List ℕ) → first ≡ ids → AllZip (IsSpilledAs old) first moved.moved → ((id : ℕ) → Contains first id → task_at now id ≡ None)
-        → ((id : ℕ) → (Contains first id → ⊥) → task_at now id ≡ task_at old id) → (c : Coalesces tile old now) × (c.ids ≡ ids)
+    go : (first : List ℕ) → first ≡ ids → AllZip (IsSpilledAs old) first moved.moved
+        → ((id : ℕ) → Contains first id → task_at now id ≡ None)
+        → ((id : ℕ) → (Contains first id → ⊥) → task_at now id ≡ task_at old id)
+        → (c : Coalesces tile old now) × (c.ids ≡ ids)
     go first same spilled gone others = (
       record {
         ids = first;
@@ -301,12 +333,15 @@ all_moved tile ids old now count chosen some past moved = go (take count ids) (t
     )
 
 -- as the view stays where memory is taken before
-pub coalesced : (tile : ℕ) (old mid new : View) (slice : List ℕ) (n : ℕ) → mid ≡ old → (c : Coalesces tile mid new) × (c.ids ≡ slice) → n ≡ length slice
+pub coalesced : (tile : ℕ) (old mid new : View) (slice : List ℕ) (n : ℕ) → mid ≡ old
+    → (c : Coalesces tile mid new) × (c.ids ≡ slice) → n ≡ length slice
     → (c : Coalesces tile old new) × (n ≡ length c.ids)
-coalesced tile old mid new slice n same moved count = subst (λ v. (c : Coalesces tile v new) × (n ≡ length c.ids)) same (moved.0, count ∙ ap length (sym moved.1))
+coalesced tile old mid new slice n same moved count =
+    subst (λ v. (c : Coalesces tile v new) × (n ≡ length c.ids)) same (moved.0, count ∙ ap length (sym moved.1))
 
 -- where one may move some are chosen
-pub some_chosen : (tile : ℕ) (old mid : View) (items slice : List ℕ) → mid ≡ old → (id : ℕ) × IsMovable old tile id → AreChosen mid tile items → slice ≡ items → slice ≡ [] → ⊥
+pub some_chosen : (tile : ℕ) (old mid : View) (items slice : List ℕ) → mid ≡ old → (id : ℕ) × IsMovable old tile id
+    → AreChosen mid tile items → slice ≡ items → slice ≡ [] → ⊥
 some_chosen tile old mid items slice same moves chosen is none =
     go items (sym is ∙ none) (subst (λ v. AreChosen v tile items) same chosen)
   where

@@ -1,5 +1,6 @@
 -- The victim, which is the latest task of a queue other than the asker, as one place after another is looked at.
-use Rattle.std.proofs.Common.{◌≡◌, ◌≢◌, ◌⊎◌, ◌≤◌, ◌+◌, ℕ, Bool, true, false, List, length, Option, Some, None, refl, sym, ap, subst, ◌∙◌, inl, inr, arith, slice_get, slice_index_or}
+use Rattle.std.proofs.Common.{◌≡◌, ◌≢◌, ◌⊎◌, ◌≤◌, ◌+◌, ℕ, Bool, true, false, List, length, Option, Some, None, refl}
+use Rattle.std.proofs.Common.{sym, ap, subst, ◌∙◌, inl, inr, arith, slice_get, slice_index_or}
 use Rattle.std.specs.Prelude.{◌↔◌, IsSome, IsNone, IfSome, IsTrue, is_some}
 use Rattle.std.proofs.lemmas.Bool.{cases_eq}
 use Rattle.std.proofs.lemmas.Option.{slice_get-get_or}
@@ -19,7 +20,8 @@ is_there None v is none = absurd (cc (is))
 is_there (Some w) v is none = absurd (cc (none))
 
 -- the latest so far is a task
-pub live_latest : (size : ℕ) (view : View) (tile : ℕ) (asker : Asker) (count : ℕ) (latest : Option ℕ) → IsStored size view → IfSome latest (IsLatestOther view tile asker count)
+pub live_latest : (size : ℕ) (view : View) (tile : ℕ) (asker : Asker) (count : ℕ) (latest : Option ℕ)
+    → IsStored size view → IfSome latest (IsLatestOther view tile asker count)
     → IfSome latest (λ other. IsSome (task_at view other))
 live_latest size view tile asker count None stored is = tt
 live_latest size view tile asker count (Some v) stored is = live_at size view tile is.among.0 v stored is.among.2
@@ -51,8 +53,10 @@ module _ (size : ℕ) (view : View) (tile : ℕ) (stored : IsStored size view) (
       }
 
   -- and else this one is the latest
-  comes_before : (latest : Option ℕ) → IfSome latest (IsLatestOther view tile asker i) → (IsNone latest → (k : ℕ) → IsAmong view tile i k → asker ≡ Enqueuer k)
-      → IfSome latest (λ v. HasLessKey view id v → ⊥) → (k : ℕ) → IsAmong view tile i k → asker ≢ Enqueuer k → Precedes view tile k id
+  comes_before : (latest : Option ℕ) → IfSome latest (IsLatestOther view tile asker i)
+      → (IsNone latest → (k : ℕ) → IsAmong view tile i k → asker ≡ Enqueuer k)
+      → IfSome latest (λ v. HasLessKey view id v → ⊥) → (k : ℕ) → IsAmong view tile i k → asker ≢ Enqueuer k
+      → Precedes view tile k id
   comes_before None some none not k has asks = absurd (asks (none refl k has))
   comes_before (Some v) some none not k has asks =
       let last : Precedes view tile v id = place_precedes view tile distinct v id some.among.0 i some.among.2 item some.among.1 not in
@@ -62,7 +66,8 @@ module _ (size : ℕ) (view : View) (tile : ℕ) (stored : IsStored size view) (
         | inr other ↦ precedes_trans view tile distinct k v id some.among.0 there.0 (record { queued = some.among.2; there = there.1 }) (some.last k has other asks) last
       ]
 
-  takes_over : (asker ≢ Enqueuer id) → IfSome latest (λ v. HasLessKey view id v → ⊥) → IsLatestOther view tile asker (i + 1) id
+  takes_over : (asker ≢ Enqueuer id) → IfSome latest (λ v. HasLessKey view id v → ⊥)
+      → IsLatestOther view tile asker (i + 1) id
   takes_over other not = record {
     among = (i, omega arith, item);
     other = other;
@@ -72,16 +77,19 @@ module _ (size : ℕ) (view : View) (tile : ℕ) (stored : IsStored size view) (
     ];
   }
 
-  pub later_is : (v : ℕ) → (asker ≢ Enqueuer id) → ((latest ≡ Some v) × HasLessKey view id v) ⊎ ((v ≡ id) × IfSome latest (λ k. HasLessKey view id k → ⊥))
+  pub later_is : (v : ℕ) → (asker ≢ Enqueuer id)
+      → ((latest ≡ Some v) × HasLessKey view id v) ⊎ ((v ≡ id) × IfSome latest (λ k. HasLessKey view id k → ⊥))
       → IsLatestOther view tile asker (i + 1) v
   later_is v other (inl old) = stays v old.0 old.1
   later_is v other (inr new) = subst (IsLatestOther view tile asker (i + 1)) (sym new.0) (takes_over other new.1)
 
   -- who asks is passed over
-  pub passed_some : asker ≡ Enqueuer id → (now : Option ℕ) → now ≡ latest → IfSome now (IsLatestOther view tile asker (i + 1))
+  pub passed_some : asker ≡ Enqueuer id → (now : Option ℕ) → now ≡ latest
+      → IfSome now (IsLatestOther view tile asker (i + 1))
   passed_some asks now same = subst (λ o. IfSome o (IsLatestOther view tile asker (i + 1))) (sym same) (go latest some)
     where
-      go : (latest : Option ℕ) → IfSome latest (IsLatestOther view tile asker i) → IfSome latest (IsLatestOther view tile asker (i + 1))
+      go : (latest : Option ℕ) → IfSome latest (IsLatestOther view tile asker i)
+          → IfSome latest (IsLatestOther view tile asker (i + 1))
       go None some = tt
       go (Some v) was = record {
         among = more v was.among;
@@ -92,15 +100,18 @@ module _ (size : ℕ) (view : View) (tile : ℕ) (stored : IsStored size view) (
         ];
       }
 
-  pub passed_none : asker ≡ Enqueuer id → (now : Option ℕ) → now ≡ latest → IsNone now → (k : ℕ) → IsAmong view tile (i + 1) k → asker ≡ Enqueuer k
+  pub passed_none : asker ≡ Enqueuer id → (now : Option ℕ) → now ≡ latest → IsNone now → (k : ℕ)
+      → IsAmong view tile (i + 1) k → asker ≡ Enqueuer k
   passed_none asks now same is k has = elim (which k has) [
     | inl old ↦ none (ap is_some (sym same) ∙ is) k old
     | inr own ↦ asks ∙ ap Enqueuer own
   ]
 
 -- once all places are looked at it is the victim
-pub is_victim : (size : ℕ) (view : View) (tile : ℕ) (asker : Asker) (count v : ℕ) (ids : List ℕ) → IsStored size view → ids ≡ queue_at view tile → length ids ≤ count
-    → (latest : Option ℕ) → latest ≡ Some v → IfSome latest (IsLatestOther view tile asker count) → (task : Task) × IsVictim view tile asker v task
+pub is_victim : (size : ℕ) (view : View) (tile : ℕ) (asker : Asker) (count v : ℕ) (ids : List ℕ) → IsStored size view
+    → ids ≡ queue_at view tile → length ids ≤ count
+    → (latest : Option ℕ) → latest ≡ Some v → IfSome latest (IsLatestOther view tile asker count)
+    → (task : Task) × IsVictim view tile asker v task
 is_victim size view tile asker count v ids stored same past latest found some =
     let is : IsLatestOther view tile asker count v = subst (λ o. IfSome o (IsLatestOther view tile asker count)) found some in
     let queued = held_at (queue_at view tile) is.among.0 v is.among.2 in
@@ -117,7 +128,8 @@ is_victim size view tile asker count v ids stored same past latest found some =
     )
 
 -- where four tasks are queued not all of them ask
-pub one_is_other : (view : View) (tile : ℕ) (asker : Asker) (count : ℕ) (ids : List ℕ) → AreDistinct (queue_at view tile) → ids ≡ queue_at view tile → 4 ≤ length ids → length ids ≤ count
+pub one_is_other : (view : View) (tile : ℕ) (asker : Asker) (count : ℕ) (ids : List ℕ)
+    → AreDistinct (queue_at view tile) → ids ≡ queue_at view tile → 4 ≤ length ids → length ids ≤ count
     → ((k : ℕ) → IsAmong view tile count k → asker ≡ Enqueuer k) → ⊥
 one_is_other view tile asker count ids distinct same long past all =
     let long' : 4 ≤ length (queue_at view tile) = subst (λ xs. 4 ≤ length xs) same long in

@@ -21,10 +21,12 @@ module _ (old new : View) (tile : ℕ) (d : Dispatches tile old new) (size : ℕ
 
   -- a task of this id was this one
   was_this : (k : ℕ) (t : Task) → k ≡ d.id → task_at old k ≡ Some t → t ≡ d.task
-  was_this k t same there = let both : Some t ≡ Some d.task = sym there ∙ ap (task_at old) same ∙ d.least.idle.there in cc
+  was_this k t same there =
+      let both : Some t ≡ Some d.task = sym there ∙ ap (task_at old) same ∙ d.least.idle.there in cc
 
   -- each task is the dispatched one, or was there
-  which : (k : ℕ) (t : Task) → task_at new k ≡ Some t → ((k ≡ d.id) × (t ≡ now)) ⊎ ((k ≢ d.id) × (task_at old k ≡ Some t))
+  which : (k : ℕ) (t : Task) → task_at new k ≡ Some t
+      → ((k ≡ d.id) × (t ≡ now)) ⊎ ((k ≢ d.id) × (task_at old k ≡ Some t))
   which k t at = elim (cases_eq k d.id) [
     | inl same ↦ (let both : Some t ≡ Some now = sym at ∙ ap (task_at new) same ∙ d.changes.changed in let eq : t ≡ now = cc in inl (same, eq))
     | inr other ↦ inr (other, sym (d.changes.others k other) ∙ at)
@@ -44,7 +46,8 @@ module _ (old new : View) (tile : ℕ) (d : Dispatches tile old new) (size : ℕ
       other same = none (subst kind (ap (λ t. t.status) (was_this k has.0 same has.1) ∙ d.least.idle.idle) has.3)
 
   -- a task whose status is none of a running one was there
-  not_started : (kind : Status → Type 0) → (kind (Running d.core) → ⊥) → (at k : ℕ) → HasTask after at k kind → HasTask old at k kind
+  not_started : (kind : Status → Type 0) → (kind (Running d.core) → ⊥) → (at k : ℕ) → HasTask after at k kind
+      → HasTask old at k kind
   not_started kind none at k has = elim (which k has.0 has.1) [
     | inl here ↦ absurd (none (subst kind (ap (λ t. t.status) here.1) has.3))
     | inr there ↦ (has.0, there.1, has.2, has.3)
@@ -65,11 +68,13 @@ module _ (old new : View) (tile : ℕ) (d : Dispatches tile old new) (size : ℕ
   ]
 
   -- each core that is held is held by its task
-  held_forth : (at c k : ℕ) → slice_get (cores_at after at) c ≡ Some (Some k) → HasTask after at k (λ status. HasCore status c)
+  held_forth : (at c k : ℕ) → slice_get (cores_at after at) c ≡ Some (Some k)
+      → HasTask after at k (λ status. HasCore status c)
   held_forth at c k held = elim (this_or_other at tile c d.core) [
     | inl this ↦
         let both : Some (Some k) ≡ Some (Some d.id) =
-        sym held ∙ (λ i. slice_get (cores_at after (this.0 i)) (this.1 i)) ∙ holder_now old tile d.core None (Some d.id) d.free.free in
+        sym held ∙ (λ i. slice_get (cores_at after (this.0 i)) (this.1 i))
+        ∙ holder_now old tile d.core None (Some d.id) d.free.free in
         let same : k ≡ d.id = cc in
         (now, ap (task_at new) same ∙ d.changes.changed, own_tile ∙ sym this.0, sym this.1)
     | inr other ↦
@@ -78,12 +83,14 @@ module _ (old new : View) (tile : ℕ) (d : Dispatches tile old new) (size : ℕ
   ]
 
   -- and each task that has a core holds it
-  held_back : (at c k : ℕ) → HasTask after at k (λ status. HasCore status c) → slice_get (cores_at after at) c ≡ Some (Some k)
+  held_back : (at c k : ℕ) → HasTask after at k (λ status. HasCore status c)
+      → slice_get (cores_at after at) c ≡ Some (Some k)
   held_back at c k has = elim (which k has.0 has.1) [
     | inl here ↦
         let here_tile : tile ≡ at = sym own_tile ∙ sym (ap (λ t. t.tile) here.1) ∙ has.2 in
         let here_core : d.core ≡ c = subst (λ t. HasCore t.status c) here.1 has.3 in
-        sym (λ i. slice_get (cores_at after (here_tile i)) (here_core i)) ∙ holder_now old tile d.core None (Some d.id) d.free.free
+        sym (λ i. slice_get (cores_at after (here_tile i)) (here_core i))
+        ∙ holder_now old tile d.core None (Some d.id) d.free.free
         ∙ ap (λ j. Some (Some j)) (sym here.0)
     | inr there ↦
         let held = (stored.held_are at c k).1 (has.0, there.1, has.2, has.3) in
@@ -116,7 +123,8 @@ module _ (old new : View) (tile : ℕ) (d : Dispatches tile old new) (size : ℕ
   pub stored_dispatched : IsStored size new
   stored_dispatched = subst (IsStored size) (sym is_after)
       (record {
-        queued_are = λ at k. (λ has. queued_forth at k ((stored.queued_are at k).0 has), λ has. (stored.queued_are at k).1 (queued_back at k has));
+        queued_are =
+            λ at k. (λ has. queued_forth at k ((stored.queued_are at k).0 has), λ has. (stored.queued_are at k).1 (queued_back at k has));
         finished_are = λ at k. (
           λ has. busy_stays (λ status. status ≡ Finished) (λ is. absurd (cc (is))) at k ((stored.finished_are at k).0 has),
           λ has. (stored.finished_are at k).1 (not_started (λ status. status ≡ Finished) (λ is. absurd (cc (is))) at k has),

@@ -17,7 +17,8 @@ module _ (old new : View) (r : Renumbers old new) where
   same_queue tile = ap (λ v. queue_at v tile) r.frame
 
   -- where a task stands it stood, but for its numbers
-  stood : (tile place id : ℕ) (x : Task) → IsQueuedAt new tile place id x → (w : Task) × IsQueuedAt old tile place id w × (x ≡ renumbered_task r.table w)
+  stood : (tile place id : ℕ) (x : Task) → IsQueuedAt new tile place id x
+      → (w : Task) × IsQueuedAt old tile place id w × (x ≡ renumbered_task r.table w)
   stood tile place id x at =
       let one = was old new r id x at.there in
       (one.0, record { queued = ap (λ ids. slice_get ids place) (sym (same_queue tile)) ∙ at.queued; there = one.1 }, one.2)
@@ -43,25 +44,30 @@ module _ (old new : View) (r : Renumbers old new) where
         },
       )
 
-  least_renumbered : (tile id : ℕ) (task : Task) → IsLeastIdle old tile id task → IsLeastIdle new tile id (renumbered_task r.table task)
+  least_renumbered : (tile id : ℕ) (task : Task) → IsLeastIdle old tile id task
+      → IsLeastIdle new tile id (renumbered_task r.table task)
   least_renumbered tile id task least = record {
     idle = record {
       queued = subst (λ ids. Contains ids id) (sym (same_queue tile)) least.idle.queued;
       there = now old new r id task least.idle.there;
       idle = least.idle.idle;
     };
-    least = λ k x other idle. (let one = idle_was tile k x idle in precedes tile id k (least.least k one.0 other one.1));
+    least =
+        λ k x other idle. (let one = idle_was tile k x idle in precedes tile id k (least.least k one.0 other one.1));
   }
 
 abbrev pub HasLeastIdle : View → ℕ → ℕ → Type 0
 HasLeastIdle view tile id = (task : Task) × IsLeastIdle view tile id task
 
 -- the least idle task is still the least one
-pub least_still : (old new : View) (tile id : ℕ) → FreesNumber old new → HasLeastIdle old tile id → HasLeastIdle new tile id
+pub least_still : (old new : View) (tile id : ℕ) → FreesNumber old new → HasLeastIdle old tile id
+    → HasLeastIdle new tile id
 least_still old new tile id (has_free low) least = least
-least_still old new tile id (renumbers after high r) least = (renumbered_task r.table least.0, least_renumbered old new r tile id least.0 least.1)
+least_still old new tile id (renumbers after high r) least =
+    (renumbered_task r.table least.0, least_renumbered old new r tile id least.0 least.1)
 
 -- a free core is still free
-pub free_still : (old new : View) (tile core : ℕ) → FreesNumber old new → IsFreeCore old tile core → IsFreeCore new tile core
+pub free_still : (old new : View) (tile core : ℕ) → FreesNumber old new → IsFreeCore old tile core
+    → IsFreeCore new tile core
 free_still old new tile core (has_free low) free = free
 free_still old new tile core (renumbers after high r) free = subst (λ v. IsFreeCore v tile core) (sym r.frame) free

@@ -1,5 +1,6 @@
 -- The numbers that are noted are those of the path and of the dispatched tasks.
-use Rattle.std.proofs.Common.{◌≡◌, ◌∷◌, ◌++◌, ℕ, List, [], map, Option, Some, None, refl, sym, ap, subst, ◌∙◌, inl, inr, arith, slice_index_or}
+use Rattle.std.proofs.Common.{◌≡◌, ◌∷◌, ◌++◌, ℕ, List, [], map, Option, Some, None, refl, sym, ap, subst, ◌∙◌, inl, inr}
+use Rattle.std.proofs.Common.{arith, slice_index_or}
 use Rattle.std.specs.Prelude.{Contains, ◌↔◌}
 use Rattle.std.specs.List.{cons_option}
 use Rattle.std.proofs.lemmas.List.Elements.{Contains-append_cases, Contains-append_left, Contains-append_right}
@@ -12,11 +13,14 @@ use Rattle.spec_state.specs.Numbers.{IsPathsOrTasks}
 use Rattle.spec_state.proofs.Proved.{has_head, head_or_tail, in_tail}
 use Rattle.spec_dispatch.specs.Table.{dispatch_numbers_of, held_numbers}
 
-in_rest : (es : List (ℕ × Task)) (e : ℕ × Task) (n : ℕ) (tie : Option ℕ) → e.1.key.tb ≡ tie → Contains (dispatch_numbers_of es) n → Contains (dispatch_numbers_of (e ∷ es)) n
+in_rest : (es : List (ℕ × Task)) (e : ℕ × Task) (n : ℕ) (tie : Option ℕ) → e.1.key.tb ≡ tie
+    → Contains (dispatch_numbers_of es) n → Contains (dispatch_numbers_of (e ∷ es)) n
 in_rest es e n None is has = subst (λ o. Contains (cons_option o (dispatch_numbers_of es)) n) (sym is) has
-in_rest es e n (Some m) is has = subst (λ o. Contains (cons_option o (dispatch_numbers_of es)) n) (sym is) (in_tail m (dispatch_numbers_of es) n has)
+in_rest es e n (Some m) is has =
+    subst (λ o. Contains (cons_option o (dispatch_numbers_of es)) n) (sym is) (in_tail m (dispatch_numbers_of es) n has)
 
-in_numbers : (es : List (ℕ × Task)) (id : ℕ) (t : Task) (n : ℕ) → Contains es (id, t) → t.key.tb ≡ Some n → Contains (dispatch_numbers_of es) n
+in_numbers : (es : List (ℕ × Task)) (id : ℕ) (t : Task) (n : ℕ) → Contains es (id, t) → t.key.tb ≡ Some n
+    → Contains (dispatch_numbers_of es) n
 in_numbers [] id t n has is = absurd (omega (arith, has.1))
 in_numbers (e ∷ es) id t n has is = elim (head_or_tail e es (id, t) has) [
   | inl head ↦
@@ -37,13 +41,15 @@ from_numbers (e ∷ es) n has = by_tie e.1.key.tb refl (from_numbers es n)
 
     by_tie : (tie : Option ℕ) → e.1.key.tb ≡ tie → (Contains (dispatch_numbers_of es) n → Has es n) → Has (e ∷ es) n
     by_tie None is rest = more (rest (subst (λ o. Contains (cons_option o (dispatch_numbers_of es)) n) is has))
-    by_tie (Some m) is rest = elim (head_or_tail m (dispatch_numbers_of es) n (subst (λ o. Contains (cons_option o (dispatch_numbers_of es)) n) is has)) [
-      | inl here ↦ (e.0, e.1, has_head e es, is ∙ ap Some here)
-      | inr tail ↦ more (rest tail)
-    ]
+    by_tie (Some m) is rest =
+        elim (head_or_tail m (dispatch_numbers_of es) n (subst (λ o. Contains (cons_option o (dispatch_numbers_of es)) n) is has)) [
+          | inl here ↦ (e.0, e.1, has_head e es, is ∙ ap Some here)
+          | inr tail ↦ more (rest tail)
+        ]
 
 -- they are the numbers of the path and of the dispatched tasks of a view
-pub held_are : (view : View) (tasks : Slab Task) (n : ℕ) → view.tasks ≡ tasks.slots → Contains (held_numbers view.path tasks) n ↔ IsPathsOrTasks view n
+pub held_are : (view : View) (tasks : Slab Task) (n : ℕ) → view.tasks ≡ tasks.slots
+    → Contains (held_numbers view.path tasks) n ↔ IsPathsOrTasks view n
 held_are view tasks n same = (
   λ has. elim
       (Contains-append_cases (map (λ (level : Level). level.tb) view.path)
@@ -63,9 +69,12 @@ held_are view tasks n same = (
 )
 
 -- what is noted in turn is these
-pub noted : (path : List Level) (tasks : Slab Task) (first before all table : List ℕ) → first ≡ [] → before ≡ first ++ map (λ (level : Level). level.tb) path
-    → all ≡ before ++ dispatch_numbers_of (entries tasks) → ((n : ℕ) → Contains table n ↔ Contains all n) → (n : ℕ) → Contains table n ↔ Contains (held_numbers path tasks) n
-noted path tasks first before all table empty with_path with_tasks same n = subst (λ xs. Contains table n ↔ Contains xs n) whole (same n)
+pub noted : (path : List Level) (tasks : Slab Task) (first before all table : List ℕ) → first ≡ []
+    → before ≡ first ++ map (λ (level : Level). level.tb) path
+    → all ≡ before ++ dispatch_numbers_of (entries tasks) → ((n : ℕ) → Contains table n ↔ Contains all n) → (n : ℕ)
+    → Contains table n ↔ Contains (held_numbers path tasks) n
+noted path tasks first before all table empty with_path with_tasks same n =
+    subst (λ xs. Contains table n ↔ Contains xs n) whole (same n)
   where
     whole : all ≡ held_numbers path tasks
     whole =

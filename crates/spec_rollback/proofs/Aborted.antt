@@ -1,5 +1,6 @@
 -- An abort by its parts: the cascade, the stores that are undone, and the tasks that are taken back.
-use Rattle.std.proofs.Common.{◌≡◌, ◌≤◌, ℕ, Bool, true, false, List, [], length, map, replicate, Option, Some, None, refl}
+use Rattle.std.proofs.Common.{◌≡◌, ◌≤◌, ℕ, Bool, true, false, List, [], length, map, replicate, Option, Some, None}
+use Rattle.std.proofs.Common.{refl}
 use Rattle.std.proofs.Common.{sym, ap, subst, ◌∙◌, inl, inr, arith, if◌then◌else◌}
 use Rattle.std.specs.Prelude.{◌↔◌, count_by, IsSome, IfSome}
 use Rattle.std.proofs.lemmas.List.{length-replicate, get_or-replicate, get_or_past}
@@ -219,7 +220,8 @@ telling_from firsts old mid new marks found told size least counted rest takes u
     (aborts_from firsts old mid new marks found size least counted rest takes undone ids by_key, tells)
 
 pub nothing_told : (size : ℕ) (view : View) → IsStored size view → (firsts : ℕ → Type 0)
-    → ((id : ℕ) → firsts id → ⊥) → (ids : List ℕ) → IsByKey (logged_tasks view) ids → AbortsTelling firsts view 0 [] view
+    → ((id : ℕ) → firsts id → ⊥) → (ids : List ℕ) → IsByKey (logged_tasks view) ids
+    → AbortsTelling firsts view 0 [] view
 unfolding aborts_by nothing_by nothing_aborted
 nothing_told size view stored firsts none ids by_key = (
   nothing_aborted size view stored firsts none ids by_key,

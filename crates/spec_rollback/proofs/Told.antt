@@ -1,5 +1,6 @@
 -- What is told of marked tasks, one after another.
-use Rattle.std.proofs.Common.{◌≡◌, ◌≢◌, ◌≤◌, ◌<◌, ◌+◌, ◌∷◌, ◌++◌, ℕ, Bool, false, List, [], length, map, take, Some, refl, sym}
+use Rattle.std.proofs.Common.{◌≡◌, ◌≢◌, ◌≤◌, ◌<◌, ◌+◌, ◌∷◌, ◌++◌, ℕ, Bool, false, List, [], length, map, take, Some}
+use Rattle.std.proofs.Common.{refl, sym}
 use Rattle.std.proofs.Common.{ap, subst, ◌∙◌, arith, slice_get}
 use Rattle.std.specs.Prelude.{AllPairs, Contains}
 use Rattle.spec_state.specs.Aborts.{is_marked}
@@ -24,7 +25,8 @@ told_more f members place id told at so_far =
 pub told_length : (f : ℕ → TakenTask) (members : List ℕ) (place : ℕ) (told : List TakenTask)
     → place ≤ length members → told ≡ map f (take place members) → length told ≡ place
 told_length f members place told within so_far =
-    ap (λ (ts : List TakenTask). length ts) so_far ∙ length-map (take place members) f ∙ length-take-le place members within
+    ap (λ (ts : List TakenTask). length ts) so_far ∙ length-map (take place members) f
+    ∙ length-take-le place members within
 
 -- the members are told as they stood before their stores were undone
 pub tells_members : (old mid : View) (marks : List Bool) (scratch : Scratch) (found : ℕ) (told : List TakenTask)

@@ -1,5 +1,6 @@
 -- Where the index holds one closed candidate, no access of its task conflicts.
-use Rattle.std.proofs.Common.{◌≡◌, ◌≢◌, ◌≤◌, ℕ, Bool, true, is_some, Option, Some, List, refl, sym, ap, subst, ◌∙◌, arith}
+use Rattle.std.proofs.Common.{◌≡◌, ◌≢◌, ◌≤◌, ℕ, Bool, true, is_some, Option, Some, List, refl, sym, ap, subst, ◌∙◌}
+use Rattle.std.proofs.Common.{arith}
 use Rattle.std.specs.Prelude.{IfSome}
 use Rattle.fractal_vt.specs.Keys.{key_cmp}
 use Rattle.fractal_vt.proofs.Proved.{equal_keys_tie}
@@ -31,4 +32,5 @@ module _ (view : View) (queues : List (List ℕ)) (arrivals : List ℕ) (next : 
       absurd (omega (arith, two, one))
 
   pub alone_if : IfSome (task_at view id) (λ t. (line : ℕ) (write : Bool) (k : ℕ) → Conflicts view t line write k → ⊥)
-  alone_if = subst (λ o. IfSome o (λ t. (line : ℕ) (write : Bool) (k : ℕ) → Conflicts view t line write k → ⊥)) (sym there) no_conflict
+  alone_if =
+      subst (λ o. IfSome o (λ t. (line : ℕ) (write : Bool) (k : ℕ) → Conflicts view t line write k → ⊥)) (sym there) no_conflict

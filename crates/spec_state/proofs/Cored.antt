@@ -1,5 +1,6 @@
 -- The cores of all tiles with another holder on one of them.
-use Rattle.std.proofs.Common.{◌≡◌, ◌≢◌, ◌⊎◌, ◌<◌, ◌∷◌, ℕ, zero, suc, List, [], length, Option, Some, refl, sym, ap, ◌∙◌, inl, inr, arith, slice_get, slice_index_or, get_or-set_other, get_or-set_same}
+use Rattle.std.proofs.Common.{◌≡◌, ◌≢◌, ◌⊎◌, ◌<◌, ◌∷◌, ℕ, zero, suc, List, [], length, Option, Some, refl, sym, ap, ◌∙◌}
+use Rattle.std.proofs.Common.{inl, inr, arith, slice_get, slice_index_or, get_or-set_other, get_or-set_same}
 use Rattle.std.specs.Prelude.{All, slice_set}
 use Rattle.std.proofs.lemmas.Bool.{cases_eq}
 use Rattle.std.proofs.lemmas.List.{length-set}
@@ -23,7 +24,8 @@ set_there (y ∷ xs) (suc i) zero x other = refl
 set_there (y ∷ xs) (suc i) (suc j) x other = set_there xs i j x (λ same. other (ap suc same))
 
 -- a list with something at a place stands within all
-pub at_within : {X : Type 0} (lists : List (List X)) (k i : ℕ) (x : X) → slice_get (slice_index_or lists k []) i ≡ Some x → k < length lists
+pub at_within : {X : Type 0} (lists : List (List X)) (k i : ℕ) (x : X)
+    → slice_get (slice_index_or lists k []) i ≡ Some x → k < length lists
 at_within [] k i x has = absurd (cc (has))
 at_within (xs ∷ lists) zero i x has = omega arith
 at_within (xs ∷ lists) (suc k) i x has = let rest = at_within lists k i x has in omega (arith, rest)
@@ -44,7 +46,8 @@ module _ (view : View) (tile core : ℕ) (was holder : Option ℕ) (there : slic
       ∙ set_here (cores_at view tile) core holder (slice_get_within (cores_at view tile) core was there)
 
   -- and each other core has its own
-  pub others_now : (at c : ℕ) → ((at ≡ tile) → c ≢ core) → slice_get (slice_index_or (with_core view tile core holder) at []) c ≡ slice_get (cores_at view at) c
+  pub others_now : (at c : ℕ) → ((at ≡ tile) → c ≢ core)
+      → slice_get (slice_index_or (with_core view tile core holder) at []) c ≡ slice_get (cores_at view at) c
   others_now at c other = elim (cases_eq at tile) [
     | inl same ↦
         ap (λ i. slice_get (slice_index_or (with_core view tile core holder) i []) c) same
@@ -55,7 +58,8 @@ module _ (view : View) (tile core : ℕ) (was holder : Option ℕ) (there : slic
   ]
 
   -- there are as many
-  pub counts_now : (count : ℕ) → All (λ held. length held ≡ count) view.cores → All (λ held. length held ≡ count) (with_core view tile core holder)
+  pub counts_now : (count : ℕ) → All (λ held. length held ≡ count) view.cores
+      → All (λ held. length held ≡ count) (with_core view tile core holder)
   counts_now count each =
       All-set (λ held. length held ≡ count) view.cores tile (slice_set (cores_at view tile) core holder)
       (length-set (cores_at view tile) core holder ∙ each tile [] tile_below) each

@@ -1,5 +1,6 @@
 -- The kinds of the domains that a task is in, by the bits of a number; and the floor of a domain.
-use Rattle.std.proofs.Common.{◌≡◌, ◌/◌, ◌%◌, ◌^◌, ◌∷◌, ◌++◌, ℕ, zero, suc, true, false, List, [], refl, sym, ap, ◌∙◌, arith, ◌==◌}
+use Rattle.std.proofs.Common.{◌≡◌, ◌/◌, ◌%◌, ◌^◌, ◌∷◌, ◌++◌, ℕ, zero, suc, true, false, List, [], refl, sym, ap, ◌∙◌}
+use Rattle.std.proofs.Common.{arith, ◌==◌}
 use Rattle.std.proofs.Math.Nat.{div-div-eq-div-mul, mul_comm, pow-suc, div-one}
 use Rattle.fractal_vt.specs.declared.level.Level.{Level}
 use Rattle.std.proofs.Common.{◌≢◌}
@@ -10,7 +11,9 @@ use Rattle.spec_state.specs.Tasks.{is_ordered_at, kind_if, kind_at, floor_in}
 -- whether a domain is ordered is a bit
 pub ordered_by_bit : (outer kinds : ℕ) → is_ordered_at outer kinds ≡ (kinds / 2 ^ outer % 2 == 1)
 ordered_by_bit zero kinds = ap (λ n. n % 2 == 1) (sym (div-one kinds))
-ordered_by_bit (suc outer) kinds = ordered_by_bit outer (kinds / 2) ∙ ap (λ n. n % 2 == 1) (div-div-eq-div-mul kinds 2 (2 ^ outer) ∙ ap (λ n. kinds / n) (mul_comm 2 (2 ^ outer) ∙ sym (pow-suc 2 outer)))
+ordered_by_bit (suc outer) kinds =
+    ordered_by_bit outer (kinds / 2)
+    ∙ ap (λ n. n % 2 == 1) (div-div-eq-div-mul kinds 2 (2 ^ outer) ∙ ap (λ n. kinds / n) (mul_comm 2 (2 ^ outer) ∙ sym (pow-suc 2 outer)))
 
 -- the floor of a domain is the timestamp of its last level
 pub floor_last : (floor : ℕ) (outer : List Level) (last : Level) → floor_in floor (outer ++ last ∷ []) ≡ last.ts

@@ -1,5 +1,6 @@
 -- A task that enters the index with a number of its arrival above all others.
-use Rattle.std.proofs.Common.{◌≡◌, ◌≢◌, ◌⊎◌, ◌<◌, ◌+◌, ◌∷◌, ◌++◌, ℕ, zero, suc, List, [], length, Option, Some, None, refl, sym, ap, subst, ◌∙◌, inl, inr, arith, slice_get, slice_index_or}
+use Rattle.std.proofs.Common.{◌≡◌, ◌≢◌, ◌⊎◌, ◌<◌, ◌+◌, ◌∷◌, ◌++◌, ℕ, zero, suc, List, [], length, Option, Some, None}
+use Rattle.std.proofs.Common.{refl, sym, ap, subst, ◌∙◌, inl, inr, arith, slice_get, slice_index_or}
 use Rattle.std.specs.Prelude.{Contains, slice_set}
 use Rattle.std.specs.List.Sorted.{IsPermutation}
 use Rattle.std.proofs.lemmas.Bool.{cases_eq}
@@ -31,7 +32,8 @@ pub held_at : (ids : List ℕ) (p id : ℕ) → slice_get ids p ≡ Some id → 
 held_at ids p id at = (p, slice_get_within ids p id at, get_or_from_slice_get ids p id id at)
 
 -- the index holds no candidate of an id that is no task's
-pub no_candidate : (tasks : List (Option Task)) (queues : List (List ℕ)) (arrivals : List ℕ) (next id : ℕ) (listed : List Candidate) → IsIndexed tasks queues arrivals next listed
+pub no_candidate : (tasks : List (Option Task)) (queues : List (List ℕ)) (arrivals : List ℕ) (next id : ℕ) (listed : List Candidate)
+    → IsIndexed tasks queues arrivals next listed
     → slice_index_or tasks id None ≡ None → HasId id listed → ⊥
 no_candidate tasks queues arrivals next id listed is vacant (k, e, below, at, same) =
     let was = is.each e (k, below, at) in
@@ -68,7 +70,8 @@ module _ (tasks after : List (Option Task)) (queues : List (List ℕ)) (arrivals
   other_candidate : (k : ℕ) (t : Task) → k ≢ id → candidate_of numbers k t ≡ candidate_of arrivals k t
   other_candidate k t other = λ i. record { key = t.key; tile = t.tile; arrival = other_number k other i; id = k }
 
-  all_in : (k : ℕ) (t : Task) → slice_index_or after k None ≡ Some t → Contains (after_insert candidate_cmp own listed) (candidate_of numbers k t)
+  all_in : (k : ℕ) (t : Task) → slice_index_or after k None ≡ Some t
+      → Contains (after_insert candidate_cmp own listed) (candidate_of numbers k t)
   all_in k t at = elim (cases_eq k id) [
     | inl same ↦
         let both : Some t ≡ Some task = sym at ∙ ap (λ j. slice_index_or after j None) same ∙ changed in
@@ -116,7 +119,8 @@ module _ (tasks after : List (Option Task)) (queues : List (List ℕ)) (arrivals
     | inr other ↦ (let less = was_early tile k (subst (λ ids. Contains ids k) (other_list tile other) has) in omega (arith, less))
   ]
 
-  was_rising : (tile p q a b : ℕ) → p < q → slice_get (slice_index_or queues tile []) p ≡ Some a → slice_get (slice_index_or queues tile []) q ≡ Some b
+  was_rising : (tile p q a b : ℕ) → p < q → slice_get (slice_index_or queues tile []) p ≡ Some a
+      → slice_get (slice_index_or queues tile []) q ≡ Some b
       → slice_index_or numbers a 0 < slice_index_or numbers b 0
   was_rising tile p q a b less at bt =
       let ea = other_number a (unqueued tile a (held_at (slice_index_or queues tile []) p a at)) in
@@ -124,7 +128,8 @@ module _ (tasks after : List (Option Task)) (queues : List (List ℕ)) (arrivals
       let was = is.rising tile p q a b less at bt in
       omega (arith, ea, eb, was)
 
-  rising_own : (p q a b : ℕ) → p < q → slice_get (own_queue ++ id ∷ []) p ≡ Some a → slice_get (own_queue ++ id ∷ []) q ≡ Some b → slice_index_or numbers a 0 < slice_index_or numbers b 0
+  rising_own : (p q a b : ℕ) → p < q → slice_get (own_queue ++ id ∷ []) p ≡ Some a
+      → slice_get (own_queue ++ id ∷ []) q ≡ Some b → slice_index_or numbers a 0 < slice_index_or numbers b 0
   rising_own p q a b less at bt = elim (get_cases own_queue id p a at) [
     | inl first ↦ elim (get_cases own_queue id q b bt) [
       | inl second ↦ was_rising task.tile p q a b less first second
@@ -138,7 +143,8 @@ module _ (tasks after : List (Option Task)) (queues : List (List ℕ)) (arrivals
         absurd (omega (arith, past, long, first.0, less))
   ]
 
-  rising_all : (tile p q a b : ℕ) → p < q → slice_get (slice_index_or lists tile []) p ≡ Some a → slice_get (slice_index_or lists tile []) q ≡ Some b
+  rising_all : (tile p q a b : ℕ) → p < q → slice_get (slice_index_or lists tile []) p ≡ Some a
+      → slice_get (slice_index_or lists tile []) q ≡ Some b
       → slice_index_or numbers a 0 < slice_index_or numbers b 0
   rising_all tile p q a b less at bt = elim (cases_eq tile task.tile) [
     | inl same ↦

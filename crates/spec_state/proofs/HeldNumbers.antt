@@ -14,7 +14,8 @@ use Rattle.spec_state.specs.Numbers.{IsNumberTable, IsTieOf, in_domain, of_spill
 use Rattle.spec_state.specs.View.{View, task_at}
 
 -- levels whose tiebreakers a table has are held by it
-held_levels : (table : List ℕ) (ds : List Level) → ((n : ℕ) → IsTieOf ds n → Contains table n) → All (IsHeld table) (map closed_level ds)
+held_levels : (table : List ℕ) (ds : List Level) → ((n : ℕ) → IsTieOf ds n → Contains table n)
+    → All (IsHeld table) (map closed_level ds)
 held_levels table [] each = All-nil (IsHeld table)
 held_levels table (d ∷ ds) each =
     All-cons (IsHeld table) (closed_level d) (map closed_level ds) (each d.tb (0, omega arith, refl))

@@ -1,5 +1,6 @@
 -- A task that comes to be, idle, as the last one of its tile's queue: the lists still hold what they should.
-use Rattle.std.proofs.Common.{◌≡◌, ◌≢◌, ◌<◌, ◌∷◌, ◌++◌, ℕ, List, [], length, map, Some, None, sym, ap, subst, ◌∙◌, inl, inr, arith, slice_index_or}
+use Rattle.std.proofs.Common.{◌≡◌, ◌≢◌, ◌<◌, ◌∷◌, ◌++◌, ℕ, List, [], length, map, Some, None, sym, ap, subst, ◌∙◌, inl}
+use Rattle.std.proofs.Common.{inr, arith, slice_index_or}
 use Rattle.std.specs.Prelude.{Contains, slice_set}
 use Rattle.std.proofs.lemmas.Bool.{cases_eq, cases_lt}
 use Rattle.std.proofs.lemmas.List.{get_or-map, map-set, get_or-set_same, get_or-set_other, get_or_past}
@@ -14,11 +15,13 @@ use Rattle.spec_state.specs.Stored.{HasCore, HasTask, IsWellFormed, IsStored}
 use Rattle.spec_state.specs.Opening.{Adds}
 
 -- what stands at a place of the lists of ids is what the queue there holds
-pub ids_at : (queues : List QueueValue) (k : ℕ) (d : QueueValue) → k < length queues → slice_index_or (map (λ queue. queue.ids) queues) k [] ≡ (slice_index_or queues k d).ids
+pub ids_at : (queues : List QueueValue) (k : ℕ) (d : QueueValue) → k < length queues
+    → slice_index_or (map (λ queue. queue.ids) queues) k [] ≡ (slice_index_or queues k d).ids
 ids_at queues k d within = get_or-map (λ queue. queue.ids) queues k d [] within
 
 -- nothing is contained past the end of the lists
-pub within_lists : (lists : List (List ℕ)) (tile id : ℕ) → Contains (slice_index_or lists tile []) id → tile < length lists
+pub within_lists : (lists : List (List ℕ)) (tile id : ℕ) → Contains (slice_index_or lists tile []) id
+    → tile < length lists
 within_lists lists tile id has = elim (cases_lt tile (length lists)) [
   | inl within ↦ within
   | inr past ↦
@@ -43,10 +46,14 @@ module _ (old new : View) (id : ℕ) (task : Task) (adds : Adds id task old new)
 
   -- it stands last in its tile's queue, and the others stay
   pub own_queue : task.tile < length old.queues → queue_at new task.tile ≡ queue_at old task.tile ++ id ∷ []
-  own_queue within = ap (λ queues. slice_index_or queues task.tile []) adds.queues ∙ get_or-set_same old.queues task.tile (queue_at old task.tile ++ id ∷ []) [] within
+  own_queue within =
+      ap (λ queues. slice_index_or queues task.tile []) adds.queues
+      ∙ get_or-set_same old.queues task.tile (queue_at old task.tile ++ id ∷ []) [] within
 
   pub other_queue : (tile : ℕ) → tile ≢ task.tile → queue_at new tile ≡ queue_at old tile
-  other_queue tile other = ap (λ queues. slice_index_or queues tile []) adds.queues ∙ get_or-set_other old.queues task.tile tile (queue_at old task.tile ++ id ∷ []) [] other
+  other_queue tile other =
+      ap (λ queues. slice_index_or queues tile []) adds.queues
+      ∙ get_or-set_other old.queues task.tile tile (queue_at old task.tile ++ id ∷ []) [] other
 
   module _ (size : ℕ) (stored : IsStored size old) (in_tiles : task.tile < length old.queues) (idle : task.status ≡ Idle)
       (formed : IsWellFormed size (length old.history) task) where
@@ -55,7 +62,8 @@ module _ (old new : View) (id : ℕ) (task : Task) (adds : Adds id task old new)
     has_forth kind tile k has = (has.0, still_there k has.0 has.1, has.2, has.3)
 
     -- and was there, where that is no status of an idle one
-    has_back : (kind : Status → Type 0) → (kind Idle → ⊥) → (tile k : ℕ) → HasTask new tile k kind → HasTask old tile k kind
+    has_back : (kind : Status → Type 0) → (kind Idle → ⊥) → (tile k : ℕ) → HasTask new tile k kind
+        → HasTask old tile k kind
     has_back kind none tile k has = elim (cases_eq k id) [
       | inl same ↦ absurd (none (subst kind (ap (λ t. t.status) (is_new k has.0 same has.1) ∙ idle) has.3))
       | inr other ↦ (has.0, was_there k has.0 other has.1, has.2, has.3)
@@ -114,12 +122,14 @@ module _ (old new : View) (id : ℕ) (task : Task) (adds : Adds id task old new)
         })
 
 -- an id that is no task's stands in no queue
-pub not_queued : (size : ℕ) (view : View) (tile id : ℕ) → IsStored size view → task_at view id ≡ None → Contains (queue_at view tile) id → ⊥
+pub not_queued : (size : ℕ) (view : View) (tile id : ℕ) → IsStored size view → task_at view id ≡ None
+    → Contains (queue_at view tile) id → ⊥
 not_queued size view tile id stored vacant has =
     let there = (stored.queued_are tile id).0 has in absurd (cc (there.1, vacant))
 
 -- the lists of ids with one more id in the queue of a tile
-pub queued : (queues : List QueueValue) (tile id : ℕ) (queue after : QueueValue) → tile < length queues → queue ≡ slice_index_or queues tile queue
+pub queued : (queues : List QueueValue) (tile id : ℕ) (queue after : QueueValue) → tile < length queues
+    → queue ≡ slice_index_or queues tile queue
     → after.ids ≡ queue.ids ++ id ∷ []
     → map (λ q. q.ids) (slice_set queues tile after) ≡ slice_set (map (λ q. q.ids) queues) tile (slice_index_or (map (λ q. q.ids) queues) tile [] ++ id ∷ [])
 queued queues tile id queue after within is ids =

@@ -1,5 +1,6 @@
 -- A task of the index under another arrival number.
-use Rattle.std.proofs.Common.{◌≡◌, ◌≢◌, ◌<◌, ◌≤◌, ◌∷◌, ℕ, zero, suc, Bool, true, false, cond, List, [], length, Option, Some, None, refl, sym, ap, subst, ◌∙◌, inl, inr, arith, ◌==◌, slice_get, slice_index_or}
+use Rattle.std.proofs.Common.{◌≡◌, ◌≢◌, ◌<◌, ◌≤◌, ◌∷◌, ℕ, zero, suc, Bool, true, false, cond, List, [], length, Option}
+use Rattle.std.proofs.Common.{Some, None, refl, sym, ap, subst, ◌∙◌, inl, inr, arith, ◌==◌, slice_get, slice_index_or}
 use Rattle.std.specs.Prelude.{Contains, slice_set, not}
 use Rattle.std.specs.List.Sorted.{IsPermutation}
 use Rattle.std.proofs.lemmas.Bool.{cases_eq, cases_lt}
@@ -16,35 +17,46 @@ use Rattle.spec_state.specs.Stored.{IsIndexed, AreTheirs, candidate_of}
 use Rattle.spec_state.proofs.Entered.{head_or_tail, has_head, in_tail, held_at}
 
 -- what is left of a list without an id
-left_cons : (id : ℕ) (e : Candidate) (listed : List Candidate) (b : Bool) → (e.id == id) ≡ b → without_candidate id (e ∷ listed) ≡ cond (not b) (e ∷ without_candidate id listed) (without_candidate id listed)
+left_cons : (id : ℕ) (e : Candidate) (listed : List Candidate) (b : Bool) → (e.id == id) ≡ b
+    → without_candidate id (e ∷ listed) ≡ cond (not b) (e ∷ without_candidate id listed) (without_candidate id listed)
 left_cons id e listed b is =
     ap (λ t. cond (not t) (e ∷ without_candidate id listed) (without_candidate id listed)) is
 
 -- is what was there with another id
-pub in_without : (id : ℕ) (listed : List Candidate) (e : Candidate) → e.id ≢ id → Contains listed e → Contains (without_candidate id listed) e
+pub in_without : (id : ℕ) (listed : List Candidate) (e : Candidate) → e.id ≢ id → Contains listed e
+    → Contains (without_candidate id listed) e
 in_without id [] e other has = absurd (omega (arith, has.1))
 in_without id (x ∷ listed) e other has = by_case (x.id == id) refl (in_without id listed e other)
   where
-    by_case : (b : Bool) → (x.id == id) ≡ b → (Contains listed e → Contains (without_candidate id listed) e) → Contains (without_candidate id (x ∷ listed)) e
-    by_case true is more = subst (λ es. Contains es e) (sym (left_cons id x listed true is)) (elim (head_or_tail x listed e has) [
-      | inl head ↦ absurd (other (ap (λ y. y.id) (sym head) ∙ grind (arith, nat_tests)))
-      | inr tail ↦ more tail
-    ])
-    by_case false is more = subst (λ es. Contains es e) (sym (left_cons id x listed false is)) (elim (head_or_tail x listed e has) [
-      | inl head ↦ subst (Contains (x ∷ without_candidate id listed)) head (has_head x (without_candidate id listed))
-      | inr tail ↦ in_tail x (without_candidate id listed) e (more tail)
-    ])
+    by_case : (b : Bool) → (x.id == id) ≡ b → (Contains listed e → Contains (without_candidate id listed) e)
+        → Contains (without_candidate id (x ∷ listed)) e
+    by_case true is more =
+        subst (λ es. Contains es e) (sym (left_cons id x listed true is)) (elim (head_or_tail x listed e has) [
+          | inl head ↦ absurd (other (ap (λ y. y.id) (sym head) ∙ grind (arith, nat_tests)))
+          | inr tail ↦ more tail
+        ])
+    by_case false is more =
+        subst (λ es. Contains es e) (sym (left_cons id x listed false is)) (elim (head_or_tail x listed e has) [
+          | inl head ↦ subst (Contains (x ∷ without_candidate id listed)) head (has_head x (without_candidate id listed))
+          | inr tail ↦ in_tail x (without_candidate id listed) e (more tail)
+        ])
 
-pub from_without : (id : ℕ) (listed : List Candidate) (e : Candidate) → Contains (without_candidate id listed) e → Contains listed e × (e.id ≢ id)
+pub from_without : (id : ℕ) (listed : List Candidate) (e : Candidate) → Contains (without_candidate id listed) e
+    → Contains listed e × (e.id ≢ id)
 from_without id [] e has = absurd (omega (arith, has.1))
 from_without id (x ∷ listed) e has = by_case (x.id == id) refl (from_without id listed e)
   where
-    by_case : (b : Bool) → (x.id == id) ≡ b → (Contains (without_candidate id listed) e → Contains listed e × (e.id ≢ id)) → Contains (x ∷ listed) e × (e.id ≢ id)
-    by_case true is behind = let more = behind (subst (λ es. Contains es e) (left_cons id x listed true is) has) in (in_tail x listed e more.0, more.1)
-    by_case false is behind = elim (head_or_tail x (without_candidate id listed) e (subst (λ es. Contains es e) (left_cons id x listed false is) has)) [
-      | inl head ↦ (subst (Contains (x ∷ listed)) head (has_head x listed), λ same. (let mine : x.id ≡ id = ap (λ y. y.id) head ∙ same in absurd (grind (arith, nat_tests))))
-      | inr tail ↦ (let more = behind tail in (in_tail x listed e more.0, more.1))
-    ]
+    by_case : (b : Bool) → (x.id == id) ≡ b
+        → (Contains (without_candidate id listed) e → Contains listed e × (e.id ≢ id))
+        → Contains (x ∷ listed) e × (e.id ≢ id)
+    by_case true is behind =
+        let more = behind (subst (λ es. Contains es e) (left_cons id x listed true is) has) in
+        (in_tail x listed e more.0, more.1)
+    by_case false is behind =
+        elim (head_or_tail x (without_candidate id listed) e (subst (λ es. Contains es e) (left_cons id x listed false is) has)) [
+          | inl head ↦ (subst (Contains (x ∷ listed)) head (has_head x listed), λ same. (let mine : x.id ≡ id = ap (λ y. y.id) head ∙ same in absurd (grind (arith, nat_tests))))
+          | inr tail ↦ (let more = behind tail in (in_tail x listed e more.0, more.1))
+        ]
 
 -- without an id that is there fewer are left
 pub fewer : (id : ℕ) (listed : List Candidate) → HasId id listed
@@ -53,10 +65,12 @@ fewer id [] has = absurd (omega (arith, has.2))
 fewer id (x ∷ listed) has = by_case (x.id == id) refl (fewer id listed)
   where
     behind : (x.id == id) ≡ false → HasId id (x ∷ listed) → HasId id listed
-    behind is (zero, e, below, at, same) = (let mine : x.id ≡ id = ap (λ y. y.id) at ∙ same in absurd (grind (arith, nat_tests)))
+    behind is (zero, e, below, at, same) =
+        (let mine : x.id ≡ id = ap (λ y. y.id) at ∙ same in absurd (grind (arith, nat_tests)))
     behind is (suc k, e, below, at, same) = (k, e, omega (arith, below), at, same)
 
-    by_case : (b : Bool) → (x.id == id) ≡ b → (HasId id listed → length (without_candidate id listed) < length listed) → length (without_candidate id (x ∷ listed)) < suc (length listed)
+    by_case : (b : Bool) → (x.id == id) ≡ b → (HasId id listed → length (without_candidate id listed) < length listed)
+        → length (without_candidate id (x ∷ listed)) < suc (length listed)
     by_case true is more =
         let short = length-without_candidate id listed in
         let long = ap length (left_cons id x listed true is) in
@@ -66,7 +80,8 @@ fewer id (x ∷ listed) has = by_case (x.id == id) refl (fewer id listed)
         let less = more (behind is has) in
         omega (arith, long, less)
 
-pub no_more : (id : ℕ) (listed new : List Candidate) (e : Candidate) → HasId id listed → new ≡ after_insert candidate_cmp e (without_candidate id listed) → length new ≤ length listed
+pub no_more : (id : ℕ) (listed new : List Candidate) (e : Candidate) → HasId id listed
+    → new ≡ after_insert candidate_cmp e (without_candidate id listed) → length new ≤ length listed
 no_more id listed new e has is =
     let long = ap length is ∙ length-after_insert candidate_cmp e (without_candidate id listed) in
     let less = fewer id listed has in
@@ -80,7 +95,8 @@ before (x ∷ xs) (suc q) b at = before xs q b at
 
 module _ (tasks : List (Option Task)) (lists : List (List ℕ)) (arrivals : List ℕ) (next : ℕ) (listed : List Candidate) (is : IsIndexed tasks lists arrivals next listed) where
   -- the number of a task is its place at least
-  pub place_upto : (tile q b : ℕ) → slice_get (slice_index_or lists tile []) q ≡ Some b → q ≤ slice_index_or arrivals b 0
+  pub place_upto : (tile q b : ℕ) → slice_get (slice_index_or lists tile []) q ≡ Some b
+      → q ≤ slice_index_or arrivals b 0
   place_upto tile zero b at = omega arith
   place_upto tile (suc q) b at =
       let a = before (slice_index_or lists tile []) q b at in
@@ -159,7 +175,8 @@ module _ (tasks : List (Option Task)) (lists : List (List ℕ)) (arrivals : List
     early_all : (t k : ℕ) → Contains (slice_index_or lists t []) k → slice_index_or numbers k 0 < next
     early_all t k has = let less = is.early t k has in let fall = falls k in omega (arith, less, fall)
 
-    rising_all : (t p q a b : ℕ) → p < q → slice_get (slice_index_or lists t []) p ≡ Some a → slice_get (slice_index_or lists t []) q ≡ Some b
+    rising_all : (t p q a b : ℕ) → p < q → slice_get (slice_index_or lists t []) p ≡ Some a
+        → slice_get (slice_index_or lists t []) q ≡ Some b
         → slice_index_or numbers a 0 < slice_index_or numbers b 0
     rising_all t p q a b less ata atb =
         let was = is.rising t p q a b less ata atb in

@@ -1,5 +1,7 @@
 -- Pending tasks: by their names, and as a list that grows.
-use Rattle.std.proofs.Common.{◌≡◌, refl, sym, ap, ◌∙◌, zero, suc, ℕ, ◌+◌, ◌<◌, ◌==◌, ◌&&◌, ◌||◌, nat_lt, Bool, true, false, List, [], ◌∷◌, ◌++◌, length, take, flat_map, cond, slice_index_or, slice_get, option_map, option_to_list, Option, Some, None, arith}
+use Rattle.std.proofs.Common.{◌≡◌, refl, sym, ap, ◌∙◌, zero, suc, ℕ, ◌+◌, ◌<◌, ◌==◌, ◌&&◌, ◌||◌, nat_lt, Bool, true}
+use Rattle.std.proofs.Common.{false, List, [], ◌∷◌, ◌++◌, length, take, flat_map, cond, slice_index_or, slice_get}
+use Rattle.std.proofs.Common.{option_map, option_to_list, Option, Some, None, arith}
 use Rattle.std.specs.List.{filter_map, cons_option}
 use Rattle.std.specs.List.Sorted.{IsSortedBy, IsSortedByKey}
 use Rattle.std.specs.Ordering.{is_lt, nat_cmp, ordering_then}
@@ -22,10 +24,12 @@ pair_cmp a b = ordering_then (nat_cmp a.0 b.0) (nat_cmp a.1 b.1)
 abbrev pub key_of : Pending → ℕ × ℕ
 key_of p = (p.name.creator, p.name.index)
 
-less_is_before : (a b i j : ℕ) → is_lt (ordering_then (nat_cmp a b) (nat_cmp i j)) ≡ (nat_lt a b || ((a == b) && nat_lt i j))
+less_is_before : (a b i j : ℕ)
+    → is_lt (ordering_then (nat_cmp a b) (nat_cmp i j)) ≡ (nat_lt a b || ((a == b) && nat_lt i j))
 less_is_before a b i j = go (nat_lt a b) (a == b) (nat_lt i j) (i == j)
   where
-    go : (l e m f : Bool) → is_lt (ordering_then (cond l Less (cond e Equal Greater)) (cond m Less (cond f Equal Greater))) ≡ (l || (e && m))
+    go : (l e m f : Bool)
+        → is_lt (ordering_then (cond l Less (cond e Equal Greater)) (cond m Less (cond f Equal Greater))) ≡ (l || (e && m))
     go true e m f = refl
     go false true true f = refl
     go false true false true = refl
@@ -54,10 +58,12 @@ more_slots f none [] zero = sym (ap option_to_list none)
 more_slots f none [] (suc k) = sym (ap option_to_list none)
 more_slots f none (x ∷ xs) zero = cons_alone (f x)
 more_slots f none (x ∷ xs) (suc k) =
-    ap (cons_option (f x)) (more_slots f none xs k) ∙ sym (cons_in_front (f x) (filter_map f (take k xs)) (option_to_list (f (slice_index_or xs k None))))
+    ap (cons_option (f x)) (more_slots f none xs k)
+    ∙ sym (cons_in_front (f x) (filter_map f (take k xs)) (option_to_list (f (slice_index_or xs k None))))
 
 -- the queued tasks of one slot more
-pub more_queued : (old now then : List Pending) (slots : List (Option Task)) (k : ℕ) → now ≡ old ++ filter_map pending_queued (take k slots)
+pub more_queued : (old now then : List Pending) (slots : List (Option Task)) (k : ℕ)
+    → now ≡ old ++ filter_map pending_queued (take k slots)
     → then ≡ now ++ option_to_list (pending_queued (slice_index_or slots k None))
     → then ≡ old ++ filter_map pending_queued (take (k + 1) slots)
 more_queued old now then slots k was is =
@@ -67,7 +73,8 @@ more_queued old now then slots k was is =
     ∙ ap (λ xs. old ++ xs) (sym (more_slots pending_queued refl slots k))
     ∙ ap (λ n. old ++ filter_map pending_queued (take n slots)) next
 
-one_more : (count : ℕ) (spilled : List Spilled) (k : ℕ) (d : Desc) → option_map (λ (s : Spilled). s.desc) (slice_get spilled k) ≡ Some d
+one_more : (count : ℕ) (spilled : List Spilled) (k : ℕ) (d : Desc)
+    → option_map (λ (s : Spilled). s.desc) (slice_get spilled k) ≡ Some d
     → spilled_pending count (take (suc k) spilled) ≡ spilled_pending count (take k spilled) ++ option_to_list (pending_spilled count d)
 one_more count [] k d at = absurd (cc (at))
 one_more count (s ∷ ss) zero d at =
@@ -79,7 +86,8 @@ one_more count (s ∷ ss) (suc k) d at =
 
 -- the tasks of one place more of a block
 pub more_spilled : (count : ℕ) (old now then : List Pending) (spilled : List Spilled) (k : ℕ) (d : Desc)
-    → now ≡ old ++ spilled_pending count (take k spilled) → option_map (λ (s : Spilled). s.desc) (slice_get spilled k) ≡ Some d
+    → now ≡ old ++ spilled_pending count (take k spilled)
+    → option_map (λ (s : Spilled). s.desc) (slice_get spilled k) ≡ Some d
     → then ≡ now ++ option_to_list (pending_spilled count d)
     → then ≡ old ++ spilled_pending count (take (k + 1) spilled)
 more_spilled count old now then spilled k d was at is =
@@ -103,7 +111,8 @@ block_more blocks k b inside there =
     ∙ ap (λ xs. in_blocks (take k blocks) ++ xs) (append-nil b.tasks)
 
 -- the tasks of one block more
-pub more_blocks : (count : ℕ) (old now then : List Pending) (blocks : List BlockValue) (k : ℕ) (b : BlockValue) → k < length blocks
+pub more_blocks : (count : ℕ) (old now then : List Pending) (blocks : List BlockValue) (k : ℕ) (b : BlockValue)
+    → k < length blocks
     → slice_index_or blocks k b ≡ b → now ≡ old ++ spilled_pending count (in_blocks (take k blocks))
     → then ≡ now ++ spilled_pending count b.tasks
     → then ≡ old ++ spilled_pending count (in_blocks (take (k + 1) blocks))

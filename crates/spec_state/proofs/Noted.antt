@@ -1,5 +1,6 @@
 -- Children stay noted through each change of a state.
-use Rattle.std.proofs.Common.{◌≡◌, ◌≢◌, ℕ, List, [], Option, Some, None, refl, sym, ap, subst, ◌∙◌, inl, inr, slice_get, slice_index_or}
+use Rattle.std.proofs.Common.{◌≡◌, ◌≢◌, ℕ, List, [], Option, Some, None, refl, sym, ap, subst, ◌∙◌, inl, inr, slice_get}
+use Rattle.std.proofs.Common.{slice_index_or}
 use Rattle.std.specs.Prelude.{IsTrue, slice_set}
 use Rattle.std.proofs.lemmas.Bool.{cases_eq}
 use Rattle.spec_state.specs.declared.task.Creator.TheVariants.{Committed, Live}
@@ -15,7 +16,8 @@ pub noted_back : (old now : List (Option Task)) (children : ChildrenValue)
 noted_back old now children back noted complete k id place is = noted complete k id place (back k id place is)
 
 -- a task with the same creator is the same child
-pub same_child : (id place : ℕ) (task changed : Task) → changed.creator ≡ task.creator → IsChildAt id place (Some changed) → IsChildAt id place (Some task)
+pub same_child : (id place : ℕ) (task changed : Task) → changed.creator ≡ task.creator
+    → IsChildAt id place (Some changed) → IsChildAt id place (Some task)
 same_child id place task changed same is =
     let it : changed ≡ is.child = cc (is.there) in
     record { child = task; there = refl; made_by = sym same ∙ ap (λ (t : Task). t.creator) it ∙ is.made_by }
@@ -27,7 +29,8 @@ pub noted_but_one : (old now : List (Option Task)) (children : ChildrenValue) (i
     → AreNoted old children → AreNoted now children
 noted_but_one old now children id task changed there here others same = noted_back old now children back
   where
-    back : (k c place : ℕ) → IsChildAt c place (slice_index_or now k None) → IsChildAt c place (slice_index_or old k None)
+    back : (k c place : ℕ) → IsChildAt c place (slice_index_or now k None)
+        → IsChildAt c place (slice_index_or old k None)
     back k c place is = elim (cases_eq k id) [
       | inl own ↦
           let was : IsChildAt c place (Some changed) =
@@ -38,7 +41,8 @@ noted_but_one old now children id task changed there here others same = noted_ba
     ]
 
 -- where one task is written over by another of the same creator
-pub noted_set : (tasks : List (Option Task)) (children : ChildrenValue) (id : ℕ) (task changed : Task) → slice_index_or tasks id None ≡ Some task
+pub noted_set : (tasks : List (Option Task)) (children : ChildrenValue) (id : ℕ) (task changed : Task)
+    → slice_index_or tasks id None ≡ Some task
     → changed.creator ≡ task.creator → AreNoted tasks children → AreNoted (slice_set tasks id (Some changed)) children
 noted_set tasks children id task changed there same =
     noted_but_one tasks (slice_set tasks id (Some changed)) children id task changed there
@@ -50,7 +54,8 @@ pub noted_left : (old now : List (Option Task)) (children : ChildrenValue) (id :
     → AreNoted old children → AreNoted now children
 noted_left old now children id gone others = noted_back old now children back
   where
-    back : (k c place : ℕ) → IsChildAt c place (slice_index_or now k None) → IsChildAt c place (slice_index_or old k None)
+    back : (k c place : ℕ) → IsChildAt c place (slice_index_or now k None)
+        → IsChildAt c place (slice_index_or old k None)
     back k c place is = elim (cases_eq k id) [
       | inl own ↦ absurd (cc (is.there, ap (λ j. slice_index_or now j None) own, gone))
       | inr other ↦ subst (IsChildAt c place) (others k other) is
@@ -70,7 +75,8 @@ none_noted tasks children none complete k c place is =
 
 -- what is no child needs no note
 pub no_child_noted : (tasks : List (Option Task)) (children : ChildrenValue) (id : ℕ)
-    → ((c place : ℕ) → IsChildAt c place (slice_index_or tasks id None) → ⊥) → AreNotedBut id tasks children → AreNoted tasks children
+    → ((c place : ℕ) → IsChildAt c place (slice_index_or tasks id None) → ⊥) → AreNotedBut id tasks children
+    → AreNoted tasks children
 no_child_noted tasks children id none but complete k c place is = elim (cases_eq k id) [
   | inl own ↦ absurd (none c place (subst (λ j. IsChildAt c place (slice_index_or tasks j None)) own is))
   | inr other ↦ but complete k c place other is
@@ -82,7 +88,8 @@ pub nothing_noted : (tasks : List (Option Task)) (children : ChildrenValue) (id 
 nothing_noted tasks children id empty = no_child_noted tasks children id (λ c place is. absurd (cc (is.there, empty)))
 
 pub firm_noted : (tasks : List (Option Task)) (children : ChildrenValue) (id turn index : ℕ) (task : Task)
-    → slice_index_or tasks id None ≡ Some task → task.creator ≡ Committed turn index → AreNotedBut id tasks children → AreNoted tasks children
+    → slice_index_or tasks id None ≡ Some task → task.creator ≡ Committed turn index → AreNotedBut id tasks children
+    → AreNoted tasks children
 firm_noted tasks children id turn index task there by = no_child_noted tasks children id
     (λ c place is. (let both : Some task ≡ Some is.child = sym there ∙ is.there in
     let one : task ≡ is.child = cc in
@@ -124,7 +131,8 @@ module _ (tasks : List (Option Task)) (old new : ChildrenValue) (id creator plac
       let at : p ≡ place = same_place c creator p place (slice_index_or tasks id None) is child in
       ap (λ j. slice_get (noted_of new j) p) one ∙ ap (slice_get (noted_of new creator)) at ∙ notes.own.here
 
-  other_noted : (k c p : ℕ) → k ≢ id → IsChildAt c p (slice_index_or tasks k None) → slice_get (noted_of old c) p ≡ Some k
+  other_noted : (k c p : ℕ) → k ≢ id → IsChildAt c p (slice_index_or tasks k None)
+      → slice_get (noted_of old c) p ≡ Some k
       → slice_get (noted_of new c) p ≡ Some k
   other_noted k c p other is was = elim (cases_eq c creator) [
     | inl one ↦ elim (cases_eq p place) [
@@ -135,7 +143,8 @@ module _ (tasks : List (Option Task)) (old new : ChildrenValue) (id creator plac
           subst (λ q. slice_get (noted_of old creator) q ≡ Some k) at (subst (λ j. slice_get (noted_of old j) p ≡ Some k) one was) in
           absurd (free k noted other there)
       | inr else ↦
-          ap (λ j. slice_get (noted_of new j) p) one ∙ notes.own.others p else ∙ ap (λ j. slice_get (noted_of old j) p) (sym one) ∙ was
+          ap (λ j. slice_get (noted_of new j) p) one ∙ notes.own.others p else
+          ∙ ap (λ j. slice_get (noted_of old j) p) (sym one) ∙ was
     ]
     | inr else ↦ ap (λ (ids : List ℕ). slice_get ids p) (notes.others c else) ∙ was
   ]

@@ -1,5 +1,6 @@
 -- A task that is put into slab, queue and index, by the parts of a state.
-use Rattle.std.proofs.Common.{◌≡◌, ◌≢◌, ◌<◌, ◌≤◌, ◌+◌, ◌*◌, ◌∷◌, ◌++◌, ℕ, List, [], length, map, Option, Some, None, refl, sym, ap, subst, ◌∙◌, arith, slice_index_or}
+use Rattle.std.proofs.Common.{◌≡◌, ◌≢◌, ◌<◌, ◌≤◌, ◌+◌, ◌*◌, ◌∷◌, ◌++◌, ℕ, List, [], length, map, Option, Some, None}
+use Rattle.std.proofs.Common.{refl, sym, ap, subst, ◌∙◌, arith, slice_index_or}
 use Rattle.std.specs.Prelude.{Contains, slice_set, is_some, count_by}
 use Rattle.std.proofs.lemmas.List.{length-map, get_or_default}
 use Rattle.std.proofs.lemmas.List.Sums.{sum_by-le}
@@ -75,7 +76,8 @@ module _ (settings : Settings) (queues finished : List QueueValue) (core_lists b
 pub adds_seen : (version : ℕ) (settings : Settings) (tasks : List (Option Task)) (memory : List ℕ) (history : List Entry) (output : List ℕ) (next : ℕ) (path : List Level)
     (queues finished : List QueueValue) (cores : List (List (Option ℕ))) (blocks : List (List Spilled)) (now : List (Option Task)) (id : ℕ) (task : Task) (queue after : QueueValue)
     → task.tile < length queues → queue ≡ slice_index_or queues task.tile queue → after.ids ≡ queue.ids ++ id ∷ []
-    → slice_index_or tasks id None ≡ None → slice_index_or now id None ≡ Some task → ((k : ℕ) → k ≢ id → slice_index_or now k None ≡ slice_index_or tasks k None)
+    → slice_index_or tasks id None ≡ None → slice_index_or now id None ≡ Some task
+    → ((k : ℕ) → k ≢ id → slice_index_or now k None ≡ slice_index_or tasks k None)
     → (view : View)
     → view_of_parts version settings tasks memory history output next path queues finished cores blocks ≡ view
     → Adds id task view (view_of_parts version settings now memory history output next path (slice_set queues task.tile after) finished cores blocks)
@@ -90,9 +92,12 @@ adds_seen version settings tasks memory history output next path queues finished
 
 -- it enters the index
 pub entered_put : (tasks now : List (Option Task)) (queues : List QueueValue) (arrivals : List ℕ) (arrival : ℕ) (listed listed_now : List Candidate) (id : ℕ) (task kept : Task) (queue after : QueueValue)
-    → IsIndexed tasks (map (λ q. q.ids) queues) arrivals arrival listed → task.tile < length queues → queue ≡ slice_index_or queues task.tile queue → after.ids ≡ queue.ids ++ id ∷ []
-    → slice_index_or tasks id None ≡ None → slice_index_or now id None ≡ Some task → ((k : ℕ) → k ≢ id → slice_index_or now k None ≡ slice_index_or tasks k None) → id < length arrivals
-    → ((tile k : ℕ) → Contains (slice_index_or (map (λ q. q.ids) queues) tile []) k → k ≢ id) → slice_index_or now id None ≡ Some kept
+    → IsIndexed tasks (map (λ q. q.ids) queues) arrivals arrival listed → task.tile < length queues
+    → queue ≡ slice_index_or queues task.tile queue → after.ids ≡ queue.ids ++ id ∷ []
+    → slice_index_or tasks id None ≡ None → slice_index_or now id None ≡ Some task
+    → ((k : ℕ) → k ≢ id → slice_index_or now k None ≡ slice_index_or tasks k None) → id < length arrivals
+    → ((tile k : ℕ) → Contains (slice_index_or (map (λ q. q.ids) queues) tile []) k → k ≢ id)
+    → slice_index_or now id None ≡ Some kept
     → listed_now
     ≡ after_insert candidate_cmp (record { key = kept.key; tile = task.tile; arrival = arrival; id = id }) listed
     → IsIndexed now (map (λ q. q.ids) (slice_set queues task.tile after)) (slice_set arrivals id arrival) (arrival + 1) listed_now
@@ -106,8 +111,10 @@ entered_put tasks now queues arrivals arrival listed listed_now id task kept que
     (entered tasks now (map (λ q. q.ids) queues) arrivals arrival listed id task is vacant changed others below in_map unqueued))
 
 -- where a queue has a free place, the slab has a free slot, and the index a free place
-pub has_slot : (settings : Settings) (queues finished : List QueueValue) (core_lists block_lists : ℕ) → HasTiles settings queues finished core_lists block_lists
-    → (tile : ℕ) → tile < settings.tiles → length (slice_index_or (map (λ q. q.ids) queues) tile []) < settings.task_queue
+pub has_slot : (settings : Settings) (queues finished : List QueueValue) (core_lists block_lists : ℕ)
+    → HasTiles settings queues finished core_lists block_lists
+    → (tile : ℕ) → tile < settings.tiles
+    → length (slice_index_or (map (λ q. q.ids) queues) tile []) < settings.task_queue
     → (tasks : List (Option Task)) (counts : SlotCounts) → HasSlots settings tasks queues counts
     → (count_by is_some tasks + 1 ≤ counts.slots) × (counts.indexed < counts.capacity)
 has_slot settings queues finished core_lists block_lists tiles tile in_range free tasks counts has =
@@ -126,11 +133,15 @@ few_indexed settings tasks queues finished core_lists block_lists counts tiles h
     omega (arith, fits', has.indexed_are, has.index)
 
 -- the index has at most one candidate more
-pub few_more : (old fresh now : List Candidate) (e : Candidate) → now ≡ after_insert candidate_cmp e fresh → length fresh ≤ length old → length now ≤ length old + 1
-few_more old fresh now e is upto = let more = ap length is ∙ length-after_insert candidate_cmp e fresh in omega (arith, more, upto)
+pub few_more : (old fresh now : List Candidate) (e : Candidate) → now ≡ after_insert candidate_cmp e fresh
+    → length fresh ≤ length old → length now ≤ length old + 1
+few_more old fresh now e is upto =
+    let more = ap length is ∙ length-after_insert candidate_cmp e fresh in omega (arith, more, upto)
 
 -- a task of the image is well formed
-pub root_formed : (version : ℕ) (desc : Desc) (size commits tile : ℕ) (task : Task) → task ≡ idle_task version (root_descriptor desc) (Committed desc.name.creator desc.name.index) tile → DescIsOfImage desc
+pub root_formed : (version : ℕ) (desc : Desc) (size commits tile : ℕ) (task : Task)
+    → task ≡ idle_task version (root_descriptor desc) (Committed desc.name.creator desc.name.index) tile
+    → DescIsOfImage desc
     → IsWellFormed size commits task
 root_formed version desc size commits tile task made is = subst (IsWellFormed size commits) (sym made)
     (record {
@@ -147,7 +158,8 @@ root_formed version desc size commits tile task made is = subst (IsWellFormed si
 pub adds_seen_at : (version : ℕ) (settings : Settings) (tasks : List (Option Task)) (memory : List ℕ) (history : List Entry) (output : List ℕ) (next : ℕ) (path : List Level)
     (queues finished : List QueueValue) (cores : List (List (Option ℕ))) (blocks : List (List Spilled)) (now : List (Option Task)) (id : ℕ) (task : Task) (queue after : QueueValue)
     (tile : ℕ) → tile ≡ task.tile → tile < length queues → queue ≡ slice_index_or queues tile queue → after.ids ≡ queue.ids ++ id ∷ []
-    → slice_index_or tasks id None ≡ None → slice_index_or now id None ≡ Some task → ((k : ℕ) → k ≢ id → slice_index_or now k None ≡ slice_index_or tasks k None)
+    → slice_index_or tasks id None ≡ None → slice_index_or now id None ≡ Some task
+    → ((k : ℕ) → k ≢ id → slice_index_or now k None ≡ slice_index_or tasks k None)
     → (view : View)
     → view_of_parts version settings tasks memory history output next path queues finished cores blocks ≡ view
     → Adds id task view (view_of_parts version settings now memory history output next path (slice_set queues tile after) finished cores blocks)
@@ -158,8 +170,10 @@ adds_seen_at version settings tasks memory history output next path queues finis
 
 pub entered_put_at : (tasks now : List (Option Task)) (queues : List QueueValue) (arrivals : List ℕ) (arrival : ℕ) (listed listed_now : List Candidate) (id : ℕ) (task kept : Task) (queue after : QueueValue)
     (tile : ℕ) → tile ≡ task.tile → IsIndexed tasks (map (λ q. q.ids) queues) arrivals arrival listed → tile < length queues → queue ≡ slice_index_or queues tile queue → after.ids ≡ queue.ids ++ id ∷ []
-    → slice_index_or tasks id None ≡ None → slice_index_or now id None ≡ Some task → ((k : ℕ) → k ≢ id → slice_index_or now k None ≡ slice_index_or tasks k None) → id < length arrivals
-    → ((tile k : ℕ) → Contains (slice_index_or (map (λ q. q.ids) queues) tile []) k → k ≢ id) → slice_index_or now id None ≡ Some kept
+    → slice_index_or tasks id None ≡ None → slice_index_or now id None ≡ Some task
+    → ((k : ℕ) → k ≢ id → slice_index_or now k None ≡ slice_index_or tasks k None) → id < length arrivals
+    → ((tile k : ℕ) → Contains (slice_index_or (map (λ q. q.ids) queues) tile []) k → k ≢ id)
+    → slice_index_or now id None ≡ Some kept
     → listed_now
     ≡ after_insert candidate_cmp (record { key = kept.key; tile = tile; arrival = arrival; id = id }) listed
     → IsIndexed now (map (λ q. q.ids) (slice_set queues tile after)) (slice_set arrivals id arrival) (arrival + 1) listed_now

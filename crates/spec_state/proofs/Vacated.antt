@@ -1,5 +1,6 @@
 -- A task that leaves its core or its commit queue: the lists still hold what they should.
-use Rattle.std.proofs.Common.{◌≡◌, ◌≢◌, ◌⊎◌, ℕ, [], length, map, Some, None, refl, sym, ap, subst, ◌∙◌, inl, inr, arith, slice_get, slice_index_or}
+use Rattle.std.proofs.Common.{◌≡◌, ◌≢◌, ◌⊎◌, ℕ, [], length, map, Some, None, refl, sym, ap, subst, ◌∙◌, inl, inr, arith}
+use Rattle.std.proofs.Common.{slice_get, slice_index_or}
 use Rattle.std.specs.Prelude.{Contains, ◌↔◌}
 use Rattle.std.proofs.lemmas.Bool.{cases_eq}
 use Rattle.tile_queues.specs.Queue.{ids_but}
@@ -12,7 +13,8 @@ use Rattle.spec_state.specs.Queries.{IsQueued}
 use Rattle.spec_state.specs.Stored.{HasCore, HasTask, IsWellFormed, IsStored}
 use Rattle.spec_state.specs.Tasks.{idle_again}
 use Rattle.spec_state.specs.View.{View, task_at, queue_at, finished_at, cores_at}
-use Rattle.spec_state.proofs.Without.{from_ids, in_ids, freed_back, freed_forth, freed_other, held_place, all_same, map_at}
+use Rattle.spec_state.proofs.Without.{from_ids, in_ids, freed_back, freed_forth, freed_other, held_place, all_same}
+use Rattle.spec_state.proofs.Without.{map_at}
 
 -- where a task stands in a stored view: in the queue of its tile, and in its commit queue or on its core as its status says, and nowhere else
 module _ (size : ℕ) (view : View) (stored : IsStored size view) (id : ℕ) (task : Task) (there : task_at view id ≡ Some task) where
@@ -69,7 +71,8 @@ module _ (size : ℕ) (old new : View) (id : ℕ) (stored : IsStored size old) (
   cores_now : (tile : ℕ) → cores_at new tile ≡ map (freed_of id) (cores_at old tile)
   cores_now tile = ap (λ lists. slice_index_or lists tile []) cores ∙ map_at (map (freed_of id)) old.cores tile []
 
-  pub finished_vacated : (tile k : ℕ) → Contains (finished_at new tile) k ↔ HasTask new tile k (λ status. status ≡ Finished)
+  pub finished_vacated : (tile k : ℕ)
+      → Contains (finished_at new tile) k ↔ HasTask new tile k (λ status. status ≡ Finished)
   finished_vacated tile k = (
     λ has. (let was = from_ids id k (finished_at old tile) (subst (λ ids. Contains ids k) (finished_now tile) has) in
         there_forth (λ status. status ≡ Finished) tile k was.1 ((stored.finished_are tile k).0 was.0)),
@@ -78,7 +81,8 @@ module _ (size : ℕ) (old new : View) (id : ℕ) (stored : IsStored size old) (
         (in_ids id k (finished_at old tile) other ((stored.finished_are tile k).1 (there_back (λ status. status ≡ Finished) tile k other is)))),
   )
 
-  pub held_vacated : (tile core k : ℕ) → (slice_get (cores_at new tile) core ≡ Some (Some k)) ↔ HasTask new tile k (λ status. HasCore status core)
+  pub held_vacated : (tile core k : ℕ)
+      → (slice_get (cores_at new tile) core ≡ Some (Some k)) ↔ HasTask new tile k (λ status. HasCore status core)
   held_vacated tile core k = (
     λ at. (let was = freed_back id k core (cores_at old tile) (subst (λ cores. slice_get cores core ≡ Some (Some k)) (cores_now tile) at) in
         there_forth (λ status. HasCore status core) tile k was.1 ((stored.held_are tile core k).0 was.0)),
@@ -113,14 +117,17 @@ module _ (size : ℕ) (old new : View) (id : ℕ) (leaves : TaskLeaves id old ne
   pub stored_left : IsStored size new
   stored_left = record {
     queued_are = queued_left;
-    finished_are = finished_vacated size old new id stored leaves.changes.others leaves.finished leaves.cores (λ kind none tile is. nothing_there tile kind is);
-    held_are = held_vacated size old new id stored leaves.changes.others leaves.finished leaves.cores (λ kind none tile is. nothing_there tile kind is);
+    finished_are =
+        finished_vacated size old new id stored leaves.changes.others leaves.finished leaves.cores (λ kind none tile is. nothing_there tile kind is);
+    held_are =
+        held_vacated size old new id stored leaves.changes.others leaves.finished leaves.cores (λ kind none tile is. nothing_there tile kind is);
     tasks = formed_left;
     memory = ap (λ (v : View). length v.memory) leaves.frame ∙ stored.memory;
   }
 
 -- a well-formed task is one when it is idle again
-pub formed_again : (size commits version : ℕ) (task : Task) → IsWellFormed size commits task → IsWellFormed size commits (idle_again version task)
+pub formed_again : (size commits version : ℕ) (task : Task) → IsWellFormed size commits task
+    → IsWellFormed size commits (idle_again version task)
 formed_again size commits version task is = record {
   depth = is.depth;
   kinds = is.kinds;
@@ -151,14 +158,16 @@ module _ (size : ℕ) (old new : View) (id : ℕ) (back : SetsBack id old new) (
     λ is. subst (λ ids. Contains ids k) (sym (queue_same tile)) ((stored.queued_are tile k).1 (by_id_back (cases_eq k id) is)),
   )
     where
-      by_id_forth : (k ≡ id) ⊎ (k ≢ id) → HasTask old tile k (λ status. Unit {0}) → HasTask new tile k (λ status. Unit {0})
+      by_id_forth : (k ≡ id) ⊎ (k ≢ id) → HasTask old tile k (λ status. Unit {0})
+          → HasTask new tile k (λ status. Unit {0})
       by_id_forth (inr other) is = (is.0, back.changes.others k other ∙ is.1, is.2, tt)
       by_id_forth (inl same) is =
           let both : Some is.0 ≡ Some back.task = sym is.1 ∙ ap (task_at old) same ∙ back.there in
           let one : is.0 ≡ back.task = cc in
           (idle_again old.version back.task, ap (task_at new) same ∙ back.changes.changed, ap (λ (t : Task). t.tile) (sym one) ∙ is.2, tt)
 
-      by_id_back : (k ≡ id) ⊎ (k ≢ id) → HasTask new tile k (λ status. Unit {0}) → HasTask old tile k (λ status. Unit {0})
+      by_id_back : (k ≡ id) ⊎ (k ≢ id) → HasTask new tile k (λ status. Unit {0})
+          → HasTask old tile k (λ status. Unit {0})
       by_id_back (inr other) is = (is.0, sym (back.changes.others k other) ∙ is.1, is.2, tt)
       by_id_back (inl same) is =
           let both : Some is.0 ≡ Some (idle_again old.version back.task) = sym is.1 ∙ ap (task_at new) same ∙ back.changes.changed in
@@ -166,7 +175,8 @@ module _ (size : ℕ) (old new : View) (id : ℕ) (back : SetsBack id old new) (
           (back.task, ap (task_at old) same ∙ back.there, ap (λ (t : Task). t.tile) (sym one) ∙ is.2, tt)
 
   formed_back : (k : ℕ) (t : Task) → task_at new k ≡ Some t → IsWellFormed size (length new.history) t
-  formed_back k t at = subst (λ (v : View). IsWellFormed size (length v.history) t) (sym back.frame) (by_id (cases_eq k id))
+  formed_back k t at =
+      subst (λ (v : View). IsWellFormed size (length v.history) t) (sym back.frame) (by_id (cases_eq k id))
     where
       by_id : (k ≡ id) ⊎ (k ≢ id) → IsWellFormed size (length old.history) t
       by_id (inr other) = stored.tasks k t (sym (back.changes.others k other) ∙ at)
@@ -178,8 +188,10 @@ module _ (size : ℕ) (old new : View) (id : ℕ) (back : SetsBack id old new) (
   pub stored_back : IsStored size new
   stored_back = record {
     queued_are = queued_back;
-    finished_are = finished_vacated size old new id stored back.changes.others back.finished back.cores (λ kind none tile is. none (is_now tile kind is));
-    held_are = held_vacated size old new id stored back.changes.others back.finished back.cores (λ kind none tile is. none (is_now tile kind is));
+    finished_are =
+        finished_vacated size old new id stored back.changes.others back.finished back.cores (λ kind none tile is. none (is_now tile kind is));
+    held_are =
+        held_vacated size old new id stored back.changes.others back.finished back.cores (λ kind none tile is. none (is_now tile kind is));
     tasks = formed_back;
     memory = ap (λ (v : View). length v.memory) back.frame ∙ stored.memory;
   }

@@ -1,5 +1,6 @@
 -- Legs that are held for cores.
-use Rattle.std.proofs.Common.{◌≡◌, ℕ, zero, suc, ◌<◌, ◌≤◌, Bool, true, false, cond, not, nat_lt, List, [], ◌∷◌, length, get_or, Some, None, refl, ap, sym, ◌∙◌, arith}
+use Rattle.std.proofs.Common.{◌≡◌, ℕ, zero, suc, ◌<◌, ◌≤◌, Bool, true, false, cond, not, nat_lt, List, [], ◌∷◌, length}
+use Rattle.std.proofs.Common.{get_or, Some, None, refl, ap, sym, ◌∙◌, arith}
 use Rattle.std.specs.declared.option.Option.{Option}
 use Rattle.std.specs.List.{remove, position, position_or_len, AllByRecursion}
 use Rattle.std.proofs.lemmas.List.Quantifiers.{position-Some}
@@ -13,7 +14,8 @@ use Rattle.guest_image.specs.ImageValue.{ImageValue}
 use Rattle.spec_state.specs.declared.settings.Settings.{Settings}
 
 -- the first leg that stands there for a core is what is held for it
-held_at : (tile core : ℕ) (held : List HeldLeg) (i : ℕ) (d : HeldLeg) → i < length held → is_held_for tile core (get_or held i d) ≡ true
+held_at : (tile core : ℕ) (held : List HeldLeg) (i : ℕ) (d : HeldLeg) → i < length held
+    → is_held_for tile core (get_or held i d) ≡ true
     → ((k : ℕ) → k < i → is_held_for tile core (get_or held k d) ≡ false)
     → ◌≡◌ {A = Option LegValue} (held_for tile core held) (Some ((get_or held i d).leg))
 held_at tile core [] i d below is before = absurd (omega (arith, below))
@@ -43,7 +45,8 @@ without_unheld tile core (h ∷ held) none = go (is_held_for tile core h) refl n
         → without_held_leg tile core (h ∷ held) ≡ h ∷ held
     go true is none rest = absurd (none-some h.leg (sym none))
     go false is none rest =
-        ap (λ test. cond (not test) (h ∷ without_held_leg tile core held) (without_held_leg tile core held)) is ∙ ap (λ others. h ∷ others) (rest none)
+        ap (λ test. cond (not test) (h ∷ without_held_leg tile core held) (without_held_leg tile core held)) is
+        ∙ ap (λ others. h ∷ others) (rest none)
 
 -- a leg for the core that was taken out before makes no difference to what is left without it
 without_removed : (tile core : ℕ) (held : List HeldLeg) (i : ℕ) (d : HeldLeg) → i < length held
@@ -74,12 +77,14 @@ pub held-no_place : (tile core : ℕ) (held : List HeldLeg) → position (is_hel
     → ◌≡◌ {A = Option LegValue} (held_for tile core held) None
 held-no_place tile core held none = held_none tile core held (no_place tile core held none)
 
-pub held-at_place : (tile core : ℕ) (held : List HeldLeg) (i : ℕ) (d : HeldLeg) → position (is_held_for tile core) held ≡ Some i
+pub held-at_place : (tile core : ℕ) (held : List HeldLeg) (i : ℕ) (d : HeldLeg)
+    → position (is_held_for tile core) held ≡ Some i
     → ◌≡◌ {A = Option LegValue} (held_for tile core held) (Some ((get_or held i d).leg))
 held-at_place tile core held i d found =
     let at = position-Some (is_held_for tile core) held i d found in held_at tile core held i d at.0 at.1 at.2
 
-pub without_held_leg-at_place : (tile core : ℕ) (held : List HeldLeg) (i : ℕ) (d : HeldLeg) → position (is_held_for tile core) held ≡ Some i
+pub without_held_leg-at_place : (tile core : ℕ) (held : List HeldLeg) (i : ℕ) (d : HeldLeg)
+    → position (is_held_for tile core) held ≡ Some i
     → without_held_leg tile core (remove held i) ≡ without_held_leg tile core held
 without_held_leg-at_place tile core held i d found =
     let at = position-Some (is_held_for tile core) held i d found in without_removed tile core held i d at.0 at.1
@@ -90,7 +95,8 @@ abbrev pub AreRuns : ImageValue → Settings → List HeldLeg → Type 0
 AreRuns image settings held = AllByRecursion (λ (h : HeldLeg). IsLegOfImage image settings.budget h.leg) held
 
 module _ (image : ImageValue) (settings : Settings) (tile core : ℕ) where
-  pub held_runs : (held : List HeldLeg) (leg : LegValue) → AreRuns image settings held → held_for tile core held ≡ Some leg
+  pub held_runs : (held : List HeldLeg) (leg : LegValue) → AreRuns image settings held
+      → held_for tile core held ≡ Some leg
       → IsLegOfImage image settings.budget leg
   held_runs [] leg runs is = absurd (cc (is))
   held_runs (h ∷ held) leg runs is = by_test (is_held_for tile core h) is (held_runs held leg runs.1)

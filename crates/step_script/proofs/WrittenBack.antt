@@ -1,5 +1,6 @@
 -- A script that is written is read back.
-use Rattle.std.proofs.Common.{◌≡◌, ℕ, ◌+◌, ◌<◌, ◌≤◌, ◌^◌, ◌==◌, nat_lt, List, [], ◌∷◌, ◌++◌, Some, refl, ap, arith, rules, true, false, Bool, Ok, ◌∙◌}
+use Rattle.std.proofs.Common.{◌≡◌, ℕ, ◌+◌, ◌<◌, ◌≤◌, ◌^◌, ◌==◌, nat_lt, List, [], ◌∷◌, ◌++◌, Some, refl, ap, arith}
+use Rattle.std.proofs.Common.{rules, true, false, Bool, Ok, ◌∙◌}
 use Rattle.std.specs.Fmt.{decimal}
 use Rattle.std.specs.List.{list_all, AllByRecursion}
 use Rattle.std.specs.Char.{is_ascii_digit}
@@ -32,16 +33,21 @@ digit_free c x true low is digit = grind (arith, digit, low, eqb-true x c is)
 
 digits_free : (c : ℕ) (xs : List ℕ) → c < 48 → list_all is_ascii_digit xs ≡ true → IsWithout c xs
 digits_free c [] low h = refl
-digits_free c (x ∷ xs) low h = let both = and_parts (is_ascii_digit x) _ h in let e : (x == c) ≡ false = digit_free c x (x == c) low refl both.0 in rw (e, digits_free c xs low both.1) refl
+digits_free c (x ∷ xs) low h =
+    let both = and_parts (is_ascii_digit x) _ h in
+    let e : (x == c) ≡ false = digit_free c x (x == c) low refl both.0 in
+    rw (e, digits_free c xs low both.1) refl
 
 number_free : (c n : ℕ) → c < 48 → n < 2 ^ 32 → IsWithout c (decimal n)
 number_free c n low small = digits_free c (decimal n) low (all_digits n (omega (arith, small)))
 
 place_free : (tile core : ℕ) → tile < 2 ^ 32 → core < 2 ^ 32 → IsWithout 10 (core_text tile core)
-place_free tile core h g = without_both 10 (decimal tile) (32 ∷ decimal core) (number_free 10 tile (omega arith) h) (number_free 10 core (omega arith) g)
+place_free tile core h g =
+    without_both 10 (decimal tile) (32 ∷ decimal core) (number_free 10 tile (omega arith) h) (number_free 10 core (omega arith) g)
 
 -- an act's line has no newline
-line_free : (tiles cores : ℕ) (act : Act) → tiles ≤ 2 ^ 32 → cores ≤ 2 ^ 32 → ActIsInRange tiles cores act → IsWithout 10 (line_of_act act)
+line_free : (tiles cores : ℕ) (act : Act) → tiles ≤ 2 ^ 32 → cores ≤ 2 ^ 32 → ActIsInRange tiles cores act
+    → IsWithout 10 (line_of_act act)
 line_free tiles cores (acts.Dispatch tile) t c h = number_free 10 tile (omega arith) (omega (arith, t, h))
 line_free tiles cores (acts.Step tile core) t c h = place_free tile core (omega (arith, t, h.0)) (omega (arith, c, h.1))
 line_free tiles cores (acts.Take tile core) t c h = place_free tile core (omega (arith, t, h.0)) (omega (arith, c, h.1))
@@ -54,13 +60,15 @@ line_free tiles cores acts.Advance t c h = refl
 
 -- ---- acts
 
-place_back : (tiles cores tile core : ℕ) → tiles ≤ 2 ^ 32 → cores ≤ 2 ^ 32 → (tile < tiles) × (core < cores) → core_in tiles cores (core_text tile core) ≡ Some (tile, core)
+place_back : (tiles cores tile core : ℕ) → tiles ≤ 2 ^ 32 → cores ≤ 2 ^ 32 → (tile < tiles) × (core < cores)
+    → core_in tiles cores (core_text tile core) ≡ Some (tile, core)
 unfolding core_in
 place_back tiles cores tile core t c h =
     rw (cut_without 32 (decimal tile) (decimal core) (number_free 32 tile (omega arith) (omega (arith, t, h.0))), number_below_back tiles tile t h.0, number_below_back cores core c h.1) refl
 
 -- an act's line is that act
-act_back : (tiles cores : ℕ) (act : Act) → tiles ≤ 2 ^ 32 → cores ≤ 2 ^ 32 → ActIsInRange tiles cores act → act_in tiles cores (line_of_act act) ≡ Some act
+act_back : (tiles cores : ℕ) (act : Act) → tiles ≤ 2 ^ 32 → cores ≤ 2 ^ 32 → ActIsInRange tiles cores act
+    → act_in tiles cores (line_of_act act) ≡ Some act
 unfolding act_in act_at
 act_back tiles cores (acts.Dispatch tile) t c h = rw (number_below_back tiles tile t h) refl
 act_back tiles cores (acts.Step tile core) t c h = rw (place_back tiles cores tile core t c h) refl
@@ -72,7 +80,8 @@ act_back tiles cores (acts.Coalesce tile) t c h = rw (number_below_back tiles ti
 act_back tiles cores (acts.Split tile) t c h = rw (number_below_back tiles tile t h) refl
 act_back tiles cores acts.Advance t c h = refl
 
-acts_back : (acts : List Act) (tiles cores k : ℕ) → tiles ≤ 2 ^ 32 → cores ≤ 2 ^ 32 → AllByRecursion (ActIsInRange tiles cores) acts → acts_at tiles cores k (lines_of (script acts)) ≡ Ok acts
+acts_back : (acts : List Act) (tiles cores k : ℕ) → tiles ≤ 2 ^ 32 → cores ≤ 2 ^ 32
+    → AllByRecursion (ActIsInRange tiles cores) acts → acts_at tiles cores k (lines_of (script acts)) ≡ Ok acts
 acts_back [] tiles cores k t c all = refl
 acts_back (act ∷ rest) tiles cores k t c all =
     ap (acts_at tiles cores k) (lines_cut (line_of_act act ++ 10 ∷ script rest) (line_of_act act) (script rest) (cut_without 10 (line_of_act act) (script rest) (line_free tiles cores act t c all.0)))

@@ -1,7 +1,10 @@
 -- A descriptor and the bytes of its record give each other back.
-use Rattle.std.proofs.Common.{◌≡◌, ℕ, zero, suc, ◌+◌, ◌<◌, ◌≤◌, ◌^◌, List, [], ◌∷◌, ◌++◌, length, Some, None, Bool, true, false, refl, sym, ap, subst, ◌∙◌, arith, take, drop, ◌-◌, get_or, nat_lt, nat_le, ◌==◌, ◌&&◌, cond}
+use Rattle.std.proofs.Common.{◌≡◌, ℕ, zero, suc, ◌+◌, ◌<◌, ◌≤◌, ◌^◌, List, [], ◌∷◌, ◌++◌, length, Some, None, Bool}
+use Rattle.std.proofs.Common.{true, false, refl, sym, ap, subst, ◌∙◌, arith, take, drop, ◌-◌, get_or, nat_lt, nat_le}
+use Rattle.std.proofs.Common.{◌==◌, ◌&&◌, cond}
 use Rattle.std.specs.Prelude.{replicate}
-use Rattle.std.proofs.lemmas.List.{take_all, drop_all, drop-drop, append-nil, append_assoc, length-drop, take-append-drop}
+use Rattle.std.proofs.lemmas.List.{take_all, drop_all, drop-drop, append-nil, append_assoc, length-drop}
+use Rattle.std.proofs.lemmas.List.{take-append-drop}
 use Rattle.std.proofs.Math.Seq.{take-add, get_or-drop}
 use Rattle.std.specs.List.{list_all}
 use Rattle.std.proofs.lemmas.Nat.{le_bytes_2, le_bytes_4}
@@ -60,13 +63,17 @@ all_zero (x ∷ xs) zeros =
 
 -- what a write of a number leaves of the bytes
 
-pub put_at : (xs ys ws : List ℕ) (at n : ℕ) → length xs ≡ 64 → at + n ≤ 64 → ys ≡ ws ++ drop n (take (64 - at) (drop at xs)) → take at xs ++ (ys ++ drop (64 - at) (drop at xs)) ≡ (take at xs ++ ws) ++ drop (at + n) xs
+pub put_at : (xs ys ws : List ℕ) (at n : ℕ) → length xs ≡ 64 → at + n ≤ 64
+    → ys ≡ ws ++ drop n (take (64 - at) (drop at xs))
+    → take at xs ++ (ys ++ drop (64 - at) (drop at xs)) ≡ (take at xs ++ ws) ++ drop (at + n) xs
 put_at xs ys ws at n long fits is =
     let rest = length-drop at xs in
     let short : length (drop at xs) ≤ 64 - at = omega arith in
     let tail : drop n (take (64 - at) (drop at xs)) ≡ drop (at + n) xs = ap (drop n) (take_all (64 - at) (drop at xs) short) ∙ drop-drop n at xs in
     let none : drop (64 - at) (drop at xs) ≡ [] = drop_all (64 - at) (drop at xs) short in
-    ap (λ zs. take at xs ++ (ys ++ zs)) none ∙ ap (λ zs. take at xs ++ zs) (append-nil ys ∙ is ∙ ap (λ zs. ws ++ zs) tail) ∙ sym (append_assoc (take at xs) ws (drop (at + n) xs))
+    ap (λ zs. take at xs ++ (ys ++ zs)) none
+    ∙ ap (λ zs. take at xs ++ zs) (append-nil ys ∙ is ∙ ap (λ zs. ws ++ zs) tail)
+    ∙ sym (append_assoc (take at xs) ws (drop (at + n) xs))
 
 -- the fields of a descriptor are in the ranges of the code's types
 pub record InRange (desc : Desc) : Type 0 where
@@ -116,7 +123,8 @@ fields_back desc fits =
 is_desc-true : (desc : Desc) → IsDesc desc → is_desc desc ≡ true
 is_desc-true desc is = by_tests desc.depth desc.kinds is.inside is.shallow is.kinds
   where
-    by_tests : (depth kinds : ℕ) → 1 ≤ depth → depth ≤ MAX_DEPTH → kinds < 2 ^ depth → (nat_le 1 depth && nat_le depth MAX_DEPTH && nat_lt kinds (2 ^ depth)) ≡ true
+    by_tests : (depth kinds : ℕ) → 1 ≤ depth → depth ≤ MAX_DEPTH → kinds < 2 ^ depth
+        → (nat_le 1 depth && nat_le depth MAX_DEPTH && nat_lt kinds (2 ^ depth)) ≡ true
     by_tests depth kinds a b c = grind (arith, nat_tests)
 
 zeros : Desc → Bool
@@ -157,7 +165,8 @@ filled bytes long valid =
 in_turn : (a b c d e f g h i j z : List ℕ) → List ℕ
 in_turn a b c d e f g h i j z = a ++ b ++ c ++ d ++ e ++ f ++ g ++ h ++ i ++ j ++ z
 
-taken_in_turn : (xs : List ℕ) → in_turn (take 4 (drop 0 xs)) (take 4 (drop 4 xs)) (take 4 (drop 8 xs)) (take 4 (drop 12 xs)) (take 4 (drop 16 xs)) (take 4 (drop 20 xs)) (take 4 (drop 24 xs)) (take 4 (drop 28 xs)) (take 2 (drop 32 xs)) (take 2 (drop 34 xs)) (drop 36 xs) ≡ xs
+taken_in_turn : (xs : List ℕ)
+    → in_turn (take 4 (drop 0 xs)) (take 4 (drop 4 xs)) (take 4 (drop 8 xs)) (take 4 (drop 12 xs)) (take 4 (drop 16 xs)) (take 4 (drop 20 xs)) (take 4 (drop 24 xs)) (take 4 (drop 28 xs)) (take 2 (drop 32 xs)) (take 2 (drop 34 xs)) (drop 36 xs) ≡ xs
 unfolding in_turn
 taken_in_turn xs =
     ap (λ front. front ++ drop 36 xs)
@@ -167,10 +176,12 @@ taken_in_turn xs =
     (ap (λ front. front ++ take 4 (drop 24 xs))
     (ap (λ front. front ++ take 4 (drop 20 xs))
     (ap (λ front. front ++ take 4 (drop 16 xs))
-    (ap (λ front. front ++ take 4 (drop 12 xs)) (ap (λ front. front ++ take 4 (drop 8 xs)) (joined 4 4 xs) ∙ joined 8 4 xs) ∙ joined 12 4 xs) ∙ joined 16 4 xs) ∙ joined 20 4 xs) ∙ joined 24 4 xs) ∙ joined 28 4 xs) ∙ joined 32 2 xs) ∙ joined 34 2 xs)
+    (ap (λ front. front ++ take 4 (drop 12 xs)) (ap (λ front. front ++ take 4 (drop 8 xs)) (joined 4 4 xs) ∙ joined 8 4 xs) ∙ joined 12 4 xs)
+    ∙ joined 16 4 xs) ∙ joined 20 4 xs) ∙ joined 24 4 xs) ∙ joined 28 4 xs) ∙ joined 32 2 xs) ∙ joined 34 2 xs)
     ∙ take-append-drop 36 xs
 
-pub bytes_back : (bytes : List ℕ) → AreBytes bytes → length bytes ≡ 64 → is_record bytes ≡ true → record_bytes (fields_of bytes) ≡ bytes
+pub bytes_back : (bytes : List ℕ) → AreBytes bytes → length bytes ≡ 64 → is_record bytes ≡ true
+    → record_bytes (fields_of bytes) ≡ bytes
 unfolding record_bytes fields_of word_at half_at in_turn
 bytes_back bytes are long valid =
     let word : (k : ℕ) → k + 4 ≤ 64 → word_bytes (little_number 4 (drop k bytes)) ≡ take 4 (drop k bytes) = λ k fits. word_back (drop k bytes) (bytes_from k bytes are) (long_from k 4 bytes long fits) in
@@ -186,7 +197,8 @@ pub desc_of-valid : (bytes : List ℕ) → is_record bytes ≡ true → desc_of 
 unfolding desc_of
 desc_of-valid bytes valid = ap (λ b. cond b (Some (fields_of bytes)) None) valid
 
-pub desc_of-some : (bytes : List ℕ) (desc : Desc) → desc_of bytes ≡ Some desc → (is_record bytes ≡ true) × (fields_of bytes ≡ desc)
+pub desc_of-some : (bytes : List ℕ) (desc : Desc) → desc_of bytes ≡ Some desc
+    → (is_record bytes ≡ true) × (fields_of bytes ≡ desc)
 unfolding desc_of
 desc_of-some bytes desc is = by_test (is_record bytes) (fields_of bytes) is
   where
@@ -196,10 +208,14 @@ desc_of-some bytes desc is = by_test (is_record bytes) (fields_of bytes) is
 
 pub fields_of-valid : (bytes : List ℕ) → is_record bytes ≡ true → IsDesc (fields_of bytes)
 unfolding is_record
-fields_of-valid bytes valid = by_desc (fields_of bytes) (and_parts (is_desc (fields_of bytes)) (list_all (λ byte. byte == 0) (drop 36 bytes)) valid).0
+fields_of-valid bytes valid =
+    by_desc (fields_of bytes) (and_parts (is_desc (fields_of bytes)) (list_all (λ byte. byte == 0) (drop 36 bytes)) valid).0
   where
     by_desc : (desc : Desc) → is_desc desc ≡ true → IsDesc desc
-    by_desc desc passed = let parts = by_tests desc.depth desc.kinds passed in record { inside = parts.0; shallow = parts.1; kinds = parts.2 }
+    by_desc desc passed =
+        let parts = by_tests desc.depth desc.kinds passed in
+        record { inside = parts.0; shallow = parts.1; kinds = parts.2 }
       where
-        by_tests : (depth kinds : ℕ) → (nat_le 1 depth && nat_le depth MAX_DEPTH && nat_lt kinds (2 ^ depth)) ≡ true → (1 ≤ depth) × (depth ≤ MAX_DEPTH) × (kinds < 2 ^ depth)
+        by_tests : (depth kinds : ℕ) → (nat_le 1 depth && nat_le depth MAX_DEPTH && nat_lt kinds (2 ^ depth)) ≡ true
+            → (1 ≤ depth) × (depth ≤ MAX_DEPTH) × (kinds < 2 ^ depth)
         by_tests depth kinds e = (grind (arith, nat_tests), grind (arith, nat_tests), grind (arith, nat_tests))

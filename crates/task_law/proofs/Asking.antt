@@ -13,16 +13,20 @@ use Rattle.task_law.specs.Logged.{CoreAsks, LoggedRun, none, plain, call, load, 
 
 module _ (image : ImageValue) (budget size : ℕ) (ctx : Ctx) where
   -- the rules of calls allow what a task asks for
-  pub asks-allowed : (task : TaskState) (request : Request) → CoreAsks image budget size ctx task request → AllowedBy (context ctx task) request
-  asks-allowed task request asks = subst (AllowedBy (context ctx task)) asks.asks (request_at-allowed_spawn (context ctx task) task.core asks.found)
+  pub asks-allowed : (task : TaskState) (request : Request) → CoreAsks image budget size ctx task request
+      → AllowedBy (context ctx task) request
+  asks-allowed task request asks =
+      subst (AllowedBy (context ctx task)) asks.asks (request_at-allowed_spawn (context ctx task) task.core asks.found)
 
   -- what each instruction and each request that is allowed keeps holds along the run
   module _ (Holds : TaskState → Type 0) (start : TaskState) (moves : (task : TaskState) (core : Core) → Holds task → Holds (record task { core = core }))
       (asked : (task : TaskState) (request : Request) → AllowedBy (context ctx task) request → Holds task → HoldsAfter Holds (after_request task request)) where
-    pub logged-holds : {log : List Access} {task : TaskState} → LoggedRun image budget size ctx start log task → Holds start → Holds task
+    pub logged-holds : {log : List Access} {task : TaskState} → LoggedRun image budget size ctx start log task
+        → Holds start → Holds task
     logged-holds none here = here
     logged-holds (plain {log} {task} core run at) here = moves task core (logged-holds run here)
     logged-holds (call {log} {task} request after run asks is_call goes) here =
         subst (HoldsAfter Holds) goes (asked task request (asks-allowed task request asks) (logged-holds run here))
-    logged-holds (load {log} {task} access width rd run asks is_width is_load) here = moves task _ (logged-holds run here)
+    logged-holds (load {log} {task} access width rd run asks is_width is_load) here =
+        moves task _ (logged-holds run here)
     logged-holds (store {log} {task} access value run asks is_store) here = moves task _ (logged-holds run here)

@@ -1,5 +1,6 @@
 -- The domains of free tasks are those of the bags, before and after a turn.
-use Rattle.std.proofs.Common.{◌≡◌, ℕ, suc, ◌+◌, ◌≤◌, ◌==◌, Bool, true, false, List, [], ◌∷◌, ◌++◌, length, map, Option, Some, None, refl, sym, ap, subst, ◌∙◌, inl, inr, arith, slice_get, if◌then◌else◌}
+use Rattle.std.proofs.Common.{◌≡◌, ℕ, suc, ◌+◌, ◌≤◌, ◌==◌, Bool, true, false, List, [], ◌∷◌, ◌++◌, length, map, Option}
+use Rattle.std.proofs.Common.{Some, None, refl, sym, ap, subst, ◌∙◌, inl, inr, arith, slice_get, if◌then◌else◌}
 use Rattle.std.proofs.lemmas.List.{length-map}
 use Rattle.guest_image.specs.declared.image.Kind.{Kind}
 use Rattle.task_desc.specs.declared.desc.Ctx.{Ctx}
@@ -23,24 +24,29 @@ length-domains stack = length-map stack domain_of
 -- there are no more domains than bags
 fits_short : (ds : List Domain) (stack : List BagValue) → FitsBags ds stack → length ds ≤ length stack
 fits_short ds [] fits = absurd fits
-fits_short ds (bag ∷ outer) (inl all) = let e : length ds ≡ suc (length outer) = ap length all ∙ length-domains (bag ∷ outer) in omega (arith, e)
+fits_short ds (bag ∷ outer) (inl all) =
+    let e : length ds ≡ suc (length outer) = ap length all ∙ length-domains (bag ∷ outer) in omega (arith, e)
 fits_short ds (bag ∷ outer) (inr later) = let less = fits_short ds outer later in omega (arith, less)
 
 inner_short : (stack : List BagValue) → length (inner stack) ≤ length stack
 inner_short [] = omega arith
 inner_short (bag ∷ outer) = by_test (length bag.tasks == 0) (inner_short outer)
   where
-    by_test : (b : Bool) → length (inner outer) ≤ length outer → length (if b then inner outer else bag ∷ outer) ≤ suc (length outer)
+    by_test : (b : Bool) → length (inner outer) ≤ length outer
+        → length (if b then inner outer else bag ∷ outer) ≤ suc (length outer)
     by_test true less = omega (arith, less)
     by_test false less = omega arith
 
 -- they fit still without the emptied bags, which are deeper than all of them
-fits_inner : (ds : List Domain) (stack : List BagValue) → FitsBags ds stack → length ds ≤ length (inner stack) → FitsBags ds (inner stack)
+fits_inner : (ds : List Domain) (stack : List BagValue) → FitsBags ds stack → length ds ≤ length (inner stack)
+    → FitsBags ds (inner stack)
 fits_inner ds [] fits low = fits
 fits_inner ds (bag ∷ outer) fits low = by_test (length bag.tasks == 0) (fits_inner ds outer) fits low
   where
-    by_test : (b : Bool) → (FitsBags ds outer → length ds ≤ length (inner outer) → FitsBags ds (inner outer)) → FitsBags ds (bag ∷ outer)
-        → length ds ≤ length (if b then inner outer else bag ∷ outer) → FitsBags ds (if b then inner outer else bag ∷ outer)
+    by_test : (b : Bool) → (FitsBags ds outer → length ds ≤ length (inner outer) → FitsBags ds (inner outer))
+        → FitsBags ds (bag ∷ outer)
+        → length ds ≤ length (if b then inner outer else bag ∷ outer)
+        → FitsBags ds (if b then inner outer else bag ∷ outer)
     by_test true go (inl all) low' =
         let e : length ds ≡ suc (length outer) = ap length all ∙ length-domains (bag ∷ outer) in
         let less = inner_short outer in
@@ -49,7 +55,8 @@ fits_inner ds (bag ∷ outer) fits low = by_test (length bag.tasks == 0) (fits_i
     by_test false go fits' low' = fits'
 
 -- as many domains as bags are all of them
-fits_all : (ds : List Domain) (bag : BagValue) (outer : List BagValue) → FitsBags ds (bag ∷ outer) → length ds ≡ suc (length outer) → ds ≡ map domain_of (bag ∷ outer)
+fits_all : (ds : List Domain) (bag : BagValue) (outer : List BagValue) → FitsBags ds (bag ∷ outer)
+    → length ds ≡ suc (length outer) → ds ≡ map domain_of (bag ∷ outer)
 fits_all ds bag outer (inl all) long = all
 fits_all ds bag outer (inr later) long = let less = fits_short ds outer later in absurd (omega (arith, less, long))
 
@@ -57,11 +64,13 @@ fits_append : (ds : List Domain) (xs ys : List BagValue) → FitsBags ds ys → 
 fits_append ds [] ys fits = fits
 fits_append ds (x ∷ xs) ys fits = inr (fits_append ds xs ys fits)
 
-domains-with_super : (tasks : List PendingTask) (outer : List BagValue) → map domain_of (with_super tasks outer) ≡ map domain_of outer
+domains-with_super : (tasks : List PendingTask) (outer : List BagValue)
+    → map domain_of (with_super tasks outer) ≡ map domain_of outer
 domains-with_super tasks [] = refl
 domains-with_super tasks (bag ∷ outer) = refl
 
-fits_super : (ds : List Domain) (tasks : List PendingTask) (outer : List BagValue) → FitsBags ds outer → FitsBags ds (with_super tasks outer)
+fits_super : (ds : List Domain) (tasks : List PendingTask) (outer : List BagValue) → FitsBags ds outer
+    → FitsBags ds (with_super tasks outer)
 fits_super ds tasks [] fits = fits
 fits_super ds tasks (bag ∷ outer) fits = fits
 
@@ -84,17 +93,22 @@ module _ (stack : List BagValue) (task : PendingTask) (own : List Domain) (depth
 
   module _ (n : ℕ) (spawns : List Spawn) (sub : Option Kind) (have : HaveDomains depth sub spawns) where
     abbrev rest : List BagValue
-    rest = record next.bag { tasks = without_name task.name next.bag.tasks ++ children Same n spawns } ∷ with_super (children Super n spawns) next.outer
+    rest =
+        record next.bag { tasks = without_name task.name next.bag.tasks ++ children Same n spawns } ∷ with_super (children Super n spawns) next.outer
 
     rest_is : own ≡ map domain_of rest
-    rest_is = own_is ∙ ap (λ ds. domain_of next.bag ∷ ds) (sym (domains-with_super (children Super n spawns) next.outer))
+    rest_is =
+        own_is ∙ ap (λ ds. domain_of next.bag ∷ ds) (sym (domains-with_super (children Super n spawns) next.outer))
 
-    others : (ds : List Domain) → length ds ≤ depth → FitsBags ds stack → FitsBags ds (stack_after next.bag next.outer task.name n task.ts spawns sub)
+    others : (ds : List Domain) → length ds ≤ depth → FitsBags ds stack
+        → FitsBags ds (stack_after next.bag next.outer task.name n task.ts spawns sub)
     unfolding stack_after
-    others ds low fits' = fits_append ds (sub_bags (next.bag.depth + 1) task.ts n (children Sub n spawns) sub) rest (by_bag (fits_turn ds low fits'))
+    others ds low fits' =
+        fits_append ds (sub_bags (next.bag.depth + 1) task.ts n (children Sub n spawns) sub) rest (by_bag (fits_turn ds low fits'))
       where
         by_bag : FitsBags ds (next.bag ∷ next.outer) → FitsBags ds rest
-        by_bag (inl all) = inl (all ∙ ap (λ ds. domain_of next.bag ∷ ds) (sym (domains-with_super (children Super n spawns) next.outer)))
+        by_bag (inl all) =
+            inl (all ∙ ap (λ ds. domain_of next.bag ∷ ds) (sym (domains-with_super (children Super n spawns) next.outer)))
         by_bag (inr later) = inr (fits_super ds (children Super n spawns) next.outer later)
 
     -- the bag of the subdomain, if there is a new one
@@ -102,7 +116,8 @@ module _ (stack : List BagValue) (task : PendingTask) (own : List Domain) (depth
     News s = sub_bags (next.bag.depth + 1) task.ts n (children Sub n spawns) s
 
     -- that bag, where it has a child
-    deeper : (kind : Kind) (tasks : List PendingTask) (p : PendingTask) → In p tasks → FitsBags (record { kind = kind; floor = task.ts } ∷ own) (sub_bags (next.bag.depth + 1) task.ts n tasks (Some kind) ++ rest)
+    deeper : (kind : Kind) (tasks : List PendingTask) (p : PendingTask) → In p tasks
+        → FitsBags (record { kind = kind; floor = task.ts } ∷ own) (sub_bags (next.bag.depth + 1) task.ts n tasks (Some kind) ++ rest)
     deeper kind tasks p at = by_test (length tasks == 0) refl
       where
         by_test : (b : Bool) → (length tasks == 0) ≡ b
@@ -110,18 +125,22 @@ module _ (stack : List BagValue) (task : PendingTask) (own : List Domain) (depth
         by_test true e = absurd (nothing_in p tasks e at)
         by_test false e = inl (ap (λ ds. record { kind = kind; floor = task.ts } ∷ ds) rest_is)
 
-    outside : (ds : List Domain) (d : Domain) (outer : List BagValue) → own ≡ d ∷ ds → own ≡ domain_of next.bag ∷ map domain_of outer → 1 ≤ length outer → FitsBags ds outer
+    outside : (ds : List Domain) (d : Domain) (outer : List BagValue) → own ≡ d ∷ ds
+        → own ≡ domain_of next.bag ∷ map domain_of outer → 1 ≤ length outer → FitsBags ds outer
     outside ds d [] e f some = absurd (omega (arith, some))
     outside ds d (b ∷ bs) e f some =
         let both : d ∷ ds ≡ domain_of next.bag ∷ map domain_of (b ∷ bs) = sym e ∙ f in
         let same : ds ≡ map domain_of (b ∷ bs) = cc in
         inl same
 
-    all_children : (index : ℕ) (spawn : Spawn) (ds : List Domain) → slice_get spawns index ≡ Some spawn → ChildDomains own task.ts sub spawn.place ds → FitsBags ds (stack_after next.bag next.outer task.name n task.ts spawns sub)
+    all_children : (index : ℕ) (spawn : Spawn) (ds : List Domain) → slice_get spawns index ≡ Some spawn
+        → ChildDomains own task.ts sub spawn.place ds
+        → FitsBags ds (stack_after next.bag next.outer task.name n task.ts spawns sub)
     unfolding stack_after
     all_children index spawn ds at domains = by_place spawn.place refl domains
       where
-        by_place : (place : Place) → spawn.place ≡ place → ChildDomains own task.ts sub place ds → FitsBags ds (News sub ++ rest)
+        by_place : (place : Place) → spawn.place ≡ place → ChildDomains own task.ts sub place ds
+            → FitsBags ds (News sub ++ rest)
         by_place Same e same = fits_append ds (News sub) rest (inl (same ∙ rest_is))
         by_place Sub e more =
             let p : PendingTask = child n (index, spawn) in
@@ -133,14 +152,28 @@ module _ (stack : List BagValue) (task : PendingTask) (own : List Domain) (depth
 
 pub turns_keep_domains : TurnKeepsDomains
 turns_keep_domains stack task own depth n spawns sub is fits long have next =
-    record { others = others stack task own depth is fits long next n spawns sub have; children = all_children stack task own depth is fits long next n spawns sub have }
+    record {
+      others = others stack task own depth is fits long next n spawns sub have;
+      children = all_children stack task own depth is fits long next n spawns sub have;
+    }
 
 kind_first : (outer : List BagValue) → kind_outside outer ≡ first_kind (map domain_of outer)
 kind_first [] = refl
 kind_first (bag ∷ outer) = refl
 
 abbrev context : ℕ → ℕ → ℕ → Domain → Option Kind → Ctx
-context version depth ts own outer = record { version = version; depth = depth; own = own.kind; outer = outer; ts = ts; floor = own.floor; sub = None; children = 0; bytes = 0 }
+context version depth ts own outer =
+    record {
+      version = version;
+      depth = depth;
+      own = own.kind;
+      outer = outer;
+      ts = ts;
+      floor = own.floor;
+      sub = None;
+      children = 0;
+      bytes = 0;
+    }
 
 pub contexts_fit : ContextFits
 contexts_fit version stack task own outer is fits next =

@@ -1,6 +1,7 @@
 -- The free tasks after a commit are those before it without the task, and its children; names stay apart, families
 -- whole and spilled tasks firm.
-use Rattle.std.proofs.Common.{◌≡◌, ◌≢◌, ◌⊎◌, ℕ, ◌+◌, ◌≤◌, Bool, true, List, Option, Some, None, refl, sym, ap, subst, ◌∙◌, inl, inr, arith, slice_get}
+use Rattle.std.proofs.Common.{◌≡◌, ◌≢◌, ◌⊎◌, ℕ, ◌+◌, ◌≤◌, Bool, true, List, Option, Some, None, refl, sym, ap, subst}
+use Rattle.std.proofs.Common.{◌∙◌, inl, inr, arith, slice_get}
 use Rattle.std.proofs.lemmas.Bool.{cases_eq, false_from_ne_true}
 use Rattle.std.proofs.lemmas.Bool.Decides.{nat_tests}
 use Rattle.std.proofs.lemmas.Grind.{common_steps}
@@ -9,17 +10,21 @@ use Rattle.task_desc.specs.declared.desc.Place.{Place}
 use Rattle.task_desc.specs.declared.desc.Place.TheVariants.{Same, Sub, Super}
 use Rattle.pending_list.specs.declared.task.PendingTask.{PendingTask}
 use Rattle.serial_machine.specs.Turn.{is_named}
-use Rattle.task_law.specs.Tasks.{BagCreator, Committed, Live, Body, spawn_body, BagTask, pending, QueuedFree, IsFree, IsChild, IsFamily, Matched, IsChildDepth, Names, SpilledBagTask, IsSpilled}
+use Rattle.task_law.specs.Tasks.{BagCreator, Committed, Live, Body, spawn_body, BagTask, pending, QueuedFree, IsFree}
+use Rattle.task_law.specs.Tasks.{IsChild, IsFamily, Matched, IsChildDepth, Names, SpilledBagTask, IsSpilled}
 use Rattle.task_law.specs.Sound.{AreSound}
 use Rattle.task_law.specs.Commit.{IsNextTurn, with_turn, CommitKeepsTasks}
 use Rattle.task_law.proofs.Bags.{IsNewChild, Freed}
 
 -- names are told apart by their parts
 same_name : (a b : Name) → a.creator ≡ b.creator → a.index ≡ b.index → a ≡ b
-same_name a b creator index = ap (λ c. record { creator = c; index = a.index }) creator ∙ ap (λ i. record { creator = b.creator; index = i }) index
+same_name a b creator index =
+    ap (λ c. record { creator = c; index = a.index }) creator
+    ∙ ap (λ i. record { creator = b.creator; index = i }) index
 
 pub named_same : (name : Name) (p : PendingTask) → is_named name p ≡ true → p.name ≡ name
-named_same name p is = same_name p.name name (grind (arith, nat_tests, common_steps)) (grind (arith, nat_tests, common_steps))
+named_same name p is =
+    same_name p.name name (grind (arith, nat_tests, common_steps)) (grind (arith, nat_tests, common_steps))
 
 pub same_named : (name : Name) (p : PendingTask) → p.name ≡ name → is_named name p ≡ true
 same_named name p e =
@@ -29,7 +34,8 @@ same_named name p e =
 
 -- a free task with the name of a queued one is that one
 module _ (count least : ℕ) (runs : Bool) (tasks : ℕ → Option BagTask) (spilled : List SpilledBagTask) (sound : AreSound count least runs tasks spilled) (id : ℕ) (task : BagTask) (turn index : ℕ) (there : tasks id ≡ Some task) (own : task.creator ≡ Committed turn index) where
-  pub queued_same : (depth : ℕ) (p : PendingTask) (q : QueuedFree tasks (IsSpilled spilled) count depth p) → p.name ≡ record { creator = turn; index = index } → q.id ≡ id
+  pub queued_same : (depth : ℕ) (p : PendingTask) (q : QueuedFree tasks (IsSpilled spilled) count depth p)
+      → p.name ≡ record { creator = turn; index = index } → q.id ≡ id
   queued_same depth p q same =
       let names = sym (ap (λ z. z.name) q.pending_is) ∙ same in
       let turns : q.turn ≡ turn = ap {A = Name} (λ n. n.creator) names in
@@ -37,12 +43,15 @@ module _ (count least : ℕ) (runs : Bool) (tasks : ℕ → Option BagTask) (spi
       let creators : q.task.creator ≡ task.creator = q.creator ∙ ap (λ t. Committed t q.index) turns ∙ ap (Committed turn) indexes ∙ sym own in
       sound.distinct q.id id q.task task q.there there creators
 
-  pub spilled_other : (depth : ℕ) (p : PendingTask) → IsSpilled spilled depth p → p.name ≢ record { creator = turn; index = index }
+  pub spilled_other : (depth : ℕ) (p : PendingTask) → IsSpilled spilled depth p
+      → p.name ≢ record { creator = turn; index = index }
   spilled_other depth p at =
       let names : Names count least task.creator (record { creator = turn; index = index }) = subst (λ c. Names count least c (record { creator = turn; index = index })) (sym own) (refl, sound.counted id task turn index there own) in
       sound.apart id task (record { creator = turn; index = index }) depth p there names at
 
-  pub free_same : (depth : ℕ) (p : PendingTask) → IsFree tasks (IsSpilled spilled) count depth p → p.name ≡ record { creator = turn; index = index } → (depth ≡ task.depth) × (p ≡ pending turn index task.body task.ts)
+  pub free_same : (depth : ℕ) (p : PendingTask) → IsFree tasks (IsSpilled spilled) count depth p
+      → p.name ≡ record { creator = turn; index = index }
+      → (depth ≡ task.depth) × (p ≡ pending turn index task.body task.ts)
   free_same depth p (inr s) same = absurd (spilled_other depth p s.0 same)
   free_same depth p (inl q) same =
       let both : Some q.task ≡ Some task = sym q.there ∙ ap tasks (queued_same depth p q same) ∙ there in
@@ -51,7 +60,8 @@ module _ (count least : ℕ) (runs : Bool) (tasks : ℕ → Option BagTask) (spi
       let turns : q.turn ≡ turn = cc in
       let indexes : q.index ≡ index = cc in (
         sym q.depth_is ∙ ap (λ t. t.depth) eq,
-        q.pending_is ∙ ap (λ t. pending q.turn q.index t.body t.ts) eq ∙ ap (λ t. pending t q.index task.body task.ts) turns ∙ ap (λ i. pending turn i task.body task.ts) indexes,
+        q.pending_is ∙ ap (λ t. pending q.turn q.index t.body t.ts) eq
+            ∙ ap (λ t. pending t q.index task.body task.ts) turns ∙ ap (λ i. pending turn i task.body task.ts) indexes,
       )
 
 module _ (count id turn index : ℕ) (old new : ℕ → Option BagTask) (spilled : List SpilledBagTask) (task : BagTask) (sound : AreSound count id true old spilled) (is : IsNextTurn count old new id task turn index) where
@@ -65,14 +75,17 @@ module _ (count id turn index : ℕ) (old new : ℕ → Option BagTask) (spilled
   family = sound.families id task is.there is.dispatched
 
   -- a matched child is one of the new children
-  of_match : (k depth : ℕ) (body : Body) (ts : ℕ) (p : PendingTask) → p ≡ pending (count + 1) k body ts → Matched task k depth body ts → After depth p
+  of_match : (k depth : ℕ) (body : Body) (ts : ℕ) (p : PendingTask) → p ≡ pending (count + 1) k body ts
+      → Matched task k depth body ts → After depth p
   of_match k depth body ts p same match =
       inr (record {
         index = k;
         spawn = match.spawn;
         at = match.spawn_is;
         place = match.place;
-        is = same ∙ ap (λ b. pending (count + 1) k b ts) match.same_body ∙ ap (pending (count + 1) k (spawn_body match.spawn)) match.same_ts;
+        is =
+            same ∙ ap (λ b. pending (count + 1) k b ts) match.same_body
+            ∙ ap (pending (count + 1) k (spawn_body match.spawn)) match.same_ts;
       })
 
   queued_after : (depth : ℕ) (p : PendingTask) → QueuedFree new (IsSpilled spilled) (count + 1) depth p → After depth p
@@ -98,7 +111,9 @@ module _ (count id turn index : ℕ) (old new : ℕ → Option BagTask) (spilled
             let turns : count + 1 ≡ q.turn = cc in
             let indexes : k ≡ q.index = cc in
             let p_is : p ≡ pending (count + 1) k x.body x.ts =
-            q.pending_is ∙ ap (λ t. pending q.turn q.index t.body t.ts) (sym eq) ∙ ap (λ j. pending j q.index x.body x.ts) (sym turns) ∙ ap (λ j. pending (count + 1) j x.body x.ts) (sym indexes)
+            q.pending_is ∙ ap (λ t. pending q.turn q.index t.body t.ts) (sym eq)
+            ∙ ap (λ j. pending j q.index x.body x.ts) (sym turns)
+            ∙ ap (λ j. pending (count + 1) j x.body x.ts) (sym indexes)
             in
             of_match k depth x.body x.ts p p_is (family.only k depth x.body x.ts (inl (record { id = q.id; task = x; there = was; creator_is = made'; depth_is = ap (λ t. t.depth) eq ∙ q.depth_is; has_body = refl; has_ts = refl })))
         | inr other ↦
@@ -129,7 +144,8 @@ module _ (count id turn index : ℕ) (old new : ℕ → Option BagTask) (spilled
   same_depth Super a b x y = omega (arith, x, y)
 
   -- a new child is free
-  child_free : (depth : ℕ) (p : PendingTask) → IsNewChild (count + 1) task.depth task.spawns depth p → IsFree new (IsSpilled spilled) (count + 1) depth p
+  child_free : (depth : ℕ) (p : PendingTask) → IsNewChild (count + 1) task.depth task.spawns depth p
+      → IsFree new (IsSpilled spilled) (count + 1) depth p
   child_free depth p r =
       let kin = family.each r.index r.spawn r.at in
       let deep : kin.0 ≡ depth = same_depth r.spawn.place kin.0 depth kin.1 r.place in
@@ -145,7 +161,9 @@ module _ (count id turn index : ℕ) (old new : ℕ → Option BagTask) (spilled
               index = r.index;
               creator = refl;
               depth_is = q.depth_is ∙ deep;
-              pending_is = p_is ∙ ap (λ b. pending (count + 1) r.index b r.spawn.ts) (sym q.has_body) ∙ ap (pending (count + 1) r.index q.task.body) (sym q.has_ts);
+              pending_is =
+                  p_is ∙ ap (λ b. pending (count + 1) r.index b r.spawn.ts) (sym q.has_body)
+                  ∙ ap (pending (count + 1) r.index q.task.body) (sym q.has_ts);
             })
         | inr entry ↦ inr (subst (λ o. IsSpilled spilled o p) deep (subst (IsSpilled spilled kin.0) (sym p_is) entry.1), (let e : p.name.creator ≡ count + 1 = ap (λ z. z.name.creator) p_is in omega (arith, e)))
       ]
@@ -168,7 +186,8 @@ module _ (count id turn index : ℕ) (old new : ℕ → Option BagTask) (spilled
   ]
 
   abbrev How : BagTask → BagTask → Type 0
-  How x y = ((x ≡ y) × ((i : ℕ) → x.creator ≢ Live id i)) ⊎ ((i : ℕ) × (x.creator ≡ Live id i) × (y ≡ with_turn x (count + 1) i))
+  How x y =
+      ((x ≡ y) × ((i : ℕ) → x.creator ≢ Live id i)) ⊎ ((i : ℕ) × (x.creator ≡ Live id i) × (y ≡ with_turn x (count + 1) i))
 
   -- what a task is now it was before, or it is a child of the one that committed
   record Was (k : ℕ) (y : BagTask) : Type 0 where
@@ -215,7 +234,8 @@ module _ (count id turn index : ℕ) (old new : ℕ → Option BagTask) (spilled
       ]
 
   -- the creator that a task had, by the one that it has
-  had : (k : ℕ) (y : BagTask) (w : Was k y) (other : ℕ) (z : BagTask) (v : Was other z) → y.creator ≡ z.creator → w.before.creator ≡ v.before.creator
+  had : (k : ℕ) (y : BagTask) (w : Was k y) (other : ℕ) (z : BagTask) (v : Was other z) → y.creator ≡ z.creator
+      → w.before.creator ≡ v.before.creator
   had k y w other z v same = elim w.how [
     | inl a ↦ elim v.how [
       | inl b ↦ ap (λ t. t.creator) a.0 ∙ same ∙ sym (ap (λ t. t.creator) b.0)
@@ -231,7 +251,8 @@ module _ (count id turn index : ℕ) (old new : ℕ → Option BagTask) (spilled
   ]
     where
       late : (j : ℕ) (x : BagTask) (u : Was j x) → u.before ≡ x → (i : ℕ) → x.creator ≡ Committed (count + 1) i → ⊥
-      late j x u eq i made = let low = sound.counted j u.before (count + 1) i u.there (ap (λ t. t.creator) eq ∙ made) in omega (arith, low)
+      late j x u eq i made =
+          let low = sound.counted j u.before (count + 1) i u.there (ap (λ t. t.creator) eq ∙ made) in omega (arith, low)
 
   distinct : (a b : ℕ) (x y : BagTask) → new a ≡ Some x → new b ≡ Some y → x.creator ≡ y.creator → a ≡ b
   distinct a b x y at at' same =
@@ -241,9 +262,11 @@ module _ (count id turn index : ℕ) (old new : ℕ → Option BagTask) (spilled
 
   -- spilled tasks took their names from the turns so far
   spilled_low : (depth : ℕ) (p : PendingTask) → IsSpilled spilled depth p → p.name.creator ≤ count + 1
-  spilled_low depth p at = elim (sound.firm depth p at) [ inl low ↦ omega (arith, low) | inr mine ↦ (let e = mine.0 in omega (arith, e)) ]
+  spilled_low depth p at =
+      elim (sound.firm depth p at) [ inl low ↦ omega (arith, low) | inr mine ↦ (let e = mine.0 in omega (arith, e)) ]
 
-  apart : (least k : ℕ) (y : BagTask) (name : Name) (depth : ℕ) (p : PendingTask) → new k ≡ Some y → Names (count + 1) least y.creator name → IsSpilled spilled depth p → p.name ≢ name
+  apart : (least k : ℕ) (y : BagTask) (name : Name) (depth : ℕ) (p : PendingTask) → new k ≡ Some y
+      → Names (count + 1) least y.creator name → IsSpilled spilled depth p → p.name ≢ name
   apart least k y name depth p at names entry same = by_creator (was k y at) y.creator refl names
     where
       by_creator : Was k y → (c : BagCreator) → y.creator ≡ c → Names (count + 1) least c name → ⊥
@@ -277,15 +300,20 @@ module _ (count id turn index : ℕ) (old new : ℕ → Option BagTask) (spilled
     old_family : IsFamily old (IsSpilled spilled) count id k w.before
     old_family = sound.families k w.before w.there (same_spawns.2 ∙ runs)
 
-    child_on : (index depth : ℕ) (body : Body) (ts : ℕ) → IsChild old (IsSpilled spilled) count id k index depth body ts → IsChild new (IsSpilled spilled) (count + 1) least k index depth body ts
+    child_on : (index depth : ℕ) (body : Body) (ts : ℕ) → IsChild old (IsSpilled spilled) count id k index depth body ts
+        → IsChild new (IsSpilled spilled) (count + 1) least k index depth body ts
     child_on index depth body ts (inr s) = absurd (w.differs s.0)
     child_on index depth body ts (inl q) =
         let not_self : q.id ≢ id = λ e. (let both : Some q.task ≡ Some task = sym q.there ∙ ap old e ∙ is.there in let eq : q.task ≡ task = cc in absurd (cc (ap (λ t. t.creator) eq, q.creator_is, is.creator))) in
         let not_mine : (i : ℕ) → q.task.creator ≢ Live id i = λ i e. (let both : Live k index ≡ Live id i = sym q.creator_is ∙ e in let eq : k ≡ id = cc in w.differs eq) in
         inl (record { id = q.id; task = q.task; there = is.commits.others q.id q.task not_self q.there not_mine; creator_is = q.creator_is; depth_is = q.depth_is; has_body = q.has_body; has_ts = q.has_ts })
 
-    child_was : (index depth : ℕ) (body : Body) (ts : ℕ) → IsChild new (IsSpilled spilled) (count + 1) least k index depth body ts → IsChild old (IsSpilled spilled) count id k index depth body ts
-    child_was index depth body ts (inr s) = let low : count + 1 + 1 ≤ count + 1 = spilled_low depth (pending (count + 1 + 1) index body ts) s.1 in absurd (omega (arith, low))
+    child_was : (index depth : ℕ) (body : Body) (ts : ℕ)
+        → IsChild new (IsSpilled spilled) (count + 1) least k index depth body ts
+        → IsChild old (IsSpilled spilled) count id k index depth body ts
+    child_was index depth body ts (inr s) =
+        let low : count + 1 + 1 ≤ count + 1 = spilled_low depth (pending (count + 1 + 1) index body ts) s.1 in
+        absurd (omega (arith, low))
     child_was index depth body ts (inl q) =
         let v = was q.id q.task q.there in
         elim v.how [
@@ -310,7 +338,13 @@ module _ (count id turn index : ℕ) (old new : ℕ → Option BagTask) (spilled
               );
           only = λ index depth body ts kid. (
               let m = old_family.only index depth body ts (child_was index depth body ts kid) in
-              record { spawn = m.spawn; spawn_is = ap (λ s. slice_get s index) (sym same_spawns.0) ∙ m.spawn_is; place = subst (λ d. IsChildDepth d m.spawn.place depth) same_spawns.1 m.place; same_body = m.same_body; same_ts = m.same_ts }
+              record {
+                spawn = m.spawn;
+                spawn_is = ap (λ s. slice_get s index) (sym same_spawns.0) ∙ m.spawn_is;
+                place = subst (λ d. IsChildDepth d m.spawn.place depth) same_spawns.1 m.place;
+                same_body = m.same_body;
+                same_ts = m.same_ts;
+              }
               );
         }
 
@@ -322,5 +356,6 @@ commits_keep count id turn index least runs old new spilled task sound is =
       apart = apart count id turn index old new spilled task sound is least;
       differ = sound.differ;
       firm = λ depth p at. inl (spilled_low count id turn index old new spilled task sound is depth p at);
-      families = λ k y at dispatched. family_after count id turn index old new spilled task sound is least k y at dispatched;
+      families =
+          λ k y at dispatched. family_after count id turn index old new spilled task sound is least k y at dispatched;
     }

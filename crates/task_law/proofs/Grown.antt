@@ -1,20 +1,25 @@
 -- A dispatch, an enqueue and a placement keep what a sound view keeps of names and children.
-use Rattle.std.proofs.Common.{◌≡◌, ◌≢◌, ◌⊎◌, ℕ, zero, suc, ◌+◌, ◌≤◌, Bool, true, false, List, [], ◌∷◌, ◌++◌, length, Option, Some, None, refl, sym, ap, subst, ◌∙◌, inl, inr, arith, slice_get}
+use Rattle.std.proofs.Common.{◌≡◌, ◌≢◌, ◌⊎◌, ℕ, zero, suc, ◌+◌, ◌≤◌, Bool, true, false, List, [], ◌∷◌, ◌++◌, length}
+use Rattle.std.proofs.Common.{Option, Some, None, refl, sym, ap, subst, ◌∙◌, inl, inr, arith, slice_get}
 use Rattle.std.proofs.lemmas.Bool.{cases_eq}
 use Rattle.task_desc.specs.declared.desc.Name.{Name}
 use Rattle.task_desc.specs.declared.desc.Spawn.{Spawn}
 use Rattle.pending_list.specs.declared.task.PendingTask.{PendingTask}
-use Rattle.task_law.specs.Tasks.{BagCreator, Committed, Live, Body, body_of, spawn_body, BagTask, pending, IsFree, IsChild, IsFamily, Matched, IsChildDepth, Names, SpilledBagTask, IsSpilled}
+use Rattle.task_law.specs.Tasks.{BagCreator, Committed, Live, Body, body_of, spawn_body, BagTask, pending, IsFree}
+use Rattle.task_law.specs.Tasks.{IsChild, IsFamily, Matched, IsChildDepth, Names, SpilledBagTask, IsSpilled}
 use Rattle.task_law.specs.Sound.{AreSound, IdleLeastIsAny}
-use Rattle.task_law.specs.Grows.{DispatchesInBags, DispatchKeepsTasks, made_by, EnqueuesInBags, EnqueueKeepsTasks, PlacesInBags, PlacementKeepsTasks, NoTasksAreSound}
+use Rattle.task_law.specs.Grows.{DispatchesInBags, DispatchKeepsTasks, made_by, EnqueuesInBags, EnqueueKeepsTasks}
+use Rattle.task_law.specs.Grows.{PlacesInBags, PlacementKeepsTasks, NoTasksAreSound}
 use Rattle.fractal_vt.proofs.Proved.{get_end, get_front}
 
 module _ {X : Type 0} where
-  pub get_cases : (xs : List X) (x : X) (i : ℕ) (y : X) → slice_get (xs ++ x ∷ []) i ≡ Some y → (slice_get xs i ≡ Some y) ⊎ ((i ≡ length xs) × (x ≡ y))
+  pub get_cases : (xs : List X) (x : X) (i : ℕ) (y : X) → slice_get (xs ++ x ∷ []) i ≡ Some y
+      → (slice_get xs i ≡ Some y) ⊎ ((i ≡ length xs) × (x ≡ y))
   get_cases [] x zero y at = let same : x ≡ y = cc in inr (refl, same)
   get_cases [] x (suc i) y at = absurd (cc)
   get_cases (a ∷ xs) x zero y at = inl at
-  get_cases (a ∷ xs) x (suc i) y at = elim (get_cases xs x i y at) [ inl was ↦ inl was | inr last ↦ inr (ap suc last.0, last.1) ]
+  get_cases (a ∷ xs) x (suc i) y at =
+      elim (get_cases xs x i y at) [ inl was ↦ inl was | inr last ↦ inr (ap suc last.0, last.1) ]
 
   get_past : (xs : List X) (x : X) → slice_get xs (length xs) ≡ Some x → ⊥
   get_past [] x at = absurd (cc)
@@ -28,7 +33,13 @@ record Alike (x y : BagTask) : Type 0 where
   pub ts : x.ts ≡ y.ts
 
 alike : (x y : BagTask) → x ≡ y → Alike x y
-alike x y e = record { creator = ap (λ z. z.creator) e; depth = ap (λ z. z.depth) e; body = ap (λ z. z.body) e; ts = ap (λ z. z.ts) e }
+alike x y e =
+    record {
+      creator = ap (λ z. z.creator) e;
+      depth = ap (λ z. z.depth) e;
+      body = ap (λ z. z.body) e;
+      ts = ap (λ z. z.ts) e;
+    }
 
 -- each task of the one that this holds of is one of the other, which reads the same
 abbrev Carries : (ℕ → Option BagTask) → (ℕ → Option BagTask) → (ℕ → BagTask → Type 0) → Type 0
@@ -36,7 +47,8 @@ Carries one other holds = (k : ℕ) (x : BagTask) → one k ≡ Some x → holds
     → (y : BagTask) × (other k ≡ Some y) × Alike x y
 
 module _ (one other : ℕ → Option BagTask) (spilled : ℕ → PendingTask → Type 0) (count : ℕ) (holds : ℕ → BagTask → Type 0) (carries : Carries one other holds) where
-  carry_free : ((k : ℕ) (x : BagTask) (turn index : ℕ) → one k ≡ Some x → x.creator ≡ Committed turn index → holds k x) → (depth : ℕ) (p : PendingTask) → IsFree one spilled count depth p → IsFree other spilled count depth p
+  carry_free : ((k : ℕ) (x : BagTask) (turn index : ℕ) → one k ≡ Some x → x.creator ≡ Committed turn index → holds k x)
+      → (depth : ℕ) (p : PendingTask) → IsFree one spilled count depth p → IsFree other spilled count depth p
   carry_free all depth p (inr s) = inr s
   carry_free all depth p (inl q) =
       let w = carries q.id q.task q.there (all q.id q.task q.turn q.index q.there q.creator) in
@@ -52,8 +64,10 @@ module _ (one other : ℕ → Option BagTask) (spilled : ℕ → PendingTask →
             ∙ ap (pending q.turn q.index w.0.body) w.2.ts;
       })
 
-  carry_child : (least creator : ℕ) → ((k : ℕ) (x : BagTask) (index : ℕ) → one k ≡ Some x → x.creator ≡ Live creator index → holds k x)
-      → (index depth : ℕ) (body : Body) (ts : ℕ) → IsChild one spilled count least creator index depth body ts → IsChild other spilled count least creator index depth body ts
+  carry_child : (least creator : ℕ)
+      → ((k : ℕ) (x : BagTask) (index : ℕ) → one k ≡ Some x → x.creator ≡ Live creator index → holds k x)
+      → (index depth : ℕ) (body : Body) (ts : ℕ) → IsChild one spilled count least creator index depth body ts
+      → IsChild other spilled count least creator index depth body ts
   carry_child least creator all index depth body ts (inr s) = inr s
   carry_child least creator all index depth body ts (inl q) =
       let w = carries q.id q.task q.there (all q.id q.task index q.there q.creator_is) in
@@ -74,7 +88,13 @@ carry_family one other spilled count least creator x y spawns deep forth back fa
           );
       only = λ index depth body ts kid. (
           let m = fam.only index depth body ts (back index depth body ts kid) in
-          record { spawn = m.spawn; spawn_is = ap (λ s. slice_get s index) (sym spawns) ∙ m.spawn_is; place = subst (λ d. IsChildDepth d m.spawn.place depth) deep m.place; same_body = m.same_body; same_ts = m.same_ts }
+          record {
+            spawn = m.spawn;
+            spawn_is = ap (λ s. slice_get s index) (sym spawns) ∙ m.spawn_is;
+            place = subst (λ d. IsChildDepth d m.spawn.place depth) deep m.place;
+            same_body = m.same_body;
+            same_ts = m.same_ts;
+          }
           );
     }
 
@@ -100,10 +120,13 @@ module _ (old new : ℕ → Option BagTask) (id : ℕ) (task : BagTask) (starts 
     | inr other ↦ (y, sym (starts.others k other) ∙ at, alike y y refl)
   ]
 
-  start_family : (spilled : List SpilledBagTask) (count least : ℕ) (runs : Bool) → (id ≡ least → runs ≡ false) → AreSound count least runs old spilled → (y : BagTask) → y ≡ record task { dispatched = true } → IsFamily new (IsSpilled spilled) count least id y
+  start_family : (spilled : List SpilledBagTask) (count least : ℕ) (runs : Bool) → (id ≡ least → runs ≡ false)
+      → AreSound count least runs old spilled → (y : BagTask) → y ≡ record task { dispatched = true }
+      → IsFamily new (IsSpilled spilled) count least id y
   start_family spilled count least runs off sound y eq =
       record {
-        each = λ index spawn at. (let none : slice_get y.spawns index ≡ None = ap (λ s. slice_get s index) (ap (λ z. z.spawns) eq ∙ starts.fresh) in absurd (cc (none, at)));
+        each =
+            λ index spawn at. (let none : slice_get y.spawns index ≡ None = ap (λ s. slice_get s index) (ap (λ z. z.spawns) eq ∙ starts.fresh) in absurd (cc (none, at)));
         only = λ index depth body ts kid. elim kid [
           | inl q ↦ (let w = back q.id q.task q.there tt in absurd (starts.childless q.id index w.0 w.1 (sym w.2.creator ∙ q.creator_is)))
           | inr s ↦ elim (sound.firm depth (pending (count + 1) index body ts) s.1) [
@@ -113,12 +136,16 @@ module _ (old new : ℕ → Option BagTask) (id : ℕ) (task : BagTask) (starts 
         ];
       }
 
-  start_sound : (spilled : List SpilledBagTask) (count least : ℕ) (runs now : Bool) → (id ≡ least → runs ≡ false) → (runs ≡ true → now ≡ true) → AreSound count least runs old spilled → AreSound count least now new spilled
+  start_sound : (spilled : List SpilledBagTask) (count least : ℕ) (runs now : Bool) → (id ≡ least → runs ≡ false)
+      → (runs ≡ true → now ≡ true) → AreSound count least runs old spilled → AreSound count least now new spilled
   start_sound spilled count least runs now off on sound =
       record {
-        counted = λ k y turn index at made. (let w = back k y at tt in sound.counted k w.0 turn index w.1 (sym w.2.creator ∙ made));
-        distinct = λ a b x y at at' same. (let w = back a x at tt in let v = back b y at' tt in sound.distinct a b w.0 v.0 w.1 v.1 (sym w.2.creator ∙ same ∙ v.2.creator));
-        apart = λ k y name depth p at names entry. (let w = back k y at tt in sound.apart k w.0 name depth p w.1 (subst (λ c. Names count least c name) w.2.creator names) entry);
+        counted =
+            λ k y turn index at made. (let w = back k y at tt in sound.counted k w.0 turn index w.1 (sym w.2.creator ∙ made));
+        distinct =
+            λ a b x y at at' same. (let w = back a x at tt in let v = back b y at' tt in sound.distinct a b w.0 v.0 w.1 v.1 (sym w.2.creator ∙ same ∙ v.2.creator));
+        apart =
+            λ k y name depth p at names entry. (let w = back k y at tt in sound.apart k w.0 name depth p w.1 (subst (λ c. Names count least c name) w.2.creator names) entry);
         differ = sound.differ;
         firm = λ depth p at. elim (sound.firm depth p at) [ inl low ↦ inl low | inr mine ↦ inr (mine.0, on mine.1) ];
         families = λ k y at runs'. elim (cases_eq k id) [
@@ -179,7 +206,8 @@ module _ (old new : ℕ → Option BagTask) (id child : ℕ) (task : BagTask) (s
   old_if_free : (k : ℕ) (y : BagTask) (turn index : ℕ) → new k ≡ Some y → y.creator ≡ Committed turn index → k ≢ child
   old_if_free k y turn index at made here = absurd (cc (ap (λ z. z.creator) (is_made k y at here), made))
 
-  old_if_other : (creator : ℕ) → creator ≢ id → (k : ℕ) (y : BagTask) (index : ℕ) → new k ≡ Some y → y.creator ≡ Live creator index → k ≢ child
+  old_if_other : (creator : ℕ) → creator ≢ id → (k : ℕ) (y : BagTask) (index : ℕ) → new k ≡ Some y
+      → y.creator ≡ Live creator index → k ≢ child
   old_if_other creator other k y index at made here =
       let both : Live id (length task.spawns) ≡ Live creator index = sym (ap (λ z. z.creator) (is_made k y at here)) ∙ made in
       let eq : id ≡ creator = cc in
@@ -207,7 +235,8 @@ module _ (old new : ℕ → Option BagTask) (id child : ℕ) (task : BagTask) (s
       ]
     ]
 
-    apart : (k : ℕ) (y : BagTask) (name : Name) (depth : ℕ) (p : PendingTask) → new k ≡ Some y → Names count least y.creator name → IsSpilled spilled depth p → p.name ≢ name
+    apart : (k : ℕ) (y : BagTask) (name : Name) (depth : ℕ) (p : PendingTask) → new k ≡ Some y
+        → Names count least y.creator name → IsSpilled spilled depth p → p.name ≢ name
     apart k y name depth p at names entry same = elim (cases_eq k child) [
       | inl here ↦
           let mine : Names count least (Live id (length task.spawns)) name = subst (λ c. Names count least c name) (ap (λ z. z.creator) (is_made k y at here)) names in
@@ -220,37 +249,42 @@ module _ (old new : ℕ → Option BagTask) (id child : ℕ) (task : BagTask) (s
     grown_family : (y : BagTask) → y ≡ grown → IsFamily new (IsSpilled spilled) count least id y
     grown_family y eq =
         record {
-          each = λ index s at. elim (get_cases task.spawns spawn index s (ap (λ z. slice_get z index) (sym (ap (λ z. z.spawns) eq)) ∙ at)) [
-            | inl was ↦ (let e = family.each index s was in (e.0, subst (λ d. IsChildDepth d s.place e.0) (sym (ap (λ z. z.depth) eq)) e.1, carry_child old new (IsSpilled spilled) count Any on least id (λ j x i there of. tt) index e.0 (spawn_body s) s.ts e.2))
-            | inr last ↦ (
-              deep,
-              subst (λ d. IsChildDepth d s.place deep) (sym (ap (λ z. z.depth) eq)) (subst (λ z. IsChildDepth task.depth z.place deep) last.1 is.place),
-              inl (record {
-                id = child;
-                task = made_by id task spawn deep;
-                there = is.made;
-                creator_is = ap (Live id) (sym last.0);
-                depth_is = refl;
-                has_body = ap spawn_body last.1;
-                has_ts = ap (λ z. z.ts) last.1;
-              }),
-            )
-          ];
+          each =
+              λ index s at. elim (get_cases task.spawns spawn index s (ap (λ z. slice_get z index) (sym (ap (λ z. z.spawns) eq)) ∙ at)) [
+                | inl was ↦ (let e = family.each index s was in (e.0, subst (λ d. IsChildDepth d s.place e.0) (sym (ap (λ z. z.depth) eq)) e.1, carry_child old new (IsSpilled spilled) count Any on least id (λ j x i there of. tt) index e.0 (spawn_body s) s.ts e.2))
+                | inr last ↦ (
+                  deep,
+                  subst (λ d. IsChildDepth d s.place deep) (sym (ap (λ z. z.depth) eq)) (subst (λ z. IsChildDepth task.depth z.place deep) last.1 is.place),
+                  inl (record {
+                    id = child;
+                    task = made_by id task spawn deep;
+                    there = is.made;
+                    creator_is = ap (Live id) (sym last.0);
+                    depth_is = refl;
+                    has_body = ap spawn_body last.1;
+                    has_ts = ap (λ z. z.ts) last.1;
+                  }),
+                )
+              ];
           only = λ index depth body ts kid. by_kid index depth body ts kid;
         }
       where
-        from_old : (index depth : ℕ) (body : Body) (ts : ℕ) → IsChild old (IsSpilled spilled) count least id index depth body ts → Matched y index depth body ts
+        from_old : (index depth : ℕ) (body : Body) (ts : ℕ)
+            → IsChild old (IsSpilled spilled) count least id index depth body ts → Matched y index depth body ts
         from_old index depth body ts kid =
             let m = family.only index depth body ts kid in
             record {
               spawn = m.spawn;
-              spawn_is = ap (λ z. slice_get z index) (ap (λ z. z.spawns) eq) ∙ get_front task.spawns (spawn ∷ []) index m.spawn m.spawn_is;
+              spawn_is =
+                  ap (λ z. slice_get z index) (ap (λ z. z.spawns) eq)
+                  ∙ get_front task.spawns (spawn ∷ []) index m.spawn m.spawn_is;
               place = subst (λ d. IsChildDepth d m.spawn.place depth) (sym (ap (λ z. z.depth) eq)) m.place;
               same_body = m.same_body;
               same_ts = m.same_ts;
             }
 
-        by_kid : (index depth : ℕ) (body : Body) (ts : ℕ) → IsChild new (IsSpilled spilled) count least id index depth body ts → Matched y index depth body ts
+        by_kid : (index depth : ℕ) (body : Body) (ts : ℕ)
+            → IsChild new (IsSpilled spilled) count least id index depth body ts → Matched y index depth body ts
         by_kid index depth body ts (inr s) = from_old index depth body ts (inr s)
         by_kid index depth body ts (inl q) = elim (cases_eq q.id child) [
           | inl here ↦
@@ -260,8 +294,11 @@ module _ (old new : ℕ → Option BagTask) (id child : ℕ) (task : BagTask) (s
               let deep_is : deep ≡ depth = sym (ap (λ z. z.depth) made) ∙ q.depth_is in
               record {
                 spawn = spawn;
-                spawn_is = ap (λ z. slice_get z index) (ap (λ z. z.spawns) eq) ∙ ap (slice_get (task.spawns ++ spawn ∷ [])) (sym index_is) ∙ get_end task.spawns spawn;
-                place = subst (λ d. IsChildDepth d spawn.place depth) (sym (ap (λ z. z.depth) eq)) (subst (IsChildDepth task.depth spawn.place) deep_is is.place);
+                spawn_is =
+                    ap (λ z. slice_get z index) (ap (λ z. z.spawns) eq)
+                    ∙ ap (slice_get (task.spawns ++ spawn ∷ [])) (sym index_is) ∙ get_end task.spawns spawn;
+                place =
+                    subst (λ d. IsChildDepth d spawn.place depth) (sym (ap (λ z. z.depth) eq)) (subst (IsChildDepth task.depth spawn.place) deep_is is.place);
                 same_body = sym q.has_body ∙ ap (λ z. z.body) made;
                 same_ts = sym q.has_ts ∙ ap (λ z. z.ts) made;
               }
@@ -271,7 +308,8 @@ module _ (old new : ℕ → Option BagTask) (id child : ℕ) (task : BagTask) (s
     enqueue_sound : AreSound count least runs new spilled
     enqueue_sound =
         record {
-          counted = λ k y turn index at made. (let w = off k y at (old_if_free k y turn index at made) in sound.counted k w.0 turn index w.1 (sym w.2.creator ∙ made));
+          counted =
+              λ k y turn index at made. (let w = off k y at (old_if_free k y turn index at made) in sound.counted k w.0 turn index w.1 (sym w.2.creator ∙ made));
           distinct = distinct;
           apart = apart;
           differ = sound.differ;
@@ -317,7 +355,8 @@ module _ (count : ℕ) (old new : ℕ → Option BagTask) (spilled : List Spille
   other_child : (creator k : ℕ) (y : BagTask) (i : ℕ) → new k ≡ Some y → y.creator ≡ Live creator i → k ≢ id
   other_child creator k y i at made here = absurd (cc (ap (λ z. z.creator) (is_placed k y at here), made, is.creator))
 
-  free_now : (depth : ℕ) (p : PendingTask) → IsFree new (IsSpilled spilled) count depth p → IsFree old (IsSpilled spilled) count depth p ⊎ ((depth ≡ task.depth) × (p ≡ pending turn index task.body task.ts))
+  free_now : (depth : ℕ) (p : PendingTask) → IsFree new (IsSpilled spilled) count depth p
+      → IsFree old (IsSpilled spilled) count depth p ⊎ ((depth ≡ task.depth) × (p ≡ pending turn index task.body task.ts))
   free_now depth p (inr s) = inl (inr s)
   free_now depth p (inl q) = elim (cases_eq q.id id) [
     | inl here ↦
@@ -327,21 +366,28 @@ module _ (count : ℕ) (old new : ℕ → Option BagTask) (spilled : List Spille
         let indexes : q.index ≡ index = cc in
         inr (
           sym q.depth_is ∙ ap (λ z. z.depth) eq,
-          q.pending_is ∙ ap (λ t. pending q.turn q.index t.body t.ts) eq ∙ ap (λ t. pending t q.index task.body task.ts) turns ∙ ap (λ i. pending turn i task.body task.ts) indexes,
+          q.pending_is ∙ ap (λ t. pending q.turn q.index t.body t.ts) eq
+              ∙ ap (λ t. pending t q.index task.body task.ts) turns ∙ ap (λ i. pending turn i task.body task.ts) indexes,
         )
     | inr other ↦ inl (inl (record { id = q.id; task = q.task; there = sym (is.others q.id other) ∙ q.there; turn = q.turn; index = q.index; creator = q.creator; depth_is = q.depth_is; pending_is = q.pending_is }))
   ]
 
-  now_free : (depth : ℕ) (p : PendingTask) → IsFree old (IsSpilled spilled) count depth p ⊎ ((depth ≡ task.depth) × (p ≡ pending turn index task.body task.ts)) → IsFree new (IsSpilled spilled) count depth p
-  now_free depth p (inl was) = carry_free old new (IsSpilled spilled) count Any in_new (λ k x t i there of. tt) depth p was
-  now_free depth p (inr placed) = inl (record { id = id; task = task; there = is.new_is; turn = turn; index = index; creator = is.creator; depth_is = sym placed.0; pending_is = placed.1 })
+  now_free : (depth : ℕ) (p : PendingTask)
+      → IsFree old (IsSpilled spilled) count depth p ⊎ ((depth ≡ task.depth) × (p ≡ pending turn index task.body task.ts))
+      → IsFree new (IsSpilled spilled) count depth p
+  now_free depth p (inl was) =
+      carry_free old new (IsSpilled spilled) count Any in_new (λ k x t i there of. tt) depth p was
+  now_free depth p (inr placed) =
+      inl (record { id = id; task = task; there = is.new_is; turn = turn; index = index; creator = is.creator; depth_is = sym placed.0; pending_is = placed.1 })
 
-  placed_apart : (least : ℕ) (x : BagTask) (name : Name) (depth : ℕ) (p : PendingTask) → x.creator ≡ Committed turn index → Names count least x.creator name → IsSpilled spilled depth p → p.name ≢ name
+  placed_apart : (least : ℕ) (x : BagTask) (name : Name) (depth : ℕ) (p : PendingTask)
+      → x.creator ≡ Committed turn index → Names count least x.creator name → IsSpilled spilled depth p → p.name ≢ name
   placed_apart least x name depth p made names entry same =
       let mine : Names count least (Committed turn index) name = subst (λ c. Names count least c name) made names in
       is.fresh (record { depth = depth; task = p }) entry (same ∙ mine.0)
 
-  place_sound : (least : ℕ) (runs : Bool) → AreSound count least runs old spilled → AreSound count least runs new spilled
+  place_sound : (least : ℕ) (runs : Bool) → AreSound count least runs old spilled
+      → AreSound count least runs new spilled
   place_sound least runs sound =
       record {
         counted = λ k y t i at made. elim (cases_eq k id) [
@@ -405,8 +451,10 @@ idle_least count least other runs tasks spilled sound =
       families = λ k x at runs'. (
           let fam = sound.families k x at runs' in
           record {
-            each = λ index spawn there. (let e = fam.each index spawn there in (e.0, e.1, queued least other k index e.0 (spawn_body spawn) spawn.ts e.2));
-            only = λ index depth body ts kid. fam.only index depth body ts (queued other least k index depth body ts kid);
+            each =
+                λ index spawn there. (let e = fam.each index spawn there in (e.0, e.1, queued least other k index e.0 (spawn_body spawn) spawn.ts e.2));
+            only =
+                λ index depth body ts kid. fam.only index depth body ts (queued other least k index depth body ts kid);
           }
           );
     }
@@ -414,7 +462,9 @@ idle_least count least other runs tasks spilled sound =
     low : (depth : ℕ) (p : PendingTask) → IsSpilled spilled depth p → p.name.creator ≤ count
     low depth p entry = elim (sound.firm depth p entry) [ inl is ↦ is | inr mine ↦ absurd (cc (mine.1)) ]
 
-    named_apart : (k : ℕ) (x : BagTask) → tasks k ≡ Some x → (c : BagCreator) → x.creator ≡ c → (name : Name) (depth : ℕ) (p : PendingTask) → Names count other x.creator name → IsSpilled spilled depth p → p.name ≢ name
+    named_apart : (k : ℕ) (x : BagTask) → tasks k ≡ Some x → (c : BagCreator) → x.creator ≡ c
+        → (name : Name) (depth : ℕ) (p : PendingTask) → Names count other x.creator name → IsSpilled spilled depth p
+        → p.name ≢ name
     named_apart k x at (Committed turn index) made name depth p names entry same =
         let mine : Names count other (Committed turn index) name = subst (λ c. Names count other c name) made names in
         sound.apart k x name depth p at (subst (λ c. Names count least c name) (sym made) mine) entry same
@@ -425,6 +475,10 @@ idle_least count least other runs tasks spilled sound =
         omega (arith, high, below)
 
     -- a child is queued
-    queued : (one two creator index depth : ℕ) (body : Body) (ts : ℕ) → IsChild tasks (IsSpilled spilled) count one creator index depth body ts → IsChild tasks (IsSpilled spilled) count two creator index depth body ts
+    queued : (one two creator index depth : ℕ) (body : Body) (ts : ℕ)
+        → IsChild tasks (IsSpilled spilled) count one creator index depth body ts
+        → IsChild tasks (IsSpilled spilled) count two creator index depth body ts
     queued one two creator index depth body ts (inl q) = inl q
-    queued one two creator index depth body ts (inr s) = let below : count + 1 ≤ count = low depth (pending (count + 1) index body ts) s.1 in absurd (omega (arith, below))
+    queued one two creator index depth body ts (inr s) =
+        let below : count + 1 ≤ count = low depth (pending (count + 1) index body ts) s.1 in
+        absurd (omega (arith, below))

@@ -1,5 +1,6 @@
 -- A logged run whose log replays on a memory is the run on that memory.
-use Rattle.std.proofs.Common.{◌≡◌, ℕ, ◌+◌, ◌-◌, ◌≤◌, ◌<◌, ◌≢◌, List, [], ◌∷◌, ◌++◌, length, refl, sym, ap, subst, ◌∙◌, inl, inr, arith}
+use Rattle.std.proofs.Common.{◌≡◌, ℕ, ◌+◌, ◌-◌, ◌≤◌, ◌<◌, ◌≢◌, List, [], ◌∷◌, ◌++◌, length, refl, sym, ap, subst, ◌∙◌}
+use Rattle.std.proofs.Common.{inl, inr, arith}
 use Rattle.std.proofs.lemmas.Bool.{cases_lt}
 use Rattle.guest_image.specs.ImageValue.{ImageValue}
 use Rattle.rv_core.specs.declared.state.Stop.{Stop}
@@ -17,20 +18,25 @@ use Rattle.task_request.specs.Conditions.{IsCall}
 use Rattle.task_request.specs.Effects.{after_request, task_at_next}
 use Rattle.task_request.specs.TaskState.{TaskState}
 use Rattle.task_request.proofs.Proved.{after_request-used, HasUsed}
-use Rattle.serial_machine.specs.TaskRun.{task_end_after, after_instructions, task_at_start, task_run, after_stop, Continuation, Continues, Ends, Traps, TaskEnd, Done, Trapped}
+use Rattle.serial_machine.specs.TaskRun.{task_end_after, after_instructions, task_at_start, task_run, after_stop}
+use Rattle.serial_machine.specs.TaskRun.{Continuation, Continues, Ends, Traps, TaskEnd, Done, Trapped}
 use Rattle.serial_machine.specs.Turn.{context_in_bag}
 use Rattle.serial_machine.proofs.Proved.{spent_traps, after_instructions-task_at_start, after_instructions-one_plain}
 use Rattle.serial_machine.proofs.Proved.{after_instructions-stop, turn-done}
 use Rattle.memory_law.specs.Accesses.{written_if, after_access, after_accesses, Replays}
 use Rattle.memory_law.proofs.Proved.{length-after_accesses, after_accesses-append, Replays-back, Replays-front}
-use Rattle.task_law.specs.Logged.{CoreAsks, LoggedRun, none, plain, call, load, store, FinishesWithLog, TrapsWithLog, LoggedRunIsTurn, LoggedTrapIsSerial}
+use Rattle.task_law.specs.Logged.{CoreAsks, LoggedRun, none, plain, call, load, store, FinishesWithLog, TrapsWithLog}
+use Rattle.task_law.specs.Logged.{LoggedRunIsTurn, LoggedTrapIsSerial}
 
 -- a log's last access
-after_accesses-more : (memory : List ℕ) (log : List Access) (access : Access) → after_accesses memory (log ++ access ∷ []) ≡ after_access (after_accesses memory log) access
+after_accesses-more : (memory : List ℕ) (log : List Access) (access : Access)
+    → after_accesses memory (log ++ access ∷ []) ≡ after_access (after_accesses memory log) access
 after_accesses-more memory log access = after_accesses-append memory log (access ∷ [])
 
-Replays-more : (memory : List ℕ) (log : List Access) (access : Access) → Replays memory (log ++ access ∷ []) → Replays memory log × (number_at (after_accesses memory log) access.offset access.width ≡ access.old)
-Replays-more memory log access chain = (Replays-front memory log (access ∷ []) chain, sym (Replays-back memory log (access ∷ []) chain).0.old_is)
+Replays-more : (memory : List ℕ) (log : List Access) (access : Access) → Replays memory (log ++ access ∷ [])
+    → Replays memory log × (number_at (after_accesses memory log) access.offset access.width ≡ access.old)
+Replays-more memory log access chain =
+    (Replays-front memory log (access ∷ []) chain, sym (Replays-back memory log (access ∷ []) chain).0.old_is)
 
 -- a task on another memory, and what a request leads to, on that memory
 abbrev pub on_memory : List ℕ → TaskState → TaskState
@@ -62,7 +68,8 @@ module _ (image : ImageValue) (budget : ℕ) (ctx : Ctx) (memory : List ℕ) whe
   left t = after_instructions image budget ctx (budget - t.core.used) t
 
   -- what stands next for the memory's size stands next on that memory after a log
-  sized : (log : List Access) (task : TaskState) → next_at image (length (after_accesses memory log)) budget task.core ≡ next_at image (length memory) budget task.core
+  sized : (log : List Access) (task : TaskState)
+      → next_at image (length (after_accesses memory log)) budget task.core ≡ next_at image (length memory) budget task.core
   sized log task = ap (λ n. next_at image n budget task.core) (length-after_accesses memory log)
 
   record Runs (start : TaskState) (log : List Access) (task : TaskState) : Type 0 where
@@ -70,16 +77,19 @@ module _ (image : ImageValue) (budget : ℕ) (ctx : Ctx) (memory : List ℕ) whe
     pub same : left (on_memory memory start) ≡ left (on_memory (after_accesses memory log) task)
 
   -- where a stop goes on, the budget isn't used up
-  budget_left : (t : TaskState) (s : Stop) (new : TaskState) → next_at image (length t.memory) budget t.core ≡ Stops s → after_stop ctx t s ≡ Continues new → t.core.used < budget
+  budget_left : (t : TaskState) (s : Stop) (new : TaskState) → next_at image (length t.memory) budget t.core ≡ Stops s
+      → after_stop ctx t s ≡ Continues new → t.core.used < budget
   budget_left t s new at goes = elim (cases_lt t.core.used budget) [
     | inl lt ↦ lt
     | inr ge ↦ (let traps : Traps 17 t.core.pc ≡ Continues new = sym (ap (after_stop ctx t) (spent_traps image (length t.memory) budget t.core s at ge)) ∙ goes in absurd (cc (traps)))
   ]
 
   -- one more request that goes on
-  ask_on : (start : TaskState) (log more : List Access) (task after : TaskState) (request : Request) → Runs start log task
+  ask_on : (start : TaskState) (log more : List Access) (task after : TaskState) (request : Request)
+      → Runs start log task
       → CoreAsks image budget (length memory) ctx task request
-      → after_request (on_memory (after_accesses memory log) task) request ≡ Continues (on_memory (after_accesses memory more) after) → after.core.used ≡ task.core.used + 1
+      → after_request (on_memory (after_accesses memory log) task) request ≡ Continues (on_memory (after_accesses memory more) after)
+      → after.core.used ≡ task.core.used + 1
       → Runs start more after
   ask_on start log more task after request before asks goes counts =
       let t : TaskState = on_memory (after_accesses memory log) task in
@@ -94,7 +104,9 @@ module _ (image : ImageValue) (budget : ℕ) (ctx : Ctx) (memory : List ℕ) whe
             ∙ ap (λ n. after_instructions image budget ctx (budget - n) new) (sym counts);
       }
 
-  runs_so : (start : TaskState) {log : List Access} {task : TaskState} → LoggedRun image budget (length memory) ctx start log task → start.core.used ≤ budget → Replays memory log → Runs start log task
+  runs_so : (start : TaskState) {log : List Access} {task : TaskState}
+      → LoggedRun image budget (length memory) ctx start log task → start.core.used ≤ budget → Replays memory log
+      → Runs start log task
   runs_so start none low chain = record { within = low; same = refl }
   runs_so start (plain {log} {task} core run at) low chain =
       let before = runs_so start run low chain in
@@ -102,7 +114,10 @@ module _ (image : ImageValue) (budget : ℕ) (ctx : Ctx) (memory : List ℕ) whe
       let step : next_at image (length t.memory) budget t.core ≡ Goes core = sized log task ∙ at in
       let left_over = PlainInstruction-within image (length t.memory) budget t.core core step in
       let counts = PlainInstruction-counted image (length t.memory) budget t.core core step in
-      record { within = omega (arith, left_over, counts); same = before.same ∙ after_instructions-one_plain image budget ctx t core step }
+      record {
+        within = omega (arith, left_over, counts);
+        same = before.same ∙ after_instructions-one_plain image budget ctx t core step;
+      }
   runs_so start (call {log} {task} request after run asks is_call goes) low chain =
       ask_on start log log task after request (runs_so start run low chain) asks
       (call-on (after_accesses memory log) task request is_call ∙ ap (stepped_on (after_accesses memory log)) goes)
@@ -127,8 +142,10 @@ module _ (image : ImageValue) (budget : ℕ) (ctx : Ctx) (memory : List ℕ) whe
 
   -- a request that ends the run on this memory
   last_ask : (task : PendingTask) (log : List Access) (before : TaskState) (request : Request) (x : Continuation)
-      → LoggedRun image budget (length memory) ctx (task_at_start image.version task.entry ctx.ts task.args []) log before → Replays memory log
-      → CoreAsks image budget (length memory) ctx before request → after_request (on_memory (after_accesses memory log) before) request ≡ x
+      → LoggedRun image budget (length memory) ctx (task_at_start image.version task.entry ctx.ts task.args []) log before
+      → Replays memory log
+      → CoreAsks image budget (length memory) ctx before request
+      → after_request (on_memory (after_accesses memory log) before) request ≡ x
       → task_run image budget ctx task.entry task.args memory ≡ task_end_after (after_instructions image budget ctx (budget - (before.core.used + 1))) x
   last_ask task log before request x run chain asks leads =
       let start : TaskState = task_at_start image.version task.entry ctx.ts task.args [] in
@@ -142,14 +159,16 @@ module _ (image : ImageValue) (budget : ℕ) (ctx : Ctx) (memory : List ℕ) whe
       (ap (after_request t) asks.asks ∙ leads)
 
   -- a logged run that came to its end call
-  pub finished : (task : PendingTask) (log : List Access) (after : TaskState) → FinishesWithLog image budget (length memory) ctx task log after → Replays memory log
+  pub finished : (task : PendingTask) (log : List Access) (after : TaskState)
+      → FinishesWithLog image budget (length memory) ctx task log after → Replays memory log
       → task_run image budget ctx task.entry task.args memory ≡ Done (on_memory (after_accesses memory log) after)
   finished task log after is chain =
       last_ask task log is.before ask.End (Ends (on_memory (after_accesses memory log) after)) is.run chain is.ends
       (ap (λ t. Ends (on_memory (after_accesses memory log) t)) (sym is.leaves))
 
   -- a logged run that came to a trap
-  pub trapped : (task : PendingTask) (log : List Access) (cause pc : ℕ) → TrapsWithLog image budget (length memory) ctx task log cause pc → Replays memory log
+  pub trapped : (task : PendingTask) (log : List Access) (cause pc : ℕ)
+      → TrapsWithLog image budget (length memory) ctx task log cause pc → Replays memory log
       → task_run image budget ctx task.entry task.args memory ≡ Trapped cause pc
   trapped task log cause pc is chain =
       last_ask task log is.before (ask.Trap cause) (Traps cause pc) is.run chain is.traps (ap (Traps cause) (sym is.at))
@@ -161,4 +180,10 @@ logged_run_is_turn image budget depth s task log after next is chain =
 
 pub logged_trap_is_serial : LoggedTrapIsSerial
 logged_trap_is_serial image budget depth s task log cause pc next is chain =
-    record { bag = next.bag; outer = next.outer; task = task; may = next.may; run = trapped image budget (context_in_bag image.version next.bag next.outer task) s.memory task log cause pc is chain }
+    record {
+      bag = next.bag;
+      outer = next.outer;
+      task = task;
+      may = next.may;
+      run = trapped image budget (context_in_bag image.version next.bag next.outer task) s.memory task log cause pc is chain;
+    }

@@ -1,5 +1,6 @@
 -- What is aborted for a victim may be aborted, and then the queue is shorter or an idle firm task is in it.
-use Rattle.std.proofs.Common.{◌≡◌, ◌≢◌, ℕ, suc, ◌<◌, ◌≤◌, Bool, true, false, List, [], ◌∷◌, length, Option, Some, None, is_some, refl, sym, ap, subst, ◌∙◌, inl, inr, arith}
+use Rattle.std.proofs.Common.{◌≡◌, ◌≢◌, ℕ, suc, ◌<◌, ◌≤◌, Bool, true, false, List, [], ◌∷◌, length, Option, Some, None}
+use Rattle.std.proofs.Common.{is_some, refl, sym, ap, subst, ◌∙◌, inl, inr, arith}
 use Rattle.task_law.specs.Tasks.{In}
 use Rattle.task_law.specs.Room.{RoomTask, MayAbort, VictimIsLegal, kept_by, queue_after, VictimMakesRoom}
 
@@ -7,25 +8,30 @@ pub shorter_or_same : (new : ℕ → Option RoomTask) (queue : List ℕ) → len
 shorter_or_same new [] = omega arith
 shorter_or_same new (k ∷ ks) = by_kept (is_some (new k)) (shorter_or_same new ks)
   where
-    by_kept : (b : Bool) → length (queue_after new ks) ≤ length ks → length (kept_by b k (queue_after new ks)) ≤ suc (length ks)
+    by_kept : (b : Bool) → length (queue_after new ks) ≤ length ks
+        → length (kept_by b k (queue_after new ks)) ≤ suc (length ks)
     by_kept true less = omega (arith, less)
     by_kept false less = omega (arith, less)
 
 -- a queue with an id that has gone gets shorter
-pub shorter : (new : ℕ → Option RoomTask) (v : ℕ) (queue : List ℕ) → new v ≡ None → In v queue → length (queue_after new queue) < length queue
+pub shorter : (new : ℕ → Option RoomTask) (v : ℕ) (queue : List ℕ) → new v ≡ None → In v queue
+    → length (queue_after new queue) < length queue
 shorter new v [] gone no_way = absurd no_way
 shorter new v (k ∷ ks) gone (inl here) =
     subst (λ b. length (kept_by b k (queue_after new ks)) < suc (length ks)) (sym (ap is_some (ap new (sym here) ∙ gone))) (let less = shorter_or_same new ks in omega (arith, less))
 shorter new v (k ∷ ks) gone (inr there) = by_kept (is_some (new k)) (shorter new v ks gone there)
   where
-    by_kept : (b : Bool) → length (queue_after new ks) < length ks → length (kept_by b k (queue_after new ks)) < suc (length ks)
+    by_kept : (b : Bool) → length (queue_after new ks) < length ks
+        → length (kept_by b k (queue_after new ks)) < suc (length ks)
     by_kept true less = omega (arith, less)
     by_kept false less = omega (arith, less)
 
 -- an id that is still there stays in the queue
-pub still_in : (new : ℕ → Option RoomTask) (v : ℕ) (x : RoomTask) (queue : List ℕ) → new v ≡ Some x → In v queue → In v (queue_after new queue)
+pub still_in : (new : ℕ → Option RoomTask) (v : ℕ) (x : RoomTask) (queue : List ℕ) → new v ≡ Some x → In v queue
+    → In v (queue_after new queue)
 still_in new v x [] at no_way = no_way
-still_in new v x (k ∷ ks) at (inl here) = subst (λ b. In v (kept_by b k (queue_after new ks))) (sym (ap is_some (ap new (sym here) ∙ at))) (inl here)
+still_in new v x (k ∷ ks) at (inl here) =
+    subst (λ b. In v (kept_by b k (queue_after new ks))) (sym (ap is_some (ap new (sym here) ∙ at))) (inl here)
 still_in new v x (k ∷ ks) at (inr there) = by_kept (is_some (new k)) (still_in new v x ks at there)
   where
     by_kept : (b : Bool) → In v (queue_after new ks) → In v (kept_by b k (queue_after new ks))
@@ -33,7 +39,8 @@ still_in new v x (k ∷ ks) at (inr there) = by_kept (is_some (new k)) (still_in
     by_kept false is = is
 
 pub victims_are_legal : VictimIsLegal
-victims_are_legal tasks heir queue asker low v first task run asks none_moves victim (inl firm) = by_dispatched task.dispatched refl
+victims_are_legal tasks heir queue asker low v first task run asks none_moves victim (inl firm) =
+    by_dispatched task.dispatched refl
   where
     by_dispatched : (b : Bool) → task.dispatched ≡ b → MayAbort tasks asker low first
     by_dispatched false idle = absurd (none_moves v (victim.queued, task, victim.there, idle, firm.0))

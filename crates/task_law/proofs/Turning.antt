@@ -1,5 +1,6 @@
 -- The least task may take the next turn, and its commit is that turn.
-use Rattle.std.proofs.Common.{◌≡◌, ℕ, suc, ◌+◌, ◌≤◌, ◌==◌, nat_le, Bool, true, false, List, [], ◌∷◌, length, Some, refl, sym, ap, subst, inl, inr, arith, if◌then◌else◌}
+use Rattle.std.proofs.Common.{◌≡◌, ℕ, suc, ◌+◌, ◌≤◌, ◌==◌, nat_le, Bool, true, false, List, [], ◌∷◌, length, Some, refl}
+use Rattle.std.proofs.Common.{sym, ap, subst, inl, inr, arith, if◌then◌else◌}
 use Rattle.std.proofs.lemmas.Bool.{false_from_ne_true, and_from}
 use Rattle.std.proofs.lemmas.Bool.Decides.{nat_tests}
 use Rattle.task_desc.specs.declared.desc.Name.{Name}
@@ -14,7 +15,8 @@ use Rattle.task_law.proofs.Bags.{Stands-inner, inner-Stands, shallow, Freed, aft
 use Rattle.task_law.proofs.Freed.{named_same, same_named, free_same, free_after, after_free}
 
 -- where each task is at or above a timestamp, none has a smaller one
-least_from : (ts : ℕ) (tasks : List PendingTask) → ((p : PendingTask) → In p tasks → ts ≤ p.ts) → is_least ts tasks ≡ true
+least_from : (ts : ℕ) (tasks : List PendingTask) → ((p : PendingTask) → In p tasks → ts ≤ p.ts)
+    → is_least ts tasks ≡ true
 least_from ts [] low = refl
 least_from ts (t ∷ tasks) low =
     let first = low t (inl refl) in
@@ -22,17 +24,22 @@ least_from ts (t ∷ tasks) low =
     and_from (nat_le ts t.ts) (is_least ts tasks) here (least_from ts tasks (λ p at. low p (inr at)))
 
 -- the only task of a name is found
-found_from : (name : Name) (task : PendingTask) (tasks : List PendingTask) → In task tasks → is_named name task ≡ true → ((p : PendingTask) → In p tasks → is_named name p ≡ true → p ≡ task) → find_named name tasks ≡ Some task
+found_from : (name : Name) (task : PendingTask) (tasks : List PendingTask) → In task tasks → is_named name task ≡ true
+    → ((p : PendingTask) → In p tasks → is_named name p ≡ true → p ≡ task) → find_named name tasks ≡ Some task
 found_from name task [] at named only = absurd at
-found_from name task (t ∷ tasks) at named only = by_test (is_named name t) refl at (λ later. found_from name task tasks later named (λ p at'. only p (inr at')))
+found_from name task (t ∷ tasks) at named only =
+    by_test (is_named name t) refl at (λ later. found_from name task tasks later named (λ p at'. only p (inr at')))
   where
-    by_test : (b : Bool) → is_named name t ≡ b → In task (t ∷ tasks) → (In task tasks → find_named name tasks ≡ Some task) → (if b then Some t else find_named name tasks) ≡ Some task
+    by_test : (b : Bool) → is_named name t ≡ b → In task (t ∷ tasks)
+        → (In task tasks → find_named name tasks ≡ Some task)
+        → (if b then Some t else find_named name tasks) ≡ Some task
     by_test true e at' go = ap Some (only t (inl refl) e)
     by_test false e (inl here) go = absurd (cc (e, ap (is_named name) here, named))
     by_test false e (inr later) go = go later
 
 -- the first bag of what is left of a stack holds a task
-pub head_has : (stack : List BagValue) (bag : BagValue) (outer : List BagValue) → inner stack ≡ bag ∷ outer → (p : PendingTask) × In p bag.tasks
+pub head_has : (stack : List BagValue) (bag : BagValue) (outer : List BagValue) → inner stack ≡ bag ∷ outer
+    → (p : PendingTask) × In p bag.tasks
 head_has [] bag outer e = absurd (cc)
 head_has (b ∷ bs) bag outer e = by_test (length b.tasks == 0) refl (head_has bs bag outer) e
   where
@@ -40,7 +47,8 @@ head_has (b ∷ bs) bag outer e = by_test (length b.tasks == 0) refl (head_has b
     some_in [] none = absurd (cc)
     some_in (p ∷ tasks) none = (p, inl refl)
 
-    by_test : (t : Bool) → (length b.tasks == 0) ≡ t → (inner bs ≡ bag ∷ outer → (p : PendingTask) × In p bag.tasks) → (if t then inner bs else b ∷ bs) ≡ bag ∷ outer → (p : PendingTask) × In p bag.tasks
+    by_test : (t : Bool) → (length b.tasks == 0) ≡ t → (inner bs ≡ bag ∷ outer → (p : PendingTask) × In p bag.tasks)
+        → (if t then inner bs else b ∷ bs) ≡ bag ∷ outer → (p : PendingTask) × In p bag.tasks
     by_test true test go e' = go e'
     by_test false test go e' =
         let same : b ≡ bag = cc in
@@ -48,13 +56,15 @@ head_has (b ∷ bs) bag outer e = by_test (length b.tasks == 0) refl (head_has b
         (one.0, subst (In one.0) (ap (λ x. x.tasks) same) one.1)
 
 pub least_has_turn : LeastHasTurn
-least_has_turn count least id turn index runs tasks spilled stack task sound matches is_stack is_least' = by_stack (inner stack) refl
+least_has_turn count least id turn index runs tasks spilled stack task sound matches is_stack is_least' =
+    by_stack (inner stack) refl
   where
     p : PendingTask
     p = pending turn index task.body task.ts
 
     free : IsFree tasks (IsSpilled spilled) count task.depth p
-    free = inl (record { id = id; task = task; there = is_least'.there; turn = turn; index = index; creator = is_least'.creator; depth_is = refl; pending_is = refl })
+    free =
+        inl (record { id = id; task = task; there = is_least'.there; turn = turn; index = index; creator = is_least'.creator; depth_is = refl; pending_is = refl })
 
     stands : Stands (inner stack) task.depth p
     stands = Stands-inner stack task.depth p ((matches task.depth p).0 free)
@@ -62,7 +72,8 @@ least_has_turn count least id turn index runs tasks spilled stack task sound mat
     is_free : (d : ℕ) (q : PendingTask) → Stands (inner stack) d q → IsFree tasks (IsSpilled spilled) count d q
     is_free d q at = (matches d q).1 (inner-Stands stack d q at)
 
-    by_bag : (bag : BagValue) (outer : List BagValue) → inner stack ≡ bag ∷ outer → IsStack (bag ∷ outer) → (q : PendingTask) × In q bag.tasks → Stands (bag ∷ outer) task.depth p → HasTurn stack task.depth p
+    by_bag : (bag : BagValue) (outer : List BagValue) → inner stack ≡ bag ∷ outer → IsStack (bag ∷ outer)
+        → (q : PendingTask) × In q bag.tasks → Stands (bag ∷ outer) task.depth p → HasTurn stack task.depth p
     by_bag bag outer top falls first at =
         let inside : (q : PendingTask) → In q bag.tasks → IsFree tasks (IsSpilled spilled) count bag.depth q = λ q in_bag. is_free bag.depth q (subst (λ s. Stands s bag.depth q) (sym top) (inl (refl, in_bag))) in
         let low : bag.depth ≤ task.depth = is_least'.deepest bag.depth first.0 (inside first.0 first.1) in
@@ -79,14 +90,16 @@ least_has_turn count least id turn index runs tasks spilled stack task sound mat
             top = top;
             found = found_from p.name p bag.tasks here (same_named p.name p refl)
                 (λ q at' named. (free_same count least runs tasks spilled sound id task turn index is_least'.there is_least'.creator bag.depth q (inside q at') (named_same p.name q named)).1);
-            least = least_from task.ts bag.tasks (λ q at'. is_least'.first q (subst (λ d. IsFree tasks (IsSpilled spilled) count d q) deep (inside q at')));
+            least =
+                least_from task.ts bag.tasks (λ q at'. is_least'.first q (subst (λ d. IsFree tasks (IsSpilled spilled) count d q) deep (inside q at')));
           };
           deep = deep;
         }
 
     by_stack : (s : List BagValue) → inner stack ≡ s → HasTurn stack task.depth p
     by_stack [] top = absurd (subst (λ s. Stands s task.depth p) top stands)
-    by_stack (bag ∷ outer) top = by_bag bag outer top (subst IsStack top (IsStack-inner stack is_stack)) (head_has stack bag outer top) (subst (λ s. Stands s task.depth p) top stands)
+    by_stack (bag ∷ outer) top =
+        by_bag bag outer top (subst IsStack top (IsStack-inner stack is_stack)) (head_has stack bag outer top) (subst (λ s. Stands s task.depth p) top stands)
 
 pub commit_is_turn : CommitIsTurn
 commit_is_turn count id turn index old new spilled stack task sub sound matches is_stack is have next depth p = (
@@ -119,10 +132,15 @@ commit_is_turn count id turn index old new spilled stack task sub sound matches 
     have' : HaveDomains bag.depth sub task.spawns
     have' = subst (λ d. HaveDomains d sub task.spawns) (sym next.deep) have
 
-    stood : Freed (IsFree old (IsSpilled spilled) count) (count + 1) task.depth self task.spawns depth p → Freed (Stands (bag ∷ outer)) (count + 1) bag.depth self task.spawns depth p
-    stood (inl was) = inl (subst (λ s. Stands s depth p) next.may.top (Stands-inner stack depth p ((matches depth p).0 was.0)), was.1)
-    stood (inr kid) = inr (subst (λ d. Rattle.task_law.proofs.Bags.IsNewChild (count + 1) d task.spawns depth p) (sym next.deep) kid)
+    stood : Freed (IsFree old (IsSpilled spilled) count) (count + 1) task.depth self task.spawns depth p
+        → Freed (Stands (bag ∷ outer)) (count + 1) bag.depth self task.spawns depth p
+    stood (inl was) =
+        inl (subst (λ s. Stands s depth p) next.may.top (Stands-inner stack depth p ((matches depth p).0 was.0)), was.1)
+    stood (inr kid) =
+        inr (subst (λ d. Rattle.task_law.proofs.Bags.IsNewChild (count + 1) d task.spawns depth p) (sym next.deep) kid)
 
-    freed : Freed (Stands (bag ∷ outer)) (count + 1) bag.depth self task.spawns depth p → Freed (IsFree old (IsSpilled spilled) count) (count + 1) task.depth self task.spawns depth p
+    freed : Freed (Stands (bag ∷ outer)) (count + 1) bag.depth self task.spawns depth p
+        → Freed (IsFree old (IsSpilled spilled) count) (count + 1) task.depth self task.spawns depth p
     freed (inl was) = inl (is_free depth p was.0, was.1)
-    freed (inr kid) = inr (subst (λ d. Rattle.task_law.proofs.Bags.IsNewChild (count + 1) d task.spawns depth p) next.deep kid)
+    freed (inr kid) =
+        inr (subst (λ d. Rattle.task_law.proofs.Bags.IsNewChild (count + 1) d task.spawns depth p) next.deep kid)

@@ -1,6 +1,7 @@
 -- A queue of two tasks or more has a victim, so at each queue of capacity two or more some rule applies; and a
 -- coalescing makes a queue in which something moves shorter.
-use Rattle.std.proofs.Common.{◌≡◌, ◌≢◌, ◌⊎◌, ℕ, ◌≤◌, Bool, true, false, List, [], ◌∷◌, length, Option, Some, None, refl, sym, ap, subst, ◌∙◌, inl, inr, arith}
+use Rattle.std.proofs.Common.{◌≡◌, ◌≢◌, ◌⊎◌, ℕ, ◌≤◌, Bool, true, false, List, [], ◌∷◌, length, Option, Some, None, refl}
+use Rattle.std.proofs.Common.{sym, ap, subst, ◌∙◌, inl, inr, arith}
 use Rattle.std.proofs.lemmas.Bool.{cases_lt}
 use Rattle.std.specs.Ordering.{is_gt, ordering_reverse}
 use Rattle.std.specs.declared.cmp.Ordering.{Ordering}
@@ -9,11 +10,14 @@ use Rattle.std.proofs.lemmas.Cmp.{upto, tied_itself}
 use Rattle.fractal_vt.specs.Levels.{levels_cmp}
 use Rattle.fractal_vt.proofs.Proved.{levels_cmp_total, not_greater, greater_not, cases_some}
 use Rattle.task_law.specs.Tasks.{In}
-use Rattle.task_law.specs.Room.{RoomTask, IsFirmInQueue, IsMovableInQueue, NoneMovesInQueue, IsVictimInQueue, IsFirst, Rule, Free, Coalesces, Stalls, Takes, IdsAreApart, SomeRuleApplies, IsChosenInQueue, CoalesceShortensQueue}
+use Rattle.task_law.specs.Room.{RoomTask, IsFirmInQueue, IsMovableInQueue, NoneMovesInQueue, IsVictimInQueue, IsFirst}
+use Rattle.task_law.specs.Room.{Rule, Free, Coalesces, Stalls, Takes, IdsAreApart, SomeRuleApplies, IsChosenInQueue}
+use Rattle.task_law.specs.Room.{CoalesceShortensQueue}
 use Rattle.task_law.proofs.Rooms.{shorter}
 
 -- of a queue of two ids or more one is not the asker's
-pub someone_else : (asker : Option ℕ) (queue : List ℕ) → IdsAreApart queue → 2 ≤ length queue → (v : ℕ) × In v queue × (asker ≢ Some v)
+pub someone_else : (asker : Option ℕ) (queue : List ℕ) → IdsAreApart queue → 2 ≤ length queue
+    → (v : ℕ) × In v queue × (asker ≢ Some v)
 someone_else asker [] distinct many = absurd (omega (arith, many))
 someone_else asker (k ∷ []) distinct many = absurd (omega (arith, many))
 someone_else asker (k ∷ j ∷ rest) distinct many = elim (cases_some asker k) [
@@ -28,7 +32,8 @@ module _ (tasks : ℕ → Option RoomTask) (asker : Option ℕ) where
   abbrev NoneIn : List ℕ → Type 0
   NoneIn queue = (k : ℕ) → In k queue → asker ≢ Some k → ⊥
 
-  first_found : (k : ℕ) (x : RoomTask) (rest : List ℕ) → tasks k ≡ Some x → asker ≢ Some k → NoneIn rest → Found (k ∷ rest)
+  first_found : (k : ℕ) (x : RoomTask) (rest : List ℕ) → tasks k ≡ Some x → asker ≢ Some k → NoneIn rest
+      → Found (k ∷ rest)
   first_found k x rest at other none = (
     k,
     x,
@@ -43,7 +48,8 @@ module _ (tasks : ℕ → Option RoomTask) (asker : Option ℕ) where
     },
   )
 
-  keeps_found : (k : ℕ) (x : RoomTask) (rest : List ℕ) → tasks k ≡ Some x → (f : Found rest) → levels_cmp x.levels f.1.levels ≢ Greater → Found (k ∷ rest)
+  keeps_found : (k : ℕ) (x : RoomTask) (rest : List ℕ) → tasks k ≡ Some x → (f : Found rest)
+      → levels_cmp x.levels f.1.levels ≢ Greater → Found (k ∷ rest)
   keeps_found k x rest at f upto' = (
     f.0,
     f.1,
@@ -58,7 +64,8 @@ module _ (tasks : ℕ → Option RoomTask) (asker : Option ℕ) where
     },
   )
 
-  new_found : (k : ℕ) (x : RoomTask) (rest : List ℕ) → tasks k ≡ Some x → asker ≢ Some k → (f : Found rest) → levels_cmp x.levels f.1.levels ≡ Greater → Found (k ∷ rest)
+  new_found : (k : ℕ) (x : RoomTask) (rest : List ℕ) → tasks k ≡ Some x → asker ≢ Some k → (f : Found rest)
+      → levels_cmp x.levels f.1.levels ≡ Greater → Found (k ∷ rest)
   new_found k x rest at other f above = (
     k,
     x,
@@ -79,11 +86,14 @@ module _ (tasks : ℕ → Option RoomTask) (asker : Option ℕ) where
   none_more k rest mine none j (inl here) other = other (mine ∙ ap Some (sym here))
   none_more k rest mine none j (inr there) other = none j there other
 
-  search_all : (queue : List ℕ) → ((k : ℕ) → In k queue → (x : RoomTask) × (tasks k ≡ Some x)) → NoneIn queue ⊎ Found queue
+  search_all : (queue : List ℕ) → ((k : ℕ) → In k queue → (x : RoomTask) × (tasks k ≡ Some x))
+      → NoneIn queue ⊎ Found queue
   search_all [] there = inl (λ k is other. is)
-  search_all (k ∷ rest) there = by_rest (search_all rest (λ j is. there j (inr is))) (there k (inl refl)) (cases_some asker k)
+  search_all (k ∷ rest) there =
+      by_rest (search_all rest (λ j is. there j (inr is))) (there k (inl refl)) (cases_some asker k)
     where
-      by_cmp : (x : RoomTask) → tasks k ≡ Some x → asker ≢ Some k → (f : Found rest) → (o : Ordering) → levels_cmp x.levels f.1.levels ≡ o → Found (k ∷ rest)
+      by_cmp : (x : RoomTask) → tasks k ≡ Some x → asker ≢ Some k → (f : Found rest) → (o : Ordering)
+          → levels_cmp x.levels f.1.levels ≡ o → Found (k ∷ rest)
       by_cmp x at other f Less is = keeps_found k x rest at f (λ e. absurd (cc (is, e)))
       by_cmp x at other f Equal is = keeps_found k x rest at f (λ e. absurd (cc (is, e)))
       by_cmp x at other f Greater is = new_found k x rest at other f is
@@ -96,23 +106,27 @@ module _ (tasks : ℕ → Option RoomTask) (asker : Option ℕ) where
           there = f.2.there;
           queued = inr f.2.queued;
           other = f.2.other;
-          latest = λ j y is other' at'. elim is [ inl here ↦ absurd (other' (mine ∙ ap Some (sym here))) | inr later ↦ f.2.latest j y later other' at' ];
+          latest =
+              λ j y is other' at'. elim is [ inl here ↦ absurd (other' (mine ∙ ap Some (sym here))) | inr later ↦ f.2.latest j y later other' at' ];
         },
       )
 
-      by_rest : NoneIn rest ⊎ Found rest → (x : RoomTask) × (tasks k ≡ Some x) → (asker ≡ Some k) ⊎ (asker ≢ Some k) → NoneIn (k ∷ rest) ⊎ Found (k ∷ rest)
+      by_rest : NoneIn rest ⊎ Found rest → (x : RoomTask) × (tasks k ≡ Some x) → (asker ≡ Some k) ⊎ (asker ≢ Some k)
+          → NoneIn (k ∷ rest) ⊎ Found (k ∷ rest)
       by_rest (inl none) x (inl mine) = inl (none_more k rest mine none)
       by_rest (inl none) x (inr other) = inr (first_found k x.0 rest x.1 other none)
       by_rest (inr f) x (inl mine) = inr (widen f mine)
       by_rest (inr f) x (inr other) = inr (by_cmp x.0 x.1 other f (levels_cmp x.0.levels f.1.levels) refl)
 
-  pub victim_exists : (queue : List ℕ) → ((k : ℕ) → In k queue → (x : RoomTask) × (tasks k ≡ Some x)) → IdsAreApart queue → 2 ≤ length queue → (v : ℕ) × (task : RoomTask) × IsVictimInQueue tasks queue asker v task
+  pub victim_exists : (queue : List ℕ) → ((k : ℕ) → In k queue → (x : RoomTask) × (tasks k ≡ Some x))
+      → IdsAreApart queue → 2 ≤ length queue → (v : ℕ) × (task : RoomTask) × IsVictimInQueue tasks queue asker v task
   victim_exists queue there distinct many =
       let one = someone_else asker queue distinct many in
       elim (search_all queue there) [ inl none ↦ absurd (none one.0 one.1 one.2) | inr found ↦ found ]
 
 -- where something moves, something is chosen
-pub chosen_is_some : (tasks : ℕ → Option RoomTask) (heir : Option ℕ) (queue chosen : List ℕ) (k : ℕ) → IsChosenInQueue tasks heir queue chosen → IsMovableInQueue tasks heir queue k → (j : ℕ) × In j chosen × In j queue
+pub chosen_is_some : (tasks : ℕ → Option RoomTask) (heir : Option ℕ) (queue chosen : List ℕ) (k : ℕ)
+    → IsChosenInQueue tasks heir queue chosen → IsMovableInQueue tasks heir queue k → (j : ℕ) × In j chosen × In j queue
 chosen_is_some tasks heir queue [] k is moves = absurd (is.all (omega arith) k moves)
 chosen_is_some tasks heir queue (j ∷ chosen) k is moves = (j, inl refl, (is.movable j (inl refl)).0)
 
@@ -137,35 +151,41 @@ firm_or_not heir task = by_creator task.creator refl
     ]
 
 -- something of the queue moves, or nothing does
-moves_or_not : (tasks : ℕ → Option RoomTask) (heir : Option ℕ) (queue : List ℕ) → ((k : ℕ) → In k queue → (x : RoomTask) × (tasks k ≡ Some x))
+moves_or_not : (tasks : ℕ → Option RoomTask) (heir : Option ℕ) (queue : List ℕ)
+    → ((k : ℕ) → In k queue → (x : RoomTask) × (tasks k ≡ Some x))
     → ((k : ℕ) × IsMovableInQueue tasks heir queue k) ⊎ NoneMovesInQueue tasks heir queue
 moves_or_not tasks heir [] there = inr (λ k moves. moves.0)
-moves_or_not tasks heir (k ∷ queue) there = by_rest (moves_or_not tasks heir queue (λ j is. there j (inr is))) (there k (inl refl))
+moves_or_not tasks heir (k ∷ queue) there =
+    by_rest (moves_or_not tasks heir queue (λ j is. there j (inr is))) (there k (inl refl))
   where
     Result : Type 0
     Result = ((j : ℕ) × IsMovableInQueue tasks heir (k ∷ queue) j) ⊎ NoneMovesInQueue tasks heir (k ∷ queue)
 
-    by_firm : (x : RoomTask) → tasks k ≡ Some x → x.dispatched ≡ false → NoneMovesInQueue tasks heir queue → IsFirmInQueue heir x ⊎ (IsFirmInQueue heir x → ⊥) → Result
+    by_firm : (x : RoomTask) → tasks k ≡ Some x → x.dispatched ≡ false → NoneMovesInQueue tasks heir queue
+        → IsFirmInQueue heir x ⊎ (IsFirmInQueue heir x → ⊥) → Result
     by_firm x at idle none (inl firm) = inl (k, (inl refl, x, at, idle, firm))
     by_firm x at idle none (inr loose) = inr (λ j moves. elim moves.0 [
       | inl here ↦ (let both : Some moves.1 ≡ Some x = sym moves.2 ∙ ap tasks here ∙ at in let eq : moves.1 ≡ x = cc in loose (subst (IsFirmInQueue heir) eq moves.4))
       | inr later ↦ none j (later, moves.1, moves.2, moves.3, moves.4)
     ])
 
-    by_dispatched : (x : RoomTask) → tasks k ≡ Some x → NoneMovesInQueue tasks heir queue → (b : Bool) → x.dispatched ≡ b → Result
+    by_dispatched : (x : RoomTask) → tasks k ≡ Some x → NoneMovesInQueue tasks heir queue → (b : Bool)
+        → x.dispatched ≡ b → Result
     by_dispatched x at none false idle = by_firm x at idle none (firm_or_not heir x)
     by_dispatched x at none true runs = inr (λ j moves. elim moves.0 [
       | inl here ↦ (let both : Some moves.1 ≡ Some x = sym moves.2 ∙ ap tasks here ∙ at in let eq : moves.1 ≡ x = cc in absurd (cc (ap (λ z. z.dispatched) eq, moves.3, runs)))
       | inr later ↦ none j (later, moves.1, moves.2, moves.3, moves.4)
     ])
 
-    by_rest : ((j : ℕ) × IsMovableInQueue tasks heir queue j) ⊎ NoneMovesInQueue tasks heir queue → (x : RoomTask) × (tasks k ≡ Some x) → Result
+    by_rest : ((j : ℕ) × IsMovableInQueue tasks heir queue j) ⊎ NoneMovesInQueue tasks heir queue
+        → (x : RoomTask) × (tasks k ≡ Some x) → Result
     by_rest (inl one) x = inl (one.0, (inr one.1.0, one.1.1, one.1.2, one.1.3, one.1.4))
     by_rest (inr none) x = by_dispatched x.0 x.1 none x.0.dispatched refl
 
 -- the task that is aborted for a victim: there is one, since a task that is not firm has a creator to commit yet
 first_for : (heir : Option ℕ) (v : ℕ) (task : RoomTask) → (first : ℕ) × IsFirst heir v task first
-first_for heir v task = elim (firm_or_not heir task) [ inl firm ↦ (v, inl (firm, refl)) | inr loose ↦ by_creator loose task.creator refl ]
+first_for heir v task =
+    elim (firm_or_not heir task) [ inl firm ↦ (v, inl (firm, refl)) | inr loose ↦ by_creator loose task.creator refl ]
   where
     by_creator : (IsFirmInQueue heir task → ⊥) → (c : Option ℕ) → task.creator ≡ c
         → (first : ℕ) × IsFirst heir v task first
@@ -178,7 +198,9 @@ some_rule_applies tasks heir queue capacity asker is_least is two fits = elim (c
   | inr full ↦ by_moves (let e : length queue ≡ capacity = omega (arith, fits, full) in e) (moves_or_not tasks heir queue is.there) is_least refl
 ]
   where
-    by_moves : length queue ≡ capacity → ((k : ℕ) × IsMovableInQueue tasks heir queue k) ⊎ NoneMovesInQueue tasks heir queue → (b : Bool) → is_least ≡ b → Rule tasks heir queue capacity asker is_least
+    by_moves : length queue ≡ capacity
+        → ((k : ℕ) × IsMovableInQueue tasks heir queue k) ⊎ NoneMovesInQueue tasks heir queue → (b : Bool)
+        → is_least ≡ b → Rule tasks heir queue capacity asker is_least
     by_moves full (inl one) b e = Coalesces full one.0 one.1
     by_moves full (inr none) false e = Stalls full none e
     by_moves full (inr none) true e =

@@ -1,5 +1,6 @@
 -- What a task asks for is what the rules of calls allow, and tells at which stop it asks.
-use Rattle.std.proofs.Common.{◌≡◌, ◌≢◌, ◌%◌, ◌==◌, ◌<◌, ◌≤◌, ℕ, Bool, true, false, Option, Some, None, refl, sym, subst, ◌-◌, arith, if◌then◌else◌}
+use Rattle.std.proofs.Common.{◌≡◌, ◌≢◌, ◌%◌, ◌==◌, ◌<◌, ◌≤◌, ℕ, Bool, true, false, Option, Some, None, refl, sym, subst}
+use Rattle.std.proofs.Common.{◌-◌, arith, if◌then◌else◌}
 use Rattle.std.specs.Prelude.{Result, Ok, Err, nat_lt}
 use Rattle.std.proofs.lemmas.Bool.{ltb-true}
 use Rattle.guest_image.specs.declared.image.Kind.{Kind}
@@ -15,9 +16,11 @@ use Rattle.task_desc.specs.declared.desc.Place.{Place}
 use Rattle.task_desc.specs.declared.desc.Place.TheVariants.{Same, Sub, Super}
 use Rattle.task_desc.specs.declared.desc.Spawn.{Spawn}
 use Rattle.task_desc.specs.declared.calls.TheConstants.{MAX_BYTES, MAX_CHILDREN, MAX_DEPTH}
-use Rattle.task_desc.specs.Calls.{deepest, most_children, domain_ts, is_early, one_more_child, allowed_spawn, allowed_at, allowed_sub, allowed_super, kind_of, sub_of, sub_allowed, byte_allowed}
+use Rattle.task_desc.specs.Calls.{deepest, most_children, domain_ts, is_early, one_more_child, allowed_spawn}
+use Rattle.task_desc.specs.Calls.{allowed_at, allowed_sub, allowed_super, kind_of, sub_of, sub_allowed, byte_allowed}
 use Rattle.task_request.specs.declared.request.Request.{Request}
-use Rattle.task_request.specs.declared.request.Request.TheVariants.{Continue, Load, Store, Enqueue, MakeSub, Emit, End, Trap}
+use Rattle.task_request.specs.declared.request.Request.TheVariants.{Continue, Load, Store, Enqueue, MakeSub, Emit, End}
+use Rattle.task_request.specs.declared.request.Request.TheVariants.{Trap}
 use Rattle.task_request.specs.Conditions.{KeepsLimits, IsCall}
 use Rattle.task_request.specs.Requests.{register_at, spawn_at, unless_trap, enqueue_at, call_at, request_at}
 
@@ -27,7 +30,8 @@ module _ (P : Request → Type 0) where
   either false x y h g = g
 
   -- what holds of what a rule allows, and of a trap
-  unless_trap-is : {A : Type 0} (request : A → Request) (r : Result A ℕ) → ((value : A) → r ≡ Ok value → P (request value))
+  unless_trap-is : {A : Type 0} (request : A → Request) (r : Result A ℕ)
+      → ((value : A) → r ≡ Ok value → P (request value))
       → ((cause : ℕ) → P (Trap cause)) → P (unless_trap request r)
   unless_trap-is request (Ok value) fits traps = fits value refl
   unless_trap-is request (Err cause) fits traps = traps cause
@@ -55,7 +59,8 @@ module _ (P : Request → Type 0) where
 
 -- the rules of calls allow the request
 abbrev pub AllowedBy : Ctx → Request → Type 0
-AllowedBy ctx (Enqueue child) = (spawn : Spawn) × (allowed_spawn ctx spawn ≡ Ok child.ts) × (child ≡ record spawn { ts = child.ts })
+AllowedBy ctx (Enqueue child) =
+    (spawn : Spawn) × (allowed_spawn ctx spawn ≡ Ok child.ts) × (child ≡ record spawn { ts = child.ts })
 AllowedBy ctx (MakeSub kind) = (value : ℕ) × (sub_allowed ctx value ≡ Ok kind)
 AllowedBy ctx (Emit byte) = (byte_allowed ctx ≡ Ok tt) × (byte < 256)
 AllowedBy ctx other = Unit {0}
@@ -90,14 +95,16 @@ allowed_spawn-limits : (ctx : Ctx) (spawn : Spawn) (ts : ℕ) → allowed_spawn 
     → ctx.children < MAX_CHILDREN
 allowed_spawn-limits ctx spawn ts allows = by_place spawn.place allows
   where
-    by_count : (b : Bool) (t : ℕ) → nat_lt ctx.children (most_children ctx.version) ≡ b → if◌then◌else◌ {A = Result ℕ ℕ} b (Ok t) (Err 15) ≡ Ok ts → ctx.children < MAX_CHILDREN
+    by_count : (b : Bool) (t : ℕ) → nat_lt ctx.children (most_children ctx.version) ≡ b
+        → if◌then◌else◌ {A = Result ℕ ℕ} b (Ok t) (Err 15) ≡ Ok ts → ctx.children < MAX_CHILDREN
     by_count true t is at =
         let below = ltb-true ctx.children (most_children ctx.version) is in
         let few = most_children-few ctx.version in
         omega arith
     by_count false t is at = absurd (cc (at))
 
-    by_time : (b : Bool) (t : ℕ) → if◌then◌else◌ {A = Result ℕ ℕ} b (Err 10) (one_more_child ctx t) ≡ Ok ts → ctx.children < MAX_CHILDREN
+    by_time : (b : Bool) (t : ℕ) → if◌then◌else◌ {A = Result ℕ ℕ} b (Err 10) (one_more_child ctx t) ≡ Ok ts
+        → ctx.children < MAX_CHILDREN
     by_time true t at = absurd (cc (at))
     by_time false t at = by_count (nat_lt ctx.children (most_children ctx.version)) t refl at
 
@@ -115,17 +122,20 @@ allowed_spawn-limits ctx spawn ts allows = by_place spawn.place allows
     by_place Super at = by_super ctx.outer at
 
 -- a subdomain is allowed only where none was made, and only below the greatest depth
-pub sub_allowed-limits : (ctx : Ctx) (value : ℕ) (kind : Kind) → sub_allowed ctx value ≡ Ok kind → (ctx.sub ≡ None) × (ctx.depth ≢ MAX_DEPTH)
+pub sub_allowed-limits : (ctx : Ctx) (value : ℕ) (kind : Kind) → sub_allowed ctx value ≡ Ok kind
+    → (ctx.sub ≡ None) × (ctx.depth ≢ MAX_DEPTH)
 sub_allowed-limits ctx value kind is = by_value (nat_lt 1 value) ctx.sub refl is
   where
-    by_depth : (b : Bool) → nat_lt ctx.depth (deepest ctx.version) ≡ b → if◌then◌else◌ {A = Result Kind ℕ} b (Ok (kind_of value)) (Err 14) ≡ Ok kind → ctx.depth ≢ MAX_DEPTH
+    by_depth : (b : Bool) → nat_lt ctx.depth (deepest ctx.version) ≡ b
+        → if◌then◌else◌ {A = Result Kind ℕ} b (Ok (kind_of value)) (Err 14) ≡ Ok kind → ctx.depth ≢ MAX_DEPTH
     by_depth false deep allows = absurd (cc (allows))
     by_depth true deep allows =
         let below = ltb-true ctx.depth (deepest ctx.version) deep in
         let few = deepest-few ctx.version in
         λ same. absurd (omega arith)
 
-    by_value : (b : Bool) (made : Option Kind) → ctx.sub ≡ made → (if b then Err 9 else sub_of ctx value made) ≡ Ok kind → (ctx.sub ≡ None) × (ctx.depth ≢ MAX_DEPTH)
+    by_value : (b : Bool) (made : Option Kind) → ctx.sub ≡ made → (if b then Err 9 else sub_of ctx value made) ≡ Ok kind
+        → (ctx.sub ≡ None) × (ctx.depth ≢ MAX_DEPTH)
     by_value true made at allows = absurd (cc (allows))
     by_value false None at allows = (at, by_depth (nat_lt ctx.depth (deepest ctx.version)) refl allows)
     by_value false (Some other) at allows = absurd (cc (allows))
@@ -134,7 +144,8 @@ sub_allowed-limits ctx value kind is = by_value (nat_lt 1 value) ctx.sub refl is
 byte_allowed-limits : (ctx : Ctx) → byte_allowed ctx ≡ Ok tt → ctx.bytes < MAX_BYTES
 byte_allowed-limits ctx is = by_test (nat_lt ctx.bytes MAX_BYTES) refl is
   where
-    by_test : (b : Bool) → nat_lt ctx.bytes MAX_BYTES ≡ b → if◌then◌else◌ {A = Result (Unit {0}) ℕ} b (Ok tt) (Err 16) ≡ Ok tt → ctx.bytes < MAX_BYTES
+    by_test : (b : Bool) → nat_lt ctx.bytes MAX_BYTES ≡ b
+        → if◌then◌else◌ {A = Result (Unit {0}) ℕ} b (Ok tt) (Err 16) ≡ Ok tt → ctx.bytes < MAX_BYTES
     by_test true below allows = ltb-true ctx.bytes MAX_BYTES below
     by_test false below allows = absurd (cc (allows))
 
@@ -210,12 +221,14 @@ request_at-store ctx core (stop.Load w r addr) offset bytes value e = cc
 request_at-store ctx core (stop.Store w addr v) offset bytes value e =
     let same : v ≡ value = cc in
     record { width = w; addr = addr; is = rw same refl; offset_is = cc; bytes_is = cc }
-request_at-store ctx core stop.Call offset bytes value e = absurd (call_at-no_other ctx core (subst IsNoCall (sym e) tt))
+request_at-store ctx core stop.Call offset bytes value e =
+    absurd (call_at-no_other ctx core (subst IsNoCall (sym e) tt))
 request_at-store ctx core (stop.Trap cause pc) offset bytes value e = cc
 request_at-store ctx core stop.Quantum offset bytes value e = cc
 
 -- a task asks to go on at the end of a quantum alone
-pub request_at-continue : (ctx : Ctx) (core : Core) (found : Stop) → request_at ctx core found ≡ Continue → found ≡ stop.Quantum
+pub request_at-continue : (ctx : Ctx) (core : Core) (found : Stop) → request_at ctx core found ≡ Continue
+    → found ≡ stop.Quantum
 request_at-continue ctx core (stop.Load width rd addr) e = cc
 request_at-continue ctx core (stop.Store width addr value) e = cc
 request_at-continue ctx core stop.Call e = absurd (call_at-no_other ctx core (subst IsNoCall (sym e) tt))

@@ -6,7 +6,8 @@ use Rattle.rv_core.specs.declared.state.Stop.TheVariants as stop
 use Rattle.task_desc.specs.declared.desc.Ctx.{Ctx}
 use Rattle.undo_log.proofs.Proved.{length-after_write}
 use Rattle.task_request.specs.declared.request.Request.{Request}
-use Rattle.task_request.specs.declared.request.Request.TheVariants.{Continue, Load, Store, Enqueue, MakeSub, Emit, End, Trap}
+use Rattle.task_request.specs.declared.request.Request.TheVariants.{Continue, Load, Store, Enqueue, MakeSub, Emit, End}
+use Rattle.task_request.specs.declared.request.Request.TheVariants.{Trap}
 use Rattle.task_request.specs.Requests.{request_at}
 use Rattle.task_request.specs.TaskState.{TaskState, context}
 use Rattle.task_request.specs.Effects.{Continuation, Continues, Ends, Traps, after_request, after_stop}
@@ -25,7 +26,8 @@ HasSize size (Ends task) = length task.memory ≡ size
 HasSize size (Traps cause pc) = Unit {0}
 
 -- a request keeps the size of the memory
-pub after_request-size : (task : TaskState) (request : Request) → HasSize (length task.memory) (after_request task request)
+pub after_request-size : (task : TaskState) (request : Request)
+    → HasSize (length task.memory) (after_request task request)
 after_request-size task Continue = refl
 after_request-size task (Load width rd offset) = refl
 after_request-size task (Store offset bytes value) = length-after_write task.memory offset bytes value
@@ -36,7 +38,8 @@ after_request-size task End = refl
 after_request-size task (Trap cause) = tt
 
 -- a request counts one instruction, but for a trap and one to go on
-pub after_request-used : (task : TaskState) (request : Request) → request ≢ Continue → HasUsed (task.core.used + 1) (after_request task request)
+pub after_request-used : (task : TaskState) (request : Request) → request ≢ Continue
+    → HasUsed (task.core.used + 1) (after_request task request)
 after_request-used task Continue other = absurd (other refl)
 after_request-used task (Load width rd offset) other = refl
 after_request-used task (Store offset bytes value) other = refl
@@ -47,7 +50,8 @@ after_request-used task End other = refl
 after_request-used task (Trap cause) other = tt
 
 -- a task asks to go on only at the end of a quantum
-pub request_at-other : (ctx : Ctx) (core : Core) (found : Stop) → found ≢ stop.Quantum → request_at ctx core found ≢ Continue
+pub request_at-other : (ctx : Ctx) (core : Core) (found : Stop) → found ≢ stop.Quantum
+    → request_at ctx core found ≢ Continue
 request_at-other ctx core (stop.Load width rd addr) other = λ e. cc
 request_at-other ctx core (stop.Store width addr value) other = λ e. cc
 request_at-other ctx core stop.Call other =
@@ -56,6 +60,7 @@ request_at-other ctx core (stop.Trap cause pc) other = λ e. cc
 request_at-other ctx core stop.Quantum other = absurd (other refl)
 
 -- what stands at a stop counts one instruction, but for a trap and the end of a quantum
-pub after_stop-used : (ctx : Ctx) (task : TaskState) (found : Stop) → found ≢ stop.Quantum → HasUsed (task.core.used + 1) (after_stop ctx task found)
+pub after_stop-used : (ctx : Ctx) (task : TaskState) (found : Stop) → found ≢ stop.Quantum
+    → HasUsed (task.core.used + 1) (after_stop ctx task found)
 after_stop-used ctx task found other =
     after_request-used task (request_at (context ctx task) task.core found) (request_at-other (context ctx task) task.core found other)

@@ -1,5 +1,6 @@
 -- Decimal numbers that are written are read again, and a list without a mark is cut off whole before one.
-use Rattle.std.proofs.Common.{◌≡◌, ◌<◌, ◌^◌, ◌==◌, ◌||◌, ◌∷◌, ◌++◌, ℕ, zero, suc, true, false, not, nat_lt, List, [], length, get_or, Some, option_map, refl, rules, ap, arith}
+use Rattle.std.proofs.Common.{◌≡◌, ◌<◌, ◌^◌, ◌==◌, ◌||◌, ◌∷◌, ◌++◌, ℕ, zero, suc, true, false, not, nat_lt, List, []}
+use Rattle.std.proofs.Common.{length, get_or, Some, option_map, refl, rules, ap, arith}
 use Rattle.std.specs.Char.{is_ascii_digit}
 use Rattle.std.specs.Fmt.{decimal}
 use Rattle.std.specs.List.{list_all}
@@ -35,7 +36,8 @@ IsWithout c xs = list_all (λ x. not (x == c)) xs ≡ true
 -- two lists that have no c have none together
 pub without_both : (c : ℕ) (xs ys : List ℕ) → IsWithout c xs → IsWithout c ys → IsWithout c (xs ++ ys)
 without_both c [] ys h g = g
-without_both c (x ∷ xs) ys h g = let both = and_parts (not (x == c)) _ h in rw (both.0, without_both c xs ys both.1 g) refl
+without_both c (x ∷ xs) ys h g =
+    let both = and_parts (not (x == c)) _ h in rw (both.0, without_both c xs ys both.1 g) refl
 
 -- a list that has no c is cut off whole before a c
 pub cut_without : (c : ℕ) (xs rest : List ℕ) → IsWithout c xs → cut c (xs ++ c ∷ rest) ≡ Some (xs, rest)

@@ -1,5 +1,6 @@
 -- What a number is whose digits are all decimal ones, what a parse of them gives, and that they are text.
-use Rattle.std.proofs.Common.{◌≡◌, ℕ, ◌<◌, ◌^◌, List, length, Some, None, refl, arith, true, false, rules, Result, Ok, Err, ap, sym, ◌∙◌, nat_lt}
+use Rattle.std.proofs.Common.{◌≡◌, ℕ, ◌<◌, ◌^◌, List, length, Some, None, refl, arith, true, false, rules, Result, Ok}
+use Rattle.std.proofs.Common.{Err, ap, sym, ◌∙◌, nat_lt}
 use Rattle.std.specs.List.{list_all}
 use Rattle.std.specs.Char.{is_ascii_digit}
 use Rattle.std.specs.Str.{IsUtf8}
@@ -19,19 +20,23 @@ own = numerals_by_value _ digits_tested
 
 -- what the definition of a number gives of plain digits
 number_from : (ds : List ℕ) → is_plain ds ≡ true → digits_value 10 ds < 2 ^ 32 → number ds ≡ Some (digits_value 10 ds)
-number_from ds plain small = let e : nat_lt (digits_value 10 ds) (2 ^ 32) ≡ true = search (rules, small) in rw (plain, e) refl
+number_from ds plain small =
+    let e : nat_lt (digits_value 10 ds) (2 ^ 32) ≡ true = search (rules, small) in rw (plain, e) refl
 
 number_too_large : (ds : List ℕ) → is_plain ds ≡ true → (digits_value 10 ds < 2 ^ 32 → ⊥) → number ds ≡ None
-number_too_large ds plain large = let e : nat_lt (digits_value 10 ds) (2 ^ 32) ≡ false = search (rules, large) in rw (plain, e) refl
+number_too_large ds plain large =
+    let e : nat_lt (digits_value 10 ds) (2 ^ 32) ≡ false = search (rules, large) in rw (plain, e) refl
 
 plain_digits : (ds : List ℕ) → is_plain ds ≡ true → (list_all is_ascii_digit ds ≡ true) × (0 < length ds)
 plain_digits ds plain = grind (arith, plain)
 
-by_answer : {E : Type 0} (ds : List ℕ) (r : Result ℕ E) → is_plain ds ≡ true → OkIff r ((0 < length ds) × (digits_value 10 ds < 2 ^ 32)) (digits_value 10 ds) → result_ok r ≡ number ds
+by_answer : {E : Type 0} (ds : List ℕ) (r : Result ℕ E) → is_plain ds ≡ true
+    → OkIff r ((0 < length ds) × (digits_value 10 ds < 2 ^ 32)) (digits_value 10 ds) → result_ok r ≡ number ds
 by_answer ds (Ok n) plain h = ap Some h.1 ∙ sym (number_from ds plain h.0.1)
 by_answer ds (Err e) plain h = sym (number_too_large ds plain (λ small. h ((plain_digits ds plain).1, small)))
 
-pub parsed_number : {E : Type 0} (ds : List ℕ) (r : Result ℕ E) → is_plain ds ≡ true → ParsesUnsigned 32 10 ds r → result_ok r ≡ number ds
+pub parsed_number : {E : Type 0} (ds : List ℕ) (r : Result ℕ E) → is_plain ds ≡ true → ParsesUnsigned 32 10 ds r
+    → result_ok r ≡ number ds
 parsed_number ds r plain h = by_answer ds r plain (parse_digits own 32 ds r h (plain_digits ds plain).0)
 
 -- plain digits are text

@@ -32,7 +32,9 @@ pub grows_trans : (old mid new : View) → Grows old mid → Grows mid new → G
 grows_trans old mid new one other =
     record {
       entries = one.entries ++ other.entries;
-      history = other.history ∙ ap (λ es. es ++ other.entries) one.history ∙ append_assoc old.history one.entries other.entries;
+      history =
+          other.history ∙ ap (λ es. es ++ other.entries) one.history
+          ∙ append_assoc old.history one.entries other.entries;
       bytes = one.bytes ++ other.bytes;
       output = other.output ∙ ap (λ bs. bs ++ other.bytes) one.output ∙ append_assoc old.output one.bytes other.bytes;
     }
@@ -53,7 +55,8 @@ event_grows N book aborted new placers (event.Coalesce tile) made =
 event_grows N book aborted new placers (event.Split tile) made =
     grows_by_none book.view new (event_stays book aborted new placers N (event.Split tile) tt made)
 
-grows_by : (N : Type 0) (image : ImageValue) (made : ℕ) (old new : BookView) → AdvancesBy N image made old new → Grows old.view new.view
+grows_by : (N : Type 0) (image : ImageValue) (made : ℕ) (old new : BookView) → AdvancesBy N image made old new
+    → Grows old.view new.view
 grows_by N image zero old new same = subst (λ (b : BookView). Grows old.view b.view) same (grows_refl old.view)
 grows_by N image (suc made) old new is =
     let one = is.3 in
@@ -61,5 +64,6 @@ grows_by N image (suc made) old new is =
     (event_grows N is.0 is.1 new.view new.placers one.event one.happens.makes)
 
 -- so it does in a run by the least tasks
-pub runs_grow : (N : Type 0) (image : ImageValue) (old new : BookView) (halt : Halt) → RunsLeast N image old halt new → Grows old.view new.view
+pub runs_grow : (N : Type 0) (image : ImageValue) (old new : BookView) (halt : Halt) → RunsLeast N image old halt new
+    → Grows old.view new.view
 runs_grow N image old new halt runs = grows_by N image runs.made old new runs.advances

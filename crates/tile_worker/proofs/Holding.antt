@@ -59,28 +59,33 @@ module _ (N : Type 0) (image : ImageValue) (old mid new : BookView) where
   goes_on answer (inr committed) = subst AdvanceGoesOn (sym committed) tt
 
   -- and so it is with the event for the least task
-  pub advance_made : (answer : Advance) → AdvanceAnswers N image old answer mid → AdvanceGoesOn answer → new ≡ mid → MakesOne N old new
+  pub advance_made : (answer : Advance) → AdvanceAnswers N image old answer mid → AdvanceGoesOn answer → new ≡ mid
+      → MakesOne N old new
   advance_made answer so on same = subst (λ (b : BookView). MakesOne N old b) (sym same) (by_least answer so on)
 
   pub advance_moved : (answer : Advance) → AdvanceAnswers N image old answer mid
       → ((n : ℕ) × (answer ≡ answers.Moved n)) ⊎ (answer ≡ answers.Committed) → new ≡ mid → MakesOne N old new
   advance_moved answer so is same = advance_made answer so (goes_on answer is) same
 
-  pub advance_ended : (answer : Advance) (end : End) → AdvanceAnswers N image old answer mid → answer ≡ answers.Ended end → new ≡ mid
+  pub advance_ended : (answer : Advance) (end : End) → AdvanceAnswers N image old answer mid
+      → answer ≡ answers.Ended end → new ≡ mid
       → IsOver old.view × (new ≡ old)
   advance_ended answer end so over same =
       let ended = subst (λ (a : Advance). AdvanceAnswers N image old a mid) over so in ((end, ended.1), same ∙ ended.2)
 
-  pub advance_ran_out : (answer : Advance) → AdvanceAnswers N image old answer mid → answer ≡ answers.Memory → new ≡ stopped mid → RunsOut N old new
+  pub advance_ran_out : (answer : Advance) → AdvanceAnswers N image old answer mid → answer ≡ answers.Memory
+      → new ≡ stopped mid → RunsOut N old new
   advance_ran_out answer so out is = go (subst (λ (a : Advance). AdvanceAnswers N image old a mid) out so) where
-    go : ((old.stopped ≡ true) × (mid ≡ old)) ⊎ ((e : Event N) × IsNextEvent image old.view e × Happens old e reply.Memory 0 mid) → RunsOut N old new
+    go : ((old.stopped ≡ true) × (mid ≡ old)) ⊎ ((e : Event N) × IsNextEvent image old.view e × Happens old e reply.Memory 0 mid)
+        → RunsOut N old new
     go (inl before) = record { event = event.Commit; may = inl before.0; stopped = is ∙ ap stopped before.1 }
     go (inr refused) = record { event = refused.0; may = refused.2.0; stopped = is ∙ ap stopped refused.2.1.same }
 
 pub ruleset advance_tries = (advance_made, advance_ended, advance_ran_out)
 
 -- a try is a hold
-pub counts_hold : (N : Type 0) (old : BookView) (t : Tried) (new : BookView) → CountsSo N old t new → HoldsOnce N old new
+pub counts_hold : (N : Type 0) (old : BookView) (t : Tried) (new : BookView) → CountsSo N old t new
+    → HoldsOnce N old new
 counts_hold N old tried.Made new so = holds.makes so
 counts_hold N old tried.Waits new so = holds.rests so
 counts_hold N old tried.Missed new so = holds.rests so
@@ -92,7 +97,8 @@ pub refused_holds : (N : Type 0) (old mid new : BookView) → HoldsOnce N mid ne
 refused_holds N old mid new once same = subst (λ (b : BookView). HoldsOnce N b new) same once
 
 -- and a try that came to an end after one that was refused
-pub still_over : (N : Type 0) (old mid new : BookView) (t : Tried) → CountsSo N mid t new → t ≡ tried.Over → mid ≡ old → CountsSo N old tried.Over new
+pub still_over : (N : Type 0) (old mid new : BookView) (t : Tried) → CountsSo N mid t new → t ≡ tried.Over → mid ≡ old
+    → CountsSo N old tried.Over new
 still_over N old mid new t so over same =
     subst (λ (b : BookView). CountsSo N b tried.Over new) same (subst (λ (x : Tried). CountsSo N mid x new) over so)
 
@@ -101,9 +107,11 @@ rests N old new same = holds.rests same
 
 -- after a hold the run has gone on
 pub holds_grow : (N : Type 0) (old new : BookView) → HoldsOnce N old new → Grows old.view new.view
-holds_grow N old new (holds.rests same) = subst (λ (b : BookView). Grows old.view b.view) (sym same) (grows_refl old.view)
+holds_grow N old new (holds.rests same) =
+    subst (λ (b : BookView). Grows old.view b.view) (sym same) (grows_refl old.view)
 holds_grow N old new (holds.makes one) = event_grows N old one.aborted new.view new.placers one.event one.made.makes
-holds_grow N old new (holds.stops out) = subst (λ (b : BookView). Grows old.view b.view) (sym out.stopped) (grows_refl old.view)
+holds_grow N old new (holds.stops out) =
+    subst (λ (b : BookView). Grows old.view b.view) (sym out.stopped) (grows_refl old.view)
 
 -- the count has risen by one at most
 record IsNextCount (old new : ℕ) : Type 0 where
@@ -116,12 +124,14 @@ counted_next old new few is = let n = is in record { no_less = omega (arith, n, 
 same_next : (old new : ℕ) → new ≡ old → IsNextCount old new
 same_next old new is = let n = is in record { no_less = omega (arith, n); no_more = omega (arith, n) }
 
-holds_next : (N : Type 0) (old new : BookView) → HoldsOnce N old new → old.steps < 2 ^ 63 → IsNextCount old.steps new.steps
+holds_next : (N : Type 0) (old new : BookView) → HoldsOnce N old new → old.steps < 2 ^ 63
+    → IsNextCount old.steps new.steps
 holds_next N old new (holds.rests same) few = same_next old.steps new.steps (ap (λ (b : BookView). b.steps) same)
 holds_next N old new (holds.makes one) few = counted_next old.steps new.steps few one.made.steps
 holds_next N old new (holds.stops out) few = same_next old.steps new.steps (ap (λ (b : BookView). b.steps) out.stopped)
 
-pub holds_later : (N : Type 0) (old new : BookView) (before after : ℕ) → HoldsOnce N old new → before ≡ old.steps → after ≡ new.steps
+pub holds_later : (N : Type 0) (old new : BookView) (before after : ℕ) → HoldsOnce N old new → before ≡ old.steps
+    → after ≡ new.steps
     → before < 2 ^ 63 → (before ≤ after) × (after ≤ before + 1)
 holds_later N old new before after once was is few =
     let next = holds_next N old new once (subst (λ n. n < 2 ^ 63) was few) in

@@ -23,7 +23,8 @@ later_by_one steps mid new later one =
       bounded = subst (λ n. n ≤ 2 ^ 64 - 1) (sym one) (min-le_right (mid + 1) (2 ^ 64 - 1));
     }
 
-later_by : (N : Type 0) (image : ImageValue) (made : ℕ) (old new : BookView) → AdvancesBy N image made old new → old.steps ≤ 2 ^ 64 - 1
+later_by : (N : Type 0) (image : ImageValue) (made : ℕ) (old new : BookView) → AdvancesBy N image made old new
+    → old.steps ≤ 2 ^ 64 - 1
     → IsLater old.steps new.steps
 later_by N image zero old new same few =
     subst (λ (b : BookView). IsLater old.steps b.steps) same (record { no_less = omega arith; bounded = few })

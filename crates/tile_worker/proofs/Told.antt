@@ -1,5 +1,6 @@
 -- Readings of a journal that goes on.
-use Rattle.std.proofs.Common.{arith, ◌≡◌, ◌≤◌, ◌<◌, ◌+◌, ◌++◌, ◌∷◌, [], ℕ, List, All, length, take, get_or, refl, sym, ap, subst, ◌∙◌, le_refl, min}
+use Rattle.std.proofs.Common.{arith, ◌≡◌, ◌≤◌, ◌<◌, ◌+◌, ◌++◌, ◌∷◌, [], ℕ, List, All, length, take, get_or, refl, sym}
+use Rattle.std.proofs.Common.{ap, subst, ◌∙◌, le_refl, min}
 use mathlib.Core.Logic.{∥∥₁_map}
 use Rattle.std.proofs.Math.Nat.{min-le_right}
 use Rattle.std.specs.List.{AllZip}
@@ -22,7 +23,8 @@ use Rattle.tile_worker.specs.Readings.{IsReading, AreReadings, OpeningIsReading,
 use Rattle.tile_worker.proofs.Holding.{holds_grow}
 
 -- a reading of a journal is one of each journal that goes on where this one ended
-longer : (image : ImageValue) (budget : ℕ) (journal more : List Entry) (reading : Reading) → IsReading image budget journal reading
+longer : (image : ImageValue) (budget : ℕ) (journal more : List Entry) (reading : Reading)
+    → IsReading image budget journal reading
     → IsReading image budget (journal ++ more) reading
 longer image budget journal more reading is =
     let size : length (journal ++ more) ≡ length journal + length more = length-append journal more in
@@ -30,12 +32,14 @@ longer image budget journal more reading is =
     record {
       within = omega (arith, size, within);
       after = is.after;
-      is_run = subst (λ front. IsRun image budget front is.after) (sym (take-append-le reading.commits journal more within)) is.is_run;
+      is_run =
+          subst (λ front. IsRun image budget front is.after) (sym (take-append-le reading.commits journal more within)) is.is_run;
       output = is.output;
     }
 
 -- readings of a journal stay readings of it
-pub readings_grow : (image : ImageValue) (budget : ℕ) (old new : View) (told : List Reading) → Grows old new → AreReadings image budget old.history told
+pub readings_grow : (image : ImageValue) (budget : ℕ) (old new : View) (told : List Reading) → Grows old new
+    → AreReadings image budget old.history told
     → AreReadings image budget new.history told
 readings_grow image budget old new told grows are =
     let P : Reading → Type 0 = λ reading. ∥ IsReading image budget old.history reading ∥₁ in
@@ -44,23 +48,27 @@ readings_grow image budget old new told grows are =
     (All-weaker P Q (λ reading one. ∥∥₁_map one (longer image budget old.history grows.entries reading)) told are)
 
 -- what a view has come to isn't below the last that was told of it before
-pub counts_rise : (old new : View) (last : Reading) → Grows old new → last ≡ counts_of old → IsAtMost last (counts_of new)
+pub counts_rise : (old new : View) (last : Reading) → Grows old new → last ≡ counts_of old
+    → IsAtMost last (counts_of new)
 counts_rise old new last grows is =
     let history : length new.history ≡ length old.history + length grows.entries = ap length grows.history ∙ length-append old.history grows.entries in
     let output : length new.output ≡ length old.output + length grows.bytes = ap length grows.output ∙ length-append old.output grows.bytes in
     subst (λ reading. IsAtMost reading (counts_of new)) (sym is) (omega (arith, history), omega (arith, output))
 
 -- both after a hold
-pub readings_held : (N : Type 0) (image : ImageValue) (budget : ℕ) (old new : BookView) (told : List Reading) → HoldsOnce N old new
+pub readings_held : (N : Type 0) (image : ImageValue) (budget : ℕ) (old new : BookView) (told : List Reading)
+    → HoldsOnce N old new
     → AreReadings image budget old.view.history told → AreReadings image budget new.view.history told
-readings_held N image budget old new told once are = readings_grow image budget old.view new.view told (holds_grow N old new once) are
+readings_held N image budget old new told once are =
+    readings_grow image budget old.view new.view told (holds_grow N old new once) are
 
 pub counts_held : (N : Type 0) (old new : BookView) (last : Reading) → HoldsOnce N old new → last ≡ counts_of old.view
     → IsAtMost last (counts_of new.view)
 counts_held N old new last once is = counts_rise old.view new.view last (holds_grow N old new once) is
 
 -- the counts of a sound view are a reading of its journal
-pub counts_are_reading : (image : ImageValue) (budget : ℕ) (view : View) → Sound image view → view.settings.budget ≡ budget
+pub counts_are_reading : (image : ImageValue) (budget : ℕ) (view : View) → Sound image view
+    → view.settings.budget ≡ budget
     → IsReading image budget view.history (counts_of view)
 counts_are_reading image budget view sound same =
     let whole : take (length view.history) view.history ≡ view.history = take_all (length view.history) view.history (le_refl _) in
@@ -73,14 +81,16 @@ counts_are_reading image budget view sound same =
     }
 
 -- and with it what was told are readings still
-pub readings_told : (image : ImageValue) (budget : ℕ) (view : View) (told : List Reading) → Sound image view → view.settings.budget ≡ budget
+pub readings_told : (image : ImageValue) (budget : ℕ) (view : View) (told : List Reading) → Sound image view
+    → view.settings.budget ≡ budget
     → AreReadings image budget view.history told → AreReadings image budget view.history (told ++ counts_of view ∷ [])
 readings_told image budget view told sound same are =
     let P : Reading → Type 0 = λ reading. ∥ IsReading image budget view.history reading ∥₁ in
     All-push P told (counts_of view) are ∣ counts_are_reading image budget view sound same ∣₁
 
 -- and what was told before stands in front of it
-pub goes_on : (before told more : List Reading) → take (length before) told ≡ before → take (length before) (told ++ more) ≡ before
+pub goes_on : (before told more : List Reading) → take (length before) told ≡ before
+    → take (length before) (told ++ more) ≡ before
 goes_on before told more front =
     let size : min (length before) (length told) ≡ length before = sym (length-take (length before) told) ∙ ap length front in
     let within : length before ≤ length told = subst (λ n. n ≤ length told) size (min-le_right (length before) (length told)) in
@@ -88,10 +98,12 @@ goes_on before told more front =
 
 -- nothing committed and nothing emitted
 pub opening_is_reading : OpeningIsReading
-opening_is_reading image budget journal = record { within = omega arith; after = run.opening image; is_run = refl; output = refl }
+opening_is_reading image budget journal =
+    record { within = omega arith; after = run.opening image; is_run = refl; output = refl }
 
 -- what holds of all readings of a list holds of those that stand in it
-all_stand : (P : Reading → Type 0) (told : List Reading) (places : List ℕ) (seen : List Reading) → All P told → AllZip (IsAtPlace told) places seen → All P seen
+all_stand : (P : Reading → Type 0) (told : List Reading) (places : List ℕ) (seen : List Reading) → All P told
+    → AllZip (IsAtPlace told) places seen → All P seen
 all_stand P told [] [] all stand = All-nil P
 all_stand P told [] (x ∷ xs) all stand = absurd stand
 all_stand P told (p ∷ ps) [] all stand = absurd stand

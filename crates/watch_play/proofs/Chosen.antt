@@ -21,7 +21,8 @@ use Rattle.watch_play.specs.Courses.{IsAskedInRound}
 
 -- ---- the least idle task of a tile is one
 
-pub idle_is_one : (view : View) (tile k j : ℕ) (x y : Task) → IsLeastIdle view tile k x → IsLeastIdle view tile j y → j ≡ k
+pub idle_is_one : (view : View) (tile k j : ℕ) (x y : Task) → IsLeastIdle view tile k x → IsLeastIdle view tile j y
+    → j ≡ k
 idle_is_one view tile k j x y one two = elim (cases_eq j k) [
   | inl same ↦ same
   | inr other ↦ absurd (not_both_ways view tile k j x y one.idle.queued one.idle.there two.idle.queued two.idle.there

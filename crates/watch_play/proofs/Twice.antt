@@ -119,8 +119,10 @@ module _ (N : Type 0) (image : ImageValue) (course : Course) (opening other_open
       act_is = act_is;
       reply_is = same_reply;
       aborted_is = ap (λ (s : Said). s.aborted) said_is;
-      old = subst (λ b. AreSameBooks b m'.old) (sym is.old_is) (subst (AreSameBooks p.book) (sym is'.old_is) so_far.go.books);
-      new = subst (λ b. AreSameBooks b m'.new) (sym is.new_is) (subst (AreSameBooks p'.book) (sym is'.new_is) both.1.books);
+      old =
+          subst (λ b. AreSameBooks b m'.old) (sym is.old_is) (subst (AreSameBooks p.book) (sym is'.old_is) so_far.go.books);
+      new =
+          subst (λ b. AreSameBooks b m'.new) (sym is.new_is) (subst (AreSameBooks p'.book) (sym is'.new_is) both.1.books);
     }
 
   -- one act more of both

@@ -28,7 +28,10 @@ use Rattle.spec_state.specs.Queries.{IsIdle, IsLatestOnCore}
 use Rattle.spec_law.specs.Sound.{Sound}
 use Rattle.spec_state.specs.Tasks.{idle_again}
 use Rattle.spec_state.specs.Stored.{HasCore}
-use Rattle.spec_law.proofs.Proved.{abort_takes, cascade_is_later, dispatch_stays_sound, each_now, each_renumbered, holds_placed, holds_task, is_renumbered, makes_least, not_below_least, now, queued_at, renumbered_now, renumbered_to, same_order, spilled_was, upto_queued, upto_spilled, was_idle}
+use Rattle.spec_law.proofs.Proved.{abort_takes, cascade_is_later, dispatch_stays_sound, each_now, each_renumbered}
+use Rattle.spec_law.proofs.Proved.{holds_placed, holds_task, is_renumbered, makes_least, not_below_least, now}
+use Rattle.spec_law.proofs.Proved.{queued_at, renumbered_now, renumbered_to, same_order, spilled_was, upto_queued}
+use Rattle.spec_law.proofs.Proved.{upto_spilled, was_idle}
 use Rattle.event_def.specs.Events.{FreesCore}
 use Rattle.event_def.specs.Events as events
 use Rattle.event_law.proofs.Granted.{is_idle}
@@ -64,7 +67,8 @@ upto_again version a t low = by_order (key_cmp a t.key) refl low
 
     by_order : (o : Ordering) → key_cmp a t.key ≡ o → is_gt o ≡ false → IsUpto a (idle_again version t).key
     by_order Less is low = ap is_gt (below_reopened (levels a) (keyed_task t) is)
-    by_order Equal is low = subst (λ k. IsUpto k (idle_again version t).key) (sym ((equal_keys_tie a t.key).0 is)) (itself t.key.tb refl)
+    by_order Equal is low =
+        subst (λ k. IsUpto k (idle_again version t).key) (sym ((equal_keys_tie a t.key).0 is)) (itself t.key.tb refl)
     by_order Greater is low = absurd (cc (low))
 
 -- an idle task of the tile with this key, which is above no task's
@@ -97,7 +101,8 @@ module _ (image : ImageValue) (old : View) (sound : Sound image old) (tile id : 
       subst (λ (s : Status). HasCore s latest.of_kind.0) (ap (λ (t : Task). t.status) one ∙ idle) held.3
 
   -- and its cascade spares the least one
-  core_spares : (v : ℕ) (x : Task) (aborted : ℕ) (mid : View) → IsLatestOnCore old tile v x → (aborts : Aborts (OnlyNode v) old aborted mid) → is_marked aborts.marks id ≡ false
+  core_spares : (v : ℕ) (x : Task) (aborted : ℕ) (mid : View) → IsLatestOnCore old tile v x
+      → (aborts : Aborts (OnlyNode v) old aborted mid) → is_marked aborts.marks id ≡ false
   core_spares v x aborted mid latest aborts =
       false_from_ne_true (is_marked aborts.marks id)
       (λ marked.
@@ -114,9 +119,11 @@ module _ (image : ImageValue) (old : View) (sound : Sound image old) (tile id : 
       record {
         id = id;
         task = task;
-        idle = record { queued = (mid_sound.sizes.queued_are tile id).1 (task, at, there, tt); there = at; idle = idle };
+        idle =
+            record { queued = (mid_sound.sizes.queued_are tile id).1 (task, at, there, tt); there = at; idle = idle };
         key = refl;
-        queued = each_now aborts.marks old new (abort_takes (OnlyNode v) old aborted new aborts) (λ k t. IsUpto task.key t.key)
+        queued =
+            each_now aborts.marks old new (abort_takes (OnlyNode v) old aborted new aborts) (λ k t. IsUpto task.key t.key)
             (λ k t was out. least_is_low.queued k t was)
             (λ k t back. upto_again old.version task.key back.was (least_is_low.queued k back.was back.there));
         spilled = λ u p s got. least_is_low.spilled u p s
@@ -124,7 +131,8 @@ module _ (image : ImageValue) (old : View) (sound : Sound image old) (tile id : 
       }
 
 -- what the least task is not above, it is not above once all are renumbered
-renumbered_low : (mid ready : View) (r : Renumbers mid ready) (tile : ℕ) (low : Key) → IsLow mid tile low → (renumbered : Key) × IsLow (renumbered_to mid ready r) tile renumbered
+renumbered_low : (mid ready : View) (r : Renumbers mid ready) (tile : ℕ) (low : Key) → IsLow mid tile low
+    → (renumbered : Key) × IsLow (renumbered_to mid ready r) tile renumbered
 renumbered_low mid ready r tile low is =
     let upto : (key : Key) → HoldsKey r.table key → IsUpto low key → IsUpto (renumbered_key r.table is.task.key) (renumbered_key r.table key) =
     λ key holds before.
@@ -134,7 +142,12 @@ renumbered_low mid ready r tile low is =
       record {
         id = is.id;
         task = renumbered_task r.table is.task;
-        idle = record { queued = is.idle.queued; there = renumbered_now mid ready r is.id is.task is.idle.there; idle = is.idle.idle };
+        idle =
+            record {
+              queued = is.idle.queued;
+              there = renumbered_now mid ready r is.id is.task is.idle.there;
+              idle = is.idle.idle;
+            };
         key = refl;
         queued = each_renumbered mid ready r (λ k t. IsUpto (renumbered_key r.table is.task.key) t.key)
             (λ k w there. upto w.key (holds_task mid ready r k w there) (is.queued k w there));
@@ -146,7 +159,8 @@ renumbered_low mid ready r tile low is =
     )
 
 -- a dispatch number is freed, and the least task stays so
-ready_low : (mid ready : View) (tile : ℕ) (low : Key) → IsLow mid tile low → FreesNumber mid ready → (now : Key) × IsLow ready tile now
+ready_low : (mid ready : View) (tile : ℕ) (low : Key) → IsLow mid tile low → FreesNumber mid ready
+    → (now : Key) × IsLow ready tile now
 ready_low mid ready tile low is (has_free left) = (low, is)
 ready_low mid ready tile low is (renumbers new spent r) =
     subst (λ view. (now : Key) × IsLow view tile now) (sym (is_renumbered mid new r)) (renumbered_low mid new r tile low is)
@@ -198,7 +212,8 @@ module _ (image : ImageValue) (mid new : View) (sound : Sound image mid) (tile :
 -- where the least task is idle in a tile, and a core and a number are free for it, the task that is dispatched there is the least one
 pub dispatched_is_least : (image : ImageValue) (old mid ready new : View) (sound : Sound image old) (mid_sound : Sound image mid) (ready_sound : Sound image ready)
     → ready.next < DISPATCH_NUMBERS → (tile id : ℕ) (task : Task)
-    → IsLeastTask old id task → task.status ≡ Idle → task.tile ≡ tile → {aborted : ℕ} → FreesCore tile old aborted mid → FreesNumber mid ready
+    → IsLeastTask old id task → task.status ≡ Idle → task.tile ≡ tile → {aborted : ℕ} → FreesCore tile old aborted mid
+    → FreesNumber mid ready
     → (d : Dispatches tile ready new) → IsLeastTask new d.id (now ready new tile d)
 dispatched_is_least image old mid ready new sound mid_sound ready_sound left tile id task least idle there forced number d =
     let low = ready_low mid ready tile task.key (still_low image old sound tile id task least idle there forced mid_sound) number in

@@ -20,7 +20,8 @@ use Rattle.spec_state.specs.Changes.{TakesLeg, request_of, task_past_leg}
 use Rattle.spec_law.specs.RoomLaws.{AsksAsLeast, child_of}
 use Rattle.spec_law.specs.Sound.{Sound}
 use Rattle.spec_law.specs.Keeping.{AsksAt, IsLegOf}
-use Rattle.spec_law.proofs.Proved.{add_keeps_heir, adds, child_is_above, step_keeps_heir, steps_one, StepsOne, without_child}
+use Rattle.spec_law.proofs.Proved.{add_keeps_heir, adds, child_is_above, step_keeps_heir, steps_one, StepsOne}
+use Rattle.spec_law.proofs.Proved.{without_child}
 use Rattle.event_def.specs.Advancing.{HasRest, IsLeastLeg}
 use Rattle.event_def.specs.Book.{BookView, picked_tile}
 use Rattle.event_def.specs.End.{IsOver}
@@ -62,12 +63,17 @@ module _ (image : ImageValue) (book : BookView) (sound : Sound image book.view) 
       takes.runs.on.there is_busy made.forced in
       still_taken image book.view sound made.mid tile core id leg task follows there (record {
         takes = takes;
-        run = is_run image book.view.settings.budget book.view.settings.quantum leg next.runs_on.is_leg (context_of book.view.version task) (Enqueue spawn) asks_it tt;
+        run =
+            is_run image book.view.settings.budget book.view.settings.quantum leg next.runs_on.is_leg (context_of book.view.version task) (Enqueue spawn) asks_it tt;
       })
 
   -- and asks for the same
   at : AsksAt image made.mid tile core leg id task (Enqueue spawn)
-  at = record { is_leg = taken; asks = ap (λ v. request_at (context_of v task) leg.to leg.stop) (follows.now.version ∙ sym sound.version) ∙ asks_it }
+  at =
+      record {
+        is_leg = taken;
+        asks = ap (λ v. request_at (context_of v task) leg.to leg.stop) (follows.now.version ∙ sym sound.version) ∙ asks_it;
+      }
 
   -- the task, once it has made the child
   abbrev behind : Task
@@ -87,7 +93,8 @@ module _ (image : ImageValue) (book : BookView) (sound : Sound image book.view) 
       (room_leaves_heir image book.view sound id heir to made.forced)
 
   -- and below the child
-  child_above : (h : ℕ) (x : Task) → Some id ≡ Some h → task_at stepped h ≡ Some x → key_cmp x.key (child_of made.mid.version id task spawn to).key ≡ Less
+  child_above : (h : ℕ) (x : Task) → Some id ≡ Some h → task_at stepped h ≡ Some x
+      → key_cmp x.key (child_of made.mid.version id task spawn to).key ≡ Less
   child_above h x same at =
       let id_is : id ≡ h = cc in
       let both : Some x ≡ Some behind = sym at ∙ (ap (task_at stepped) (sym id_is) ∙ step.changes.changed) in

@@ -1,12 +1,14 @@
 -- Each event for the least task but its commit brings it nearer to that, or to the end of the run.
-use Rattle.std.proofs.Common.{ℕ, ◌+◌, ◌-◌, ◌≡◌, ◌≤◌, ◌<◌, List, Some, None, refl, sym, ap, subst, ◌∙◌, arith, false, inl, true, inr}
+use Rattle.std.proofs.Common.{ℕ, ◌+◌, ◌-◌, ◌≡◌, ◌≤◌, ◌<◌, List, Some, None, refl, sym, ap, subst, ◌∙◌, arith, false}
+use Rattle.std.proofs.Common.{inl, true, inr}
 use Rattle.guest_image.specs.ImageValue.{ImageValue}
 use Rattle.place_policy.specs.Policy.{Policy}
 use Rattle.rv_core.specs.LegValue.{LegValue}
 use Rattle.spec_state.specs.declared.task.Status.TheVariants.{Idle}
 use Rattle.spec_state.specs.declared.task.Task.{Task}
 use Rattle.task_request.specs.declared.request.Request.{Request}
-use Rattle.task_request.specs.declared.request.Request.TheVariants.{Continue, Load, Store, Enqueue, MakeSub, Emit, End, Trap}
+use Rattle.task_request.specs.declared.request.Request.TheVariants.{Continue, Load, Store, Enqueue, MakeSub, Emit, End}
+use Rattle.task_request.specs.declared.request.Request.TheVariants.{Trap}
 use Rattle.spec_state.specs.Changes.{request_of}
 use Rattle.spec_state.specs.View.{View}
 use Rattle.spec_state.specs.Least.{IsLeastTask, IsLeastSpilled}
@@ -25,7 +27,8 @@ use Rattle.event_def.specs.Causes.{IsGranted}
 use Rattle.event_def.specs.Happens.{Happens}
 use Rattle.event_law.specs.Laws.{AdvancesFall}
 use Rattle.event_law.proofs.Falls.Rest.{most_left, at_most, idle_at_least, spilled_at_least}
-use Rattle.event_law.proofs.Falls.Steps.{quantum_falls, trap_falls, load_falls, store_falls, sub_falls, byte_falls, end_falls}
+use Rattle.event_law.proofs.Falls.Steps.{quantum_falls, trap_falls, load_falls, store_falls, sub_falls, byte_falls}
+use Rattle.event_law.proofs.Falls.Steps.{end_falls}
 use Rattle.event_law.proofs.Falls.Enqueue.{enqueue_falls}
 use Rattle.event_law.proofs.Falls.Spilled.{room_leaves_spilled}
 use Rattle.event_law.proofs.Keeps.Events.{spilled_no_heir, spilled_asks}
@@ -34,7 +37,8 @@ use Rattle.event_law.proofs.Keeps.Dispatch.{core_follows, number_follows}
 use Rattle.event_law.proofs.Falls.Dispatch.{dispatched_is_least}
 
 -- a split of the least spilled task
-split_falls : (image : ImageValue) (old : View) (sound : Sound image old) (tile aborted : ℕ) (new : View) → (IsOver old → ⊥) → IsLeastSpilled old tile
+split_falls : (image : ImageValue) (old : View) (sound : Sound image old) (tile aborted : ℕ) (new : View)
+    → (IsOver old → ⊥) → IsLeastSpilled old tile
     → SplitEvent tile old aborted new → (before after : ℕ) → HasRest old before → HasRest new after → after < before
 split_falls image old sound tile aborted new goes_on least made before after had has =
     let follows = room_follows image tile Splitter old sound (λ l. ap asker_of (sym (spilled_no_heir old tile sound.heir l sound.is_heir))) (spilled_asks old tile) made.forced in
@@ -50,9 +54,12 @@ split_falls image old sound tile aborted new goes_on least made before after had
     omega (arith, most, same, least_before)
 
 -- a dispatch of the least task
-dispatch_falls : (N : Type 0) (image : ImageValue) (book : BookView) (sound : Sound image book.view) (tile aborted : ℕ) (new : View) → (IsOver book.view → ⊥)
-    → (id : ℕ) (task : Task) → IsLeastTask book.view id task → task.status ≡ Idle → task.tile ≡ tile → IsGranted {N = N} book (event.Dispatch tile)
-    → DispatchEvent tile book.view aborted new → (before after : ℕ) → HasRest book.view before → HasRest new after → after < before
+dispatch_falls : (N : Type 0) (image : ImageValue) (book : BookView) (sound : Sound image book.view) (tile aborted : ℕ) (new : View)
+    → (IsOver book.view → ⊥)
+    → (id : ℕ) (task : Task) → IsLeastTask book.view id task → task.status ≡ Idle → task.tile ≡ tile
+    → IsGranted {N = N} book (event.Dispatch tile)
+    → DispatchEvent tile book.view aborted new → (before after : ℕ) → HasRest book.view before → HasRest new after
+    → after < before
 dispatch_falls N image book sound tile aborted new goes_on id task least idle there granted made before after had has =
     let follows = core_follows N image book sound tile granted made.forced in
     let ready = number_follows image book.view made.mid made.ready follows made.number in
@@ -68,19 +75,29 @@ module _ (image : ImageValue) (book : BookView) (sound : Sound image book.view) 
   step_falls : StepEvent tile core leg book aborted new placers → after < before
   step_falls step = by_request (request_of book.view step.task leg) refl step.comes
     where
-      by_request : (request : Request) → request_of book.view step.task leg ≡ request → ComesTo tile core leg step.id step.task request book aborted new placers → after < before
-      by_request Continue asks made = quantum_falls image book.view sound tile core leg next goes_on before had new after has step.id step.task step.takes asks made.0
-      by_request (Load width rd offset) asks made = load_falls image book.view sound tile core leg next goes_on before had new after has step.id step.task step.takes width rd offset asks aborted made.0
-      by_request (Store offset bytes value) asks made = store_falls image book.view sound tile core leg next goes_on before had new after has step.id step.task step.takes offset bytes value asks aborted made.0
-      by_request (Enqueue spawn) asks made = enqueue_falls image book sound tile core leg next goes_on before had new after has step.id step.task step.takes spawn asks aborted placers made
-      by_request (MakeSub kind) asks made = sub_falls image book.view sound tile core leg next goes_on before had new after has step.id step.task step.takes kind asks made.0
-      by_request (Emit byte) asks made = byte_falls image book.view sound tile core leg next goes_on before had new after has step.id step.task step.takes byte asks made.0
-      by_request End asks made = end_falls image book.view sound tile core leg next goes_on before had new after has step.id step.task step.takes aborted made.0
-      by_request (Trap cause) asks made = trap_falls image book.view sound tile core leg next goes_on before had new after has step.id step.task step.takes cause made.0
+      by_request : (request : Request) → request_of book.view step.task leg ≡ request
+          → ComesTo tile core leg step.id step.task request book aborted new placers → after < before
+      by_request Continue asks made =
+          quantum_falls image book.view sound tile core leg next goes_on before had new after has step.id step.task step.takes asks made.0
+      by_request (Load width rd offset) asks made =
+          load_falls image book.view sound tile core leg next goes_on before had new after has step.id step.task step.takes width rd offset asks aborted made.0
+      by_request (Store offset bytes value) asks made =
+          store_falls image book.view sound tile core leg next goes_on before had new after has step.id step.task step.takes offset bytes value asks aborted made.0
+      by_request (Enqueue spawn) asks made =
+          enqueue_falls image book sound tile core leg next goes_on before had new after has step.id step.task step.takes spawn asks aborted placers made
+      by_request (MakeSub kind) asks made =
+          sub_falls image book.view sound tile core leg next goes_on before had new after has step.id step.task step.takes kind asks made.0
+      by_request (Emit byte) asks made =
+          byte_falls image book.view sound tile core leg next goes_on before had new after has step.id step.task step.takes byte asks made.0
+      by_request End asks made =
+          end_falls image book.view sound tile core leg next goes_on before had new after has step.id step.task step.takes aborted made.0
+      by_request (Trap cause) asks made =
+          trap_falls image book.view sound tile core leg next goes_on before had new after has step.id step.task step.takes cause made.0
 
 module _ (N : Type 0) (image : ImageValue) (old new : BookView) (aborted before after : ℕ) (sound : Sound image old.view) (had : HasRest old.view before) (has : HasRest new.view after) where
   -- by the event
-  event_falls : (event : Event N) → IsNextEvent image old.view event → IsNoCommit event → Happens old event reply.Ok aborted new → after < before
+  event_falls : (event : Event N) → IsNextEvent image old.view event → IsNoCommit event
+      → Happens old event reply.Ok aborted new → after < before
   event_falls (event.Dispatch tile) next no_commit happens =
       let least = next.least in
       dispatch_falls N image old sound tile aborted new.view next.goes_on least.0 least.1 least.2 least.3 least.4 happens.granted happens.makes.0 before after had has

@@ -10,9 +10,12 @@ use Rattle.spec_state.specs.View.{View, task_at}
 use Rattle.spec_state.specs.Aborts.{Aborts, OnlyNode}
 use Rattle.spec_state.specs.Least.{IsHeir}
 use Rattle.spec_state.specs.Queries.{Conflicts, IsLater}
-use Rattle.spec_state.specs.Room.{Enqueuer, Coalesces, MakesRoom, queue_has_room, coalesces, aborts_victim, aborts_creator}
+use Rattle.spec_state.specs.Room.{Enqueuer, Coalesces, MakesRoom, queue_has_room, coalesces, aborts_victim}
+use Rattle.spec_state.specs.Room.{aborts_creator}
 use Rattle.spec_law.specs.Sound.{Sound}
-use Rattle.spec_law.proofs.Proved.{abort_keeps_heir, abort_of_one_is_sound, abort_takes, cascade_spares_heir, coalesce_moves, coalesce_sizes, conflicts_spare_heir, heirs_are_one, moved_heir, victim_is_later}
+use Rattle.spec_law.proofs.Proved.{abort_keeps_heir, abort_of_one_is_sound, abort_takes, cascade_spares_heir}
+use Rattle.spec_law.proofs.Proved.{coalesce_moves, coalesce_sizes, conflicts_spare_heir, heirs_are_one, moved_heir}
+use Rattle.spec_law.proofs.Proved.{victim_is_later}
 use Rattle.event_def.specs.Events.{FreesCommit}
 use Rattle.event_def.specs.Events as events
 use Rattle.event_law.proofs.Keeps.Forced.{spared_stays}
@@ -30,14 +33,16 @@ module _ (image : ImageValue) (old : View) (sound : Sound image old) (id : ℕ) 
       other same
 
   -- an abort of another task leaves it as it was
-  pub abort_leaves_it : (first : ℕ) (task : Task) (aborted : ℕ) (mid : View) → task_at old first ≡ Some task → first ≢ id → Aborts (OnlyNode first) old aborted mid
+  pub abort_leaves_it : (first : ℕ) (task : Task) (aborted : ℕ) (mid : View) → task_at old first ≡ Some task
+      → first ≢ id → Aborts (OnlyNode first) old aborted mid
       → task_at mid id ≡ task_at old id
   abort_leaves_it first task aborted mid there other aborts =
       spared_stays (OnlyNode first) old mid aborted id aborts
       (cascade_spares_heir image old first task aborts.marks sound there (other_heir first other) aborts.cascade id the_heir)
 
   -- and the heir
-  pub abort_leaves_heir : (first : ℕ) (task : Task) (aborted : ℕ) (mid : View) → task_at old first ≡ Some task → first ≢ id → Aborts (OnlyNode first) old aborted mid
+  pub abort_leaves_heir : (first : ℕ) (task : Task) (aborted : ℕ) (mid : View) → task_at old first ≡ Some task
+      → first ≢ id → Aborts (OnlyNode first) old aborted mid
       → IsHeir mid (Some id)
   abort_leaves_heir first task aborted mid there other aborts =
       subst (IsHeir mid) the_heir
@@ -45,14 +50,16 @@ module _ (image : ImageValue) (old : View) (sound : Sound image old) (id : ℕ) 
       (cascade_spares_heir image old first task aborts.marks sound there (other_heir first other) aborts.cascade) sound.order sound.sizes sound.is_heir)
 
   -- one of all that conflict with an access leaves it as it was
-  pub conflicts_leave_it : (taker line : ℕ) (task : Task) (write : Bool) (aborted : ℕ) (mid : View) → task_at old taker ≡ Some task
+  pub conflicts_leave_it : (taker line : ℕ) (task : Task) (write : Bool) (aborted : ℕ) (mid : View)
+      → task_at old taker ≡ Some task
       → Aborts (Conflicts old task line write) old aborted mid → task_at mid id ≡ task_at old id
   conflicts_leave_it taker line task write aborted mid there aborts =
       spared_stays (Conflicts old task line write) old mid aborted id aborts
       (conflicts_spare_heir image old taker line task write aborts.marks sound there aborts.cascade id the_heir)
 
   -- and the heir
-  pub conflicts_leave_heir : (taker line : ℕ) (task : Task) (write : Bool) (aborted : ℕ) (mid : View) → task_at old taker ≡ Some task
+  pub conflicts_leave_heir : (taker line : ℕ) (task : Task) (write : Bool) (aborted : ℕ) (mid : View)
+      → task_at old taker ≡ Some task
       → Aborts (Conflicts old task line write) old aborted mid → IsHeir mid (Some id)
   conflicts_leave_heir taker line task write aborted mid there aborts =
       subst (IsHeir mid) the_heir
@@ -69,7 +76,8 @@ module _ (image : ImageValue) (old : View) (sound : Sound image old) (id : ℕ) 
 
 module _ (image : ImageValue) (old : View) (sound : Sound image old) (id : ℕ) (is : IsHeir old (Some id)) where
   -- making room for it leaves it the heir
-  pub room_leaves_heir : (tile : ℕ) {aborted : ℕ} {mid : View} → MakesRoom tile (Enqueuer id) old aborted mid → IsHeir mid (Some id)
+  pub room_leaves_heir : (tile : ℕ) {aborted : ℕ} {mid : View} → MakesRoom tile (Enqueuer id) old aborted mid
+      → IsHeir mid (Some id)
   room_leaves_heir tile (queue_has_room free) = is
   room_leaves_heir tile (coalesces new full moves) = coalesce_leaves_heir image old sound id is tile new moves
   room_leaves_heir tile (aborts_victim aborted v x mid new full none least victim firm aborts moves) =
@@ -90,19 +98,24 @@ module _ (image : ImageValue) (old : View) (sound : Sound image old) (id : ℕ) 
       absurd (cc (itself, tied_itself key_cmp_total task.key))
 
   -- freeing a place of the commit queue for it leaves it the heir
-  pub commit_leaves_heir : (tile : ℕ) (task : Task) → task_at old id ≡ Some task → {aborted : ℕ} {mid : View} → FreesCommit tile task old aborted mid → IsHeir mid (Some id)
+  pub commit_leaves_heir : (tile : ℕ) (task : Task) → task_at old id ≡ Some task → {aborted : ℕ} {mid : View}
+      → FreesCommit tile task old aborted mid → IsHeir mid (Some id)
   commit_leaves_heir tile task there (events.has_free free) = is
   commit_leaves_heir tile task there (events.aborts_latest aborted v x new full latest later aborts) =
       abort_leaves_heir image old sound id is v x aborted new later.there (later_is_other task there v x later) aborts
 
   -- and as it was
-  pub commit_leaves_it : (tile : ℕ) (task : Task) → task_at old id ≡ Some task → {aborted : ℕ} {mid : View} → FreesCommit tile task old aborted mid
+  pub commit_leaves_it : (tile : ℕ) (task : Task) → task_at old id ≡ Some task → {aborted : ℕ} {mid : View}
+      → FreesCommit tile task old aborted mid
       → task_at mid id ≡ Some task
   commit_leaves_it tile task there (events.has_free free) = there
   commit_leaves_it tile task there (events.aborts_latest aborted v x new full latest later aborts) =
-      abort_leaves_it image old sound id is v x aborted new later.there (later_is_other task there v x later) aborts ∙ there
+      abort_leaves_it image old sound id is v x aborted new later.there (later_is_other task there v x later) aborts
+      ∙ there
 
   -- which leaves the settings
-  pub commit_settings : (tile : ℕ) (task : Task) {aborted : ℕ} {mid : View} → FreesCommit tile task old aborted mid → mid.settings ≡ old.settings
+  pub commit_settings : (tile : ℕ) (task : Task) {aborted : ℕ} {mid : View} → FreesCommit tile task old aborted mid
+      → mid.settings ≡ old.settings
   commit_settings tile task (events.has_free free) = refl
-  commit_settings tile task (events.aborts_latest aborted v x new full latest later aborts) = ap (λ view. view.settings) aborts.frame
+  commit_settings tile task (events.aborts_latest aborted v x new full latest later aborts) =
+      ap (λ view. view.settings) aborts.frame

@@ -21,7 +21,8 @@ IsExecuted (Trap cause) = ⊥
 IsExecuted other = Unit {0}
 
 -- plain instructions, one at least, begin within the budget
-begins_within : (image : ImageValue) (size budget n : ℕ) (from to : Core) → PlainInstructions image size budget n from to → 1 ≤ n → from.used < budget
+begins_within : (image : ImageValue) (size budget n : ℕ) (from to : Core)
+    → PlainInstructions image size budget n from to → 1 ≤ n → from.used < budget
 begins_within image size budget zero from to run some = absurd (omega (arith, some))
 begins_within image size budget (suc n) from to run some =
     let counted = PlainInstructions-counted image size budget n from run.0 run.1 in
@@ -77,7 +78,8 @@ module _ (image : ImageValue) (budget quantum : ℕ) (leg : LegValue) (is : IsLe
     }
 
     -- and one more instruction leads further
-    pub ask_leads_on : (after : Core) → after.used ≡ leg.to.used + 1 → budget - after.used + 2 < budget - leg.from.used + 2
+    pub ask_leads_on : (after : Core) → after.used ≡ leg.to.used + 1
+        → budget - after.used + 2 < budget - leg.from.used + 2
     ask_leads_on after counts =
         let within = ends_within in
         let count = counted in

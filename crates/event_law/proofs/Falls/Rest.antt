@@ -35,7 +35,8 @@ not_both view id tile task least spilled =
 
 module _ (view : View) (id : ℕ) (task : Task) (least : IsLeastTask view id task) where
   -- no standing of the view leaves more than the least task's status says
-  by_standing : (stands : Standing) → StandsSo view stands → rest_of_way view.settings.budget stands ≤ most_left view.settings.budget task.status task.core.used
+  by_standing : (stands : Standing) → StandsSo view stands
+      → rest_of_way view.settings.budget stands ≤ most_left view.settings.budget task.status task.core.used
   by_standing standing.Over so = some_left view.settings.budget task.core.used task.status
   by_standing standing.Finished so =
       let same = one_least view (least_is_one view) so.1 id so.2 task so.3 least in
@@ -54,10 +55,12 @@ module _ (view : View) (id : ℕ) (task : Task) (least : IsLeastTask view id tas
 
   -- no more is left than the least task's status says
   pub at_most : (left : ℕ) → HasRest view left → left ≤ most_left view.settings.budget task.status task.core.used
-  at_most left has = subst (λ n. n ≤ most_left view.settings.budget task.status task.core.used) (sym has.left_is) (by_standing has.stands has.stands_so)
+  at_most left has =
+      subst (λ n. n ≤ most_left view.settings.budget task.status task.core.used) (sym has.left_is) (by_standing has.stands has.stands_so)
 
   -- where the run isn't over and the least task is idle, that many are left
-  idle_left : (IsOver view → ⊥) → task.status ≡ Idle → (stands : Standing) → StandsSo view stands → view.settings.budget + 3 ≤ rest_of_way view.settings.budget stands
+  idle_left : (IsOver view → ⊥) → task.status ≡ Idle → (stands : Standing) → StandsSo view stands
+      → view.settings.budget + 3 ≤ rest_of_way view.settings.budget stands
   idle_left goes_on idle standing.Over so = absurd (goes_on so)
   idle_left goes_on idle standing.Finished so =
       let same = one_least view (least_is_one view) so.1 id so.2 task so.3 least in
@@ -70,11 +73,14 @@ module _ (view : View) (id : ℕ) (task : Task) (least : IsLeastTask view id tas
   idle_left goes_on idle standing.Idle so = omega arith
   idle_left goes_on idle standing.Spilled so = absurd (not_both view id so.1 task least so.2)
 
-  pub idle_at_least : (IsOver view → ⊥) → task.status ≡ Idle → (left : ℕ) → HasRest view left → view.settings.budget + 3 ≤ left
-  idle_at_least goes_on idle left has = subst (λ n. view.settings.budget + 3 ≤ n) (sym has.left_is) (idle_left goes_on idle has.stands has.stands_so)
+  pub idle_at_least : (IsOver view → ⊥) → task.status ≡ Idle → (left : ℕ) → HasRest view left
+      → view.settings.budget + 3 ≤ left
+  idle_at_least goes_on idle left has =
+      subst (λ n. view.settings.budget + 3 ≤ n) (sym has.left_is) (idle_left goes_on idle has.stands has.stands_so)
 
   -- and so where it runs
-  running_left : (core : ℕ) → (IsOver view → ⊥) → task.status ≡ Running core → (stands : Standing) → StandsSo view stands
+  running_left : (core : ℕ) → (IsOver view → ⊥) → task.status ≡ Running core → (stands : Standing)
+      → StandsSo view stands
       → view.settings.budget - task.core.used + 2 ≤ rest_of_way view.settings.budget stands
   running_left core goes_on runs standing.Over so = absurd (goes_on so)
   running_left core goes_on runs standing.Finished so =
@@ -98,7 +104,8 @@ module _ (view : View) (id : ℕ) (task : Task) (least : IsLeastTask view id tas
 
 module _ (view : View) (tile : ℕ) (spilled : IsLeastSpilled view tile) where
   -- where the run isn't over and the least task is spilled, at least the budget and 4 are left
-  spilled_left : (IsOver view → ⊥) → (stands : Standing) → StandsSo view stands → view.settings.budget + 4 ≤ rest_of_way view.settings.budget stands
+  spilled_left : (IsOver view → ⊥) → (stands : Standing) → StandsSo view stands
+      → view.settings.budget + 4 ≤ rest_of_way view.settings.budget stands
   spilled_left goes_on standing.Over so = absurd (goes_on so)
   spilled_left goes_on standing.Finished so = absurd (not_both view so.1 tile so.2 so.3 spilled)
   spilled_left goes_on (standing.Running used) so = absurd (not_both view so.1 tile so.2 so.4 spilled)
@@ -106,4 +113,5 @@ module _ (view : View) (tile : ℕ) (spilled : IsLeastSpilled view tile) where
   spilled_left goes_on standing.Spilled so = omega arith
 
   pub spilled_at_least : (IsOver view → ⊥) → (left : ℕ) → HasRest view left → view.settings.budget + 4 ≤ left
-  spilled_at_least goes_on left has = subst (λ n. view.settings.budget + 4 ≤ n) (sym has.left_is) (spilled_left goes_on has.stands has.stands_so)
+  spilled_at_least goes_on left has =
+      subst (λ n. view.settings.budget + 4 ≤ n) (sym has.left_is) (spilled_left goes_on has.stands has.stands_so)

@@ -1,5 +1,6 @@
 -- What makes room for the least spilled task leaves it the least one.
-use Rattle.std.proofs.Common.{ℕ, zero, suc, ◌≡◌, ◌≢◌, ◌⊎◌, inl, inr, List, [], ◌∷◌, Some, refl, sym, ap, subst, ◌∙◌, arith}
+use Rattle.std.proofs.Common.{ℕ, zero, suc, ◌≡◌, ◌≢◌, ◌⊎◌, inl, inr, List, [], ◌∷◌, Some, refl, sym, ap, subst, ◌∙◌}
+use Rattle.std.proofs.Common.{arith}
 use Rattle.std.specs.Prelude.{Contains, slice_get, slice_index_or}
 use Rattle.std.specs.List.{AllZip}
 use Rattle.std.proofs.lemmas.Bool.{cases_eq}
@@ -20,9 +21,11 @@ use Rattle.spec_state.specs.View.{View, task_at, block_at}
 use Rattle.spec_state.specs.Aborts.{Aborts, OnlyNode}
 use Rattle.spec_state.specs.Groups.{keyed_task}
 use Rattle.spec_state.specs.Least.{Spot, Queued, Spilled_at, HasKey, IsLeastSpilled, place_cmp, spot_cmp, ranked_cmp}
-use Rattle.spec_state.specs.Room.{Splitter, Coalesces, IsSpilledAs, MakesRoom, queue_has_room, coalesces, aborts_victim, aborts_creator}
+use Rattle.spec_state.specs.Room.{Splitter, Coalesces, IsSpilledAs, MakesRoom, queue_has_room, coalesces, aborts_victim}
+use Rattle.spec_state.specs.Room.{aborts_creator}
 use Rattle.spec_law.specs.Sound.{Sound, SoundSizes}
-use Rattle.spec_law.proofs.Proved.{abort_of_one_is_sound, abort_takes, added_stands, each_now, inside, pushes_each, queued_at, queued_was, StandsAt}
+use Rattle.spec_law.proofs.Proved.{abort_of_one_is_sound, abort_takes, added_stands, each_now, inside, pushes_each}
+use Rattle.spec_law.proofs.Proved.{queued_at, queued_was, StandsAt}
 use Rattle.event_law.proofs.Keeps.Events.{spilled_no_heir}
 
 -- of two tiles one comes first, whatever the places
@@ -35,11 +38,13 @@ tiles_decide tile u p q r s other = by_case (nat_cmp tile u) refl
     by_case Greater is = refl
 
 -- each of the spilled tasks is a task of the view as it is spilled, under some id
-spilled_under : (view : View) (ids : List ℕ) (moved : List Spilled) → AllZip (IsSpilledAs view) ids moved → (s : Spilled) → Contains moved s → (id : ℕ) × IsSpilledAs view id s
+spilled_under : (view : View) (ids : List ℕ) (moved : List Spilled) → AllZip (IsSpilledAs view) ids moved
+    → (s : Spilled) → Contains moved s → (id : ℕ) × IsSpilledAs view id s
 spilled_under view ids [] zip s has = absurd (omega (arith, has.1))
 spilled_under view [] (e ∷ moved) zip s has = absurd zip
 spilled_under view (k ∷ ids) (e ∷ moved) zip s (zero, below, at) = (k, subst (IsSpilledAs view k) at zip.0)
-spilled_under view (k ∷ ids) (e ∷ moved) zip s (suc i, below, at) = spilled_under view ids moved zip.1 s (i, omega (arith, below), at)
+spilled_under view (k ∷ ids) (e ∷ moved) zip s (suc i, below, at) =
+    spilled_under view ids moved zip.1 s (i, omega (arith, below), at)
 
 module _ (old new : View) (tile : ℕ) (least : IsLeastSpilled old tile) (sizes : SoundSizes old) where
   -- the least key
@@ -64,9 +69,13 @@ module _ (old new : View) (tile : ℕ) (least : IsLeastSpilled old tile) (sizes 
       → ((u p : ℕ) (e : Spilled) → slice_get (block_at new u) p ≡ Some e → WasOrAbove to u p e)
       → IsLeastSpilled new tile
   stays_least to stays queued spilled =
-      record { place = to; least = record { key = low; has = (least.least.has.0, stays, least.least.has.2); least = by_spot } }
+      record {
+        place = to;
+        least = record { key = low; has = (least.least.has.0, stays, least.least.has.2); least = by_spot };
+      }
     where
-      by_spot : (other : Spot) (key : Key) → HasKey new other key → ranked_cmp least.least.key (Spilled_at tile to) key other ≢ Greater
+      by_spot : (other : Spot) (key : Key) → HasKey new other key
+          → ranked_cmp least.least.key (Spilled_at tile to) key other ≢ Greater
       by_spot (Queued u p) key has = λ greater.
           (let less : key_cmp low key ≡ Less = ap (key_cmp low) has.3 ∙ queued has.0 has.1 has.2.there in
           absurd (cc (sym (ap (λ o. ordering_then o (spot_cmp (Spilled_at tile to) (Queued u p))) less) ∙ greater)))
@@ -88,7 +97,8 @@ module _ (old new : View) (tile : ℕ) (least : IsLeastSpilled old tile) (sizes 
       (λ u p e at. inl (p, subst (λ blocks. slice_get (slice_index_or blocks u []) p ≡ Some e) (ap (λ view. view.blocks) aborts.frame) at, refl))
     where
       same : (u p : ℕ) (e : Spilled) → slice_get (block_at old u) p ≡ Some e → slice_get (block_at new u) p ≡ Some e
-      same u p e at = subst (λ blocks. slice_get (slice_index_or blocks u []) p ≡ Some e) (sym (ap (λ view. view.blocks) aborts.frame)) at
+      same u p e at =
+          subst (λ blocks. slice_get (slice_index_or blocks u []) p ≡ Some e) (sym (ap (λ view. view.blocks) aborts.frame)) at
 
   -- so does a coalescing of its tile
   coalesce_leaves : (image : ImageValue) (sound : Sound image old) → Coalesces tile old new → IsLeastSpilled new tile
@@ -103,7 +113,8 @@ module _ (old new : View) (tile : ℕ) (least : IsLeastSpilled old tile) (sizes 
 
       block_kept : (u : ℕ) → u ≢ tile → block_at new u ≡ block_at old u
       block_kept u other =
-          ap (λ blocks. slice_index_or blocks u []) c.blocks ∙ get_or-set_other old.blocks tile u (after_pushes (block_at old tile) c.moved) [] other
+          ap (λ blocks. slice_index_or blocks u []) c.blocks
+          ∙ get_or-set_other old.blocks tile u (after_pushes (block_at old tile) c.moved) [] other
 
       stands : StandsAt c.moved (block_at old tile) (after_pushes (block_at old tile) c.moved) least.place least.least.has.0
       stands =
@@ -128,10 +139,12 @@ module _ (old new : View) (tile : ℕ) (least : IsLeastSpilled old tile) (sizes 
       ]
 
 -- whatever makes room for the least spilled task leaves it the least one
-pub room_leaves_spilled : (image : ImageValue) (old : View) (sound : Sound image old) (tile : ℕ) → IsLeastSpilled old tile → {aborted : ℕ} {mid : View}
+pub room_leaves_spilled : (image : ImageValue) (old : View) (sound : Sound image old) (tile : ℕ)
+    → IsLeastSpilled old tile → {aborted : ℕ} {mid : View}
     → MakesRoom tile Splitter old aborted mid → IsLeastSpilled mid tile
 room_leaves_spilled image old sound tile least (queue_has_room free) = least
-room_leaves_spilled image old sound tile least (coalesces new full moves) = coalesce_leaves old new tile least sound.sizes image sound moves
+room_leaves_spilled image old sound tile least (coalesces new full moves) =
+    coalesce_leaves old new tile least sound.sizes image sound moves
 room_leaves_spilled image old sound tile least (aborts_victim aborted v x mid new full none asks victim firm aborts moves) =
     let no_heir : sound.heir ≢ Some v = λ heir. absurd (cc (sym heir ∙ spilled_no_heir old tile sound.heir least sound.is_heir)) in
     let now = (abort_of_one_is_sound image v x old aborted mid sound victim.there no_heir aborts).0 in

@@ -1,5 +1,6 @@
 -- A step of the least task brings it nearer to its commit, or to the end of the run.
-use Rattle.std.proofs.Common.{ℕ, ◌+◌, ◌-◌, ◌/◌, ◌≡◌, ◌≤◌, ◌<◌, [], ◌∷◌, ◌++◌, Bool, true, false, Some, refl, sym, ap, subst, ◌∙◌, arith}
+use Rattle.std.proofs.Common.{ℕ, ◌+◌, ◌-◌, ◌/◌, ◌≡◌, ◌≤◌, ◌<◌, [], ◌∷◌, ◌++◌, Bool, true, false, Some, refl, sym, ap}
+use Rattle.std.proofs.Common.{subst, ◌∙◌, arith}
 use Rattle.guest_image.specs.ImageValue.{ImageValue}
 use Rattle.rv_core.specs.declared.state.Core.{Core}
 use Rattle.rv_core.specs.LegValue.{LegValue}
@@ -14,26 +15,30 @@ use Rattle.spec_state.specs.declared.task.Task.{Task}
 use Rattle.spec_state.specs.View.{View, task_at}
 use Rattle.spec_state.specs.Tasks.{is_dispatched, context_of}
 use Rattle.spec_state.specs.Least.{IsHeir, IsLeastTask}
-use Rattle.spec_state.specs.Changes.{TakesLeg, request_of, task_past_leg, Keeps, KeepsQuantum, KeepsTrap, MakesSub, Emits, Accesses, Finishes}
+use Rattle.spec_state.specs.Changes.{TakesLeg, request_of, task_past_leg, Keeps, KeepsQuantum, KeepsTrap, MakesSub}
+use Rattle.spec_state.specs.Changes.{Emits, Accesses, Finishes}
 use Rattle.spec_law.specs.Sound.{Sound}
 use Rattle.spec_law.proofs.Proved.{keeps_steps, step_keeps_heir, StepsOne, stepped_task}
 use Rattle.event_def.specs.Advancing.{HasRest, IsLeastLeg}
 use Rattle.event_def.specs.End.{IsOver}
 use Rattle.event_def.specs.Events.{TakesConflicts, LoadEvent, StoreEvent, EndEvent}
-use Rattle.event_law.proofs.Falls.Heir.{conflicts_leave_heir, conflicts_leave_it, commit_leaves_heir, commit_leaves_it, commit_settings}
+use Rattle.event_law.proofs.Falls.Heir.{conflicts_leave_heir, conflicts_leave_it, commit_leaves_heir, commit_leaves_it}
+use Rattle.event_law.proofs.Falls.Heir.{commit_settings}
 use Rattle.event_law.proofs.Falls.Legs.{IsExecuted, quantum_leads_on, ask_leads_on}
 use Rattle.event_law.proofs.Falls.Rest.{most_left, at_most, running_at_least}
 use Rattle.event_law.proofs.Granted.{taker_is, taken_is, least_runs}
 
 -- the heir, where it is this task now, is the least task
-pub heir_is_least : (view : View) (id : ℕ) (now : Task) → IsHeir view (Some id) → task_at view id ≡ Some now → IsLeastTask view id now
+pub heir_is_least : (view : View) (id : ℕ) (now : Task) → IsHeir view (Some id) → task_at view id ≡ Some now
+    → IsLeastTask view id now
 heir_is_least view id now is at =
     let both : Some is.0 ≡ Some now = sym is.1.queued_at.there ∙ at in
     let one : is.0 ≡ now = cc in
     subst (IsLeastTask view id) one is.1
 
 -- a load or a store is a step of one task
-access_steps : (mid new : View) (id : ℕ) (task : Task) (call : MemoryCall) (to : Core) → task_at mid id ≡ Some task → (does : Accesses id task call to mid new)
+access_steps : (mid new : View) (id : ℕ) (task : Task) (call : MemoryCall) (to : Core) → task_at mid id ≡ Some task
+    → (does : Accesses id task call to mid new)
     → StepsOne mid new id task (record task { core = to; log = task.log ++ access_of mid.memory call ∷ []; lines = does.lines })
 access_steps mid new id task call to there does = record {
   there = there;
@@ -47,12 +52,15 @@ access_steps mid new id task call to there does = record {
 }
 
 -- so is an end
-finish_steps : (mid new : View) (tile core id : ℕ) (task : Task) (leg : LegValue) → task_at mid id ≡ Some task → Finishes tile core id task leg mid new
+finish_steps : (mid new : View) (tile core id : ℕ) (task : Task) (leg : LegValue) → task_at mid id ≡ Some task
+    → Finishes tile core id task leg mid new
     → StepsOne mid new id task (record (task_past_leg task leg) { status = Finished })
 finish_steps mid new tile core id task leg there ends = record {
   there = there;
   changes = ends.changes;
-  rest = ends.frame ∙ (λ i. record mid { tasks = new.tasks; memory = ap (λ view. view.memory) (sym ends.frame) i; finished = new.finished; cores = new.cores });
+  rest =
+      ends.frame
+      ∙ (λ i. record mid { tasks = new.tasks; memory = ap (λ view. view.memory) (sym ends.frame) i; finished = new.finished; cores = new.cores });
 }
 
 module _ (image : ImageValue) (old : View) (sound : Sound image old) (tile core : ℕ) (leg : LegValue) (next : IsLeastLeg image old tile core leg) (goes_on : IsOver old → ⊥) (before : ℕ) (had : HasRest old before) where
@@ -78,7 +86,8 @@ module _ (image : ImageValue) (old : View) (sound : Sound image old) (tile core 
 
     module _ (new : View) (same : new.settings ≡ old.settings) (after : ℕ) (has : HasRest new after) (now : Task) (least : IsLeastTask new id now) where
       -- less is left where the task runs further on
-      pub runs_further : now.status ≡ Running core → old.settings.budget - now.core.used + 2 < old.settings.budget - leg.from.used + 2 → after < before
+      pub runs_further : now.status ≡ Running core
+          → old.settings.budget - now.core.used + 2 < old.settings.budget - leg.from.used + 2 → after < before
       runs_further runs further =
           let most : after ≤ old.settings.budget - now.core.used + 2 =
           subst (λ s. after ≤ s.budget - now.core.used + 2) same
@@ -94,7 +103,8 @@ module _ (image : ImageValue) (old : View) (sound : Sound image old) (tile core 
           omega (arith, most, first)
 
     -- a change of the task alone leaves it the least one
-    kept_least : (new : View) (behind : Task) → Keeps id (stepped_task task behind) old new → IsLeastTask new id (stepped_task task behind)
+    kept_least : (new : View) (behind : Task) → Keeps id (stepped_task task behind) old new
+        → IsLeastTask new id (stepped_task task behind)
     kept_least new behind keeps =
         heir_is_least new id (stepped_task task behind)
         (step_keeps_heir old new id task behind (keeps_steps old new id task behind takes.runs.on.there keeps) (Some id) taker_is_heir) keeps.changes.changed
@@ -115,22 +125,28 @@ module _ (image : ImageValue) (old : View) (sound : Sound image old) (tile core 
         runs_out id task takes new (ap (λ view. view.settings) change.frame) after has now (kept_least id task takes new now change) refl
 
     -- a subdomain or a byte
-    call_falls : (asked : Request) → request_of old task leg ≡ asked → IsExecuted asked → (behind : Task) → behind.status ≡ task.status → behind.core.used ≡ leg.to.used + 1
+    call_falls : (asked : Request) → request_of old task leg ≡ asked → IsExecuted asked → (behind : Task)
+        → behind.status ≡ task.status → behind.core.used ≡ leg.to.used + 1
         → Keeps id (stepped_task task behind) old new → after < before
     call_falls asked asks is_executed behind same counts change =
         runs_further id task takes new (ap (λ view. view.settings) change.frame) after has (stepped_task task behind)
         (kept_least id task takes new behind change) (same ∙ takes.runs.running)
         (ask_leads_on image old.settings.budget old.settings.quantum leg next.runs_on.is_leg (context_of old.version task) asked asks is_executed behind.core counts)
 
-    pub sub_falls : (kind : Kind) → request_of old task leg ≡ MakeSub kind → MakesSub id task leg kind old new → after < before
-    sub_falls kind asks change = call_falls (MakeSub kind) asks tt (record (task_past_leg task leg) { sub = Some kind }) refl refl change
+    pub sub_falls : (kind : Kind) → request_of old task leg ≡ MakeSub kind → MakesSub id task leg kind old new
+        → after < before
+    sub_falls kind asks change =
+        call_falls (MakeSub kind) asks tt (record (task_past_leg task leg) { sub = Some kind }) refl refl change
 
     pub byte_falls : (byte : ℕ) → request_of old task leg ≡ Emit byte → Emits id task leg byte old new → after < before
-    byte_falls byte asks change = call_falls (Emit byte) asks tt (record (task_past_leg task leg) { bytes = task.bytes ++ byte ∷ [] }) refl refl change
+    byte_falls byte asks change =
+        call_falls (Emit byte) asks tt (record (task_past_leg task leg) { bytes = task.bytes ++ byte ∷ [] }) refl refl change
 
     -- a load or a store
-    access_falls : (asked : Request) → request_of old task leg ≡ asked → IsExecuted asked → (offset : ℕ) (write : Bool) (aborted : ℕ) (mid : View)
-        → TakesConflicts task offset write old aborted mid → (call : MemoryCall) (to : Core) → to.used ≡ leg.to.used + 1 → Accesses id task call to mid new → after < before
+    access_falls : (asked : Request) → request_of old task leg ≡ asked → IsExecuted asked
+        → (offset : ℕ) (write : Bool) (aborted : ℕ) (mid : View)
+        → TakesConflicts task offset write old aborted mid → (call : MemoryCall) (to : Core) → to.used ≡ leg.to.used + 1
+        → Accesses id task call to mid new → after < before
     access_falls asked asks is_executed offset write aborted mid forced call to counts change =
         let line : ℕ = offset / old.settings.line in
         let was = takes.runs.on.there in
@@ -143,7 +159,8 @@ module _ (image : ImageValue) (old : View) (sound : Sound image old) (tile core 
         (heir_is_least new id now heir_now change.changes.changed) takes.runs.running
         (ask_leads_on image old.settings.budget old.settings.quantum leg next.runs_on.is_leg (context_of old.version task) asked asks is_executed to counts)
 
-    pub load_falls : (width : LoadWidth) (rd offset : ℕ) → request_of old task leg ≡ Load width rd offset → (aborted : ℕ)
+    pub load_falls : (width : LoadWidth) (rd offset : ℕ) → request_of old task leg ≡ Load width rd offset
+        → (aborted : ℕ)
         → LoadEvent tile core leg id task width rd offset old aborted new → after < before
     load_falls width rd offset asks aborted made =
         access_falls (Load width rd offset) asks tt offset false aborted made.mid made.forced _ _ refl made.change

@@ -1,5 +1,6 @@
 -- An enqueue that is granted leaves a sound view, and so does an end call.
-use Rattle.std.proofs.Common.{ℕ, ◌≡◌, ◌≢◌, ◌<◌, ◌≤◌, Bool, true, false, List, [], Some, refl, sym, ap, subst, ◌∙◌, arith}
+use Rattle.std.proofs.Common.{ℕ, ◌≡◌, ◌≢◌, ◌<◌, ◌≤◌, Bool, true, false, List, [], Some, refl, sym, ap, subst, ◌∙◌}
+use Rattle.std.proofs.Common.{arith}
 use Rattle.std.specs.Prelude.{length, filter, not, slice_index_or, Contains}
 use Rattle.std.specs.declared.cmp.Ordering.TheVariants.{Less}
 use Rattle.std.proofs.lemmas.Cmp.{tied_itself}
@@ -26,13 +27,15 @@ use Rattle.spec_state.specs.Aborts.{Aborts, OnlyNode, is_marked}
 use Rattle.spec_law.specs.RoomLaws.{AsksAsLeast}
 use Rattle.spec_state.specs.Changes.{TakesLeg, request_of}
 use Rattle.spec_law.specs.Sound.{Sound}
-use Rattle.spec_law.proofs.Proved.{abort_of_later_is_sound, cascade_is_later, end_stays_sound, enqueue_stays_sound, filter_leaves, list_mapped}
+use Rattle.spec_law.proofs.Proved.{abort_of_later_is_sound, cascade_is_later, end_stays_sound, enqueue_stays_sound}
+use Rattle.spec_law.proofs.Proved.{filter_leaves, list_mapped}
 use Rattle.event_def.specs.Book.{BookView, picked_tile}
 use Rattle.event_def.specs.Events.{EnqueueEvent, EndEvent, FreesCommit}
 use Rattle.event_def.specs.Events as events
 use Rattle.event_law.proofs.Lists.{at_each_place}
 use Rattle.event_law.proofs.Openings.Sized.{FitsQueue, none_fit}
-use Rattle.event_law.proofs.Keeps.Forced.{Follows, follows_itself, abort_follows, least_is_heir, running_is_dispatched, still_taken, spared_stays}
+use Rattle.event_law.proofs.Keeps.Forced.{Follows, follows_itself, abort_follows, least_is_heir, running_is_dispatched}
+use Rattle.event_law.proofs.Keeps.Forced.{still_taken, spared_stays}
 use Rattle.event_law.proofs.Keeps.Room.{room_follows, asker_is_there, room_is_free}
 
 -- a running task isn't idle
@@ -40,7 +43,8 @@ pub running_is_busy : (core : ℕ) (status : Status) → status ≡ Running core
 running_is_busy core status runs idle = (let no_way : Running core ≡ Idle = sym runs ∙ idle in absurd (cc (no_way)))
 
 -- a filter leaves fewer where one doesn't pass
-pub filter_fewer : (p : ℕ → Bool) (xs : List ℕ) (x : ℕ) → Contains xs x → not (p x) ≡ true → length (filter p xs) < length xs
+pub filter_fewer : (p : ℕ → Bool) (xs : List ℕ) (x : ℕ) → Contains xs x → not (p x) ≡ true
+    → length (filter p xs) < length xs
 filter_fewer p xs x has out =
     let both = length-filter_both p (λ k. not (p k)) (λ k. refl) xs in
     let left = filter_leaves (λ k. not (p k)) xs x has out in
@@ -61,10 +65,12 @@ module _ (image : ImageValue) (book : BookView) (sound : Sound image book.view) 
 
   -- and it is the heir
   is_heir : IsTheLeast book.view id → Enqueuer id ≡ asker_of sound.heir
-  is_heir least = ap asker_of (sym (least_is_heir image book.view sound id least.0 least.1 (least_runs least.0 least.1)))
+  is_heir least =
+      ap asker_of (sym (least_is_heir image book.view sound id least.0 least.1 (least_runs least.0 least.1)))
 
   -- an enqueue
-  pub enqueue_leads : (spawn : Spawn) → request_of book.view task leg ≡ Enqueue spawn → (aborted : ℕ) (new : View) (placers : List Policy)
+  pub enqueue_leads : (spawn : Spawn) → request_of book.view task leg ≡ Enqueue spawn
+      → (aborted : ℕ) (new : View) (placers : List Policy)
       → EnqueueEvent tile core leg id task spawn book aborted new placers → Follows image book.view new
   enqueue_leads spawn asks aborted new placers made =
       let to = picked_tile book spawn.hint in
@@ -76,7 +82,8 @@ module _ (image : ImageValue) (book : BookView) (sound : Sound image book.view) 
       let taken = still_taken image book.view sound made.mid tile core id leg task follows there (record { takes = takes; run = run }) in
       let inside = subst (λ s. to < s.tiles) (sym follows.settings) made.inside in
       record {
-        now = (enqueue_stays_sound image made.mid new follows.now tile core id to leg task spawn (record { is_leg = taken; asks = ap (λ v. request_at (context_of v task) leg.to leg.stop) (follows.now.version ∙ sym sound.version) ∙ asks }) inside free made.change).0;
+        now =
+            (enqueue_stays_sound image made.mid new follows.now tile core id to leg task spawn (record { is_leg = taken; asks = ap (λ v. request_at (context_of v task) leg.to leg.stop) (follows.now.version ∙ sym sound.version) ∙ asks }) inside free made.change).0;
         settings = ap (λ view. view.settings) made.change.frame ∙ follows.settings;
       }
 
@@ -89,14 +96,16 @@ module _ (image : ImageValue) (book : BookView) (sound : Sound image book.view) 
   not_below_itself less = absurd (cc (less, tied_itself key_cmp_total task.key))
 
   -- what is above a later task is another
-  above_is_other : (x y : Task) → key_cmp task.key x.key ≡ Less → task_at book.view id ≡ Some y → key_cmp x.key y.key ≡ Less → ⊥
+  above_is_other : (x y : Task) → key_cmp task.key x.key ≡ Less → task_at book.view id ≡ Some y
+      → key_cmp x.key y.key ≡ Less → ⊥
   above_is_other x y later at above =
       let both : Some y ≡ Some task = sym at ∙ there in
       let this : y ≡ task = cc in
       not_below_itself (key_cmp_total.trans task.key x.key task.key later (subst (λ (t : Task). key_cmp x.key t.key ≡ Less) this above))
 
   -- the cascade of a later task spares this one
-  later_spares : (v : ℕ) (x : Task) (aborted : ℕ) (mid : View) → IsLater book.view task v x → (aborts : Aborts (OnlyNode v) book.view aborted mid) → is_marked aborts.marks id ≡ false
+  later_spares : (v : ℕ) (x : Task) (aborted : ℕ) (mid : View) → IsLater book.view task v x
+      → (aborts : Aborts (OnlyNode v) book.view aborted mid) → is_marked aborts.marks id ≡ false
   later_spares v x aborted mid later aborts =
       false_from_ne_true (is_marked aborts.marks id)
       (λ marked.
@@ -108,7 +117,8 @@ module _ (image : ImageValue) (book : BookView) (sound : Sound image book.view) 
       above_is_other x above.0 later.later above.1 above.2)
 
   -- freeing a place of the commit queue leaves a sound view
-  commit_follows : {aborted : ℕ} {mid : View} → FreesCommit tile task book.view aborted mid → Follows image book.view mid
+  commit_follows : {aborted : ℕ} {mid : View} → FreesCommit tile task book.view aborted mid
+      → Follows image book.view mid
   commit_follows (events.has_free free) = follows_itself image book.view sound
   commit_follows (events.aborts_latest aborted v x new full latest later aborts) =
       abort_follows image (OnlyNode v) book.view new aborted aborts (abort_of_later_is_sound image id v task x book.view aborted new sound there later aborts).0
@@ -125,7 +135,8 @@ module _ (image : ImageValue) (book : BookView) (sound : Sound image book.view) 
       (at_each_place (FitsQueue book.view.settings.commit_queue) book.view.finished tile [] sound.sizes.commit_queues (none_fit book.view.settings.commit_queue)).0
 
   -- and the commit queue has a free place
-  commit_free : {aborted : ℕ} {mid : View} → FreesCommit tile task book.view aborted mid → length (finished_at mid tile) < mid.settings.commit_queue
+  commit_free : {aborted : ℕ} {mid : View} → FreesCommit tile task book.view aborted mid
+      → length (finished_at mid tile) < mid.settings.commit_queue
   commit_free (events.has_free free) = free
   commit_free (events.aborts_latest aborted v x new full latest later aborts) =
       let fits = finished_fit in
@@ -138,12 +149,14 @@ module _ (image : ImageValue) (book : BookView) (sound : Sound image book.view) 
       subst (λ s. length (finished_at new tile) < s.commit_queue) (sym (ap (λ view. view.settings) aborts.frame)) less
 
   -- an end call
-  pub end_leads : request_of book.view task leg ≡ End → (aborted : ℕ) (new : View) → EndEvent tile core leg id task book.view aborted new → Follows image book.view new
+  pub end_leads : request_of book.view task leg ≡ End → (aborted : ℕ) (new : View)
+      → EndEvent tile core leg id task book.view aborted new → Follows image book.view new
   end_leads asks aborted new made =
       let follows = commit_follows made.forced in
       let stays = ender_stays made.forced in
       let taken = still_taken image book.view sound made.mid tile core id leg task follows stays (record { takes = takes; run = run }) in
       record {
-        now = (end_stays_sound image made.mid new follows.now tile core id leg task (record { is_leg = taken; asks = ap (λ v. request_at (context_of v task) leg.to leg.stop) (follows.now.version ∙ sym sound.version) ∙ asks }) (commit_free made.forced) made.change).0;
+        now =
+            (end_stays_sound image made.mid new follows.now tile core id leg task (record { is_leg = taken; asks = ap (λ v. request_at (context_of v task) leg.to leg.stop) (follows.now.version ∙ sym sound.version) ∙ asks }) (commit_free made.forced) made.change).0;
         settings = ap (λ view. view.settings) made.change.frame ∙ follows.settings;
       }

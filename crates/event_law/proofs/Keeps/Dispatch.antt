@@ -11,7 +11,8 @@ use Rattle.spec_state.specs.Numbers.{FreesNumber, has_free, renumbers}
 use Rattle.spec_state.specs.Changes.{Commits}
 use Rattle.spec_law.specs.Sound.{Sound}
 use Rattle.spec_state.specs.Aborts.{OnlyNode}
-use Rattle.spec_law.proofs.Proved.{abort_of_one_is_sound, commit_is_sound_turn, dispatch_stays_sound, least_is_one, renumbering_leaves_numbers, renumbering_stays_sound}
+use Rattle.spec_law.proofs.Proved.{abort_of_one_is_sound, commit_is_sound_turn, dispatch_stays_sound, least_is_one}
+use Rattle.spec_law.proofs.Proved.{renumbering_leaves_numbers, renumbering_stays_sound}
 use Rattle.event_def.specs.declared.event.Event.TheVariants as event
 use Rattle.event_def.specs.declared.event.Reply.TheVariants as reply
 use Rattle.event_def.specs.Book.{BookView}
@@ -23,7 +24,8 @@ use Rattle.event_law.proofs.Keeps.Idle.{least_idle}
 use Rattle.event_law.proofs.Keeps.Forced.{Follows, follows_itself, abort_follows, heir_is, idle_is_open}
 
 -- freeing a dispatch number leaves a sound view, in which one is left
-pub number_follows : (image : ImageValue) (old mid ready : View) → Follows image old mid → FreesNumber mid ready → Follows image old ready × (ready.next < DISPATCH_NUMBERS)
+pub number_follows : (image : ImageValue) (old mid ready : View) → Follows image old mid → FreesNumber mid ready
+    → Follows image old ready × (ready.next < DISPATCH_NUMBERS)
 number_follows image old mid ready follows (has_free left) = (follows, left)
 number_follows image old mid ready follows (renumbers new spent r) = (
   record {
@@ -50,14 +52,16 @@ module _ (N : Type 0) (image : ImageValue) (book : BookView) (sound : Sound imag
       granted reply.Busy (record { held = held; id = low.0; task = low.1; idle = low.2; not_least = not_least }))
 
   -- freeing a core leaves a sound view
-  pub core_follows : IsGranted {N = N} book (event.Dispatch tile) → {aborted : ℕ} {mid : View} → FreesCore tile book.view aborted mid → Follows image book.view mid
+  pub core_follows : IsGranted {N = N} book (event.Dispatch tile) → {aborted : ℕ} {mid : View}
+      → FreesCore tile book.view aborted mid → Follows image book.view mid
   core_follows granted (events.has_free core free) = follows_itself image book.view sound
   core_follows granted (events.aborts_latest aborted v task new held latest aborts) =
       abort_follows image (OnlyNode v) book.view new aborted aborts
       (abort_of_one_is_sound image v task book.view aborted new sound latest.of_kind.1.there (no_heir granted held v) aborts).0
 
   -- a dispatch
-  pub dispatch_leads : (aborted : ℕ) (new : View) → IsGranted {N = N} book (event.Dispatch tile) → DispatchEvent tile book.view aborted new → Follows image book.view new
+  pub dispatch_leads : (aborted : ℕ) (new : View) → IsGranted {N = N} book (event.Dispatch tile)
+      → DispatchEvent tile book.view aborted new → Follows image book.view new
   dispatch_leads aborted new granted made =
       let ready = number_follows image book.view made.mid made.ready (core_follows granted made.forced) made.number in
       record {
@@ -66,7 +70,8 @@ module _ (N : Type 0) (image : ImageValue) (book : BookView) (sound : Sound imag
       }
 
   -- an abort
-  pub abort_leads : (aborted : ℕ) (new : View) → IsGranted {N = N} book (event.Abort tile) → AbortEvent tile book.view aborted new → Follows image book.view new
+  pub abort_leads : (aborted : ℕ) (new : View) → IsGranted {N = N} book (event.Abort tile)
+      → AbortEvent tile book.view aborted new → Follows image book.view new
   abort_leads aborted new granted made =
       abort_follows image (OnlyNode made.id) book.view new aborted made.aborts
       (abort_of_one_is_sound image made.id made.task book.view aborted new sound made.latest.of_kind.there
@@ -79,7 +84,8 @@ module _ (N : Type 0) (image : ImageValue) (book : BookView) (sound : Sound imag
 
 module _ (N : Type 0) (image : ImageValue) (book : BookView) (sound : Sound image book.view) where
   -- a commit that is granted is not at the limit
-  below_limit : (new : View) → IsGranted {N = N} book event.Commit → Commits book.view new → length book.view.history < book.view.settings.commits
+  below_limit : (new : View) → IsGranted {N = N} book event.Commit → Commits book.view new
+      → length book.view.history < book.view.settings.commits
   below_limit new granted commit =
       let few = sound.tasks.few in
       let apart : length book.view.history ≢ book.view.settings.commits =
@@ -87,7 +93,8 @@ module _ (N : Type 0) (image : ImageValue) (book : BookView) (sound : Sound imag
       omega (arith, few, apart)
 
   -- a commit
-  pub commit_leads : (new : View) → IsGranted {N = N} book event.Commit → Commits book.view new → Follows image book.view new
+  pub commit_leads : (new : View) → IsGranted {N = N} book event.Commit → Commits book.view new
+      → Follows image book.view new
   commit_leads new granted commit = record {
     now = (commit_is_sound_turn image book.view new sound (below_limit new granted commit) commit).0;
     settings = ap (λ view. view.settings) commit.frame;

@@ -5,7 +5,8 @@ use Rattle.guest_image.specs.ImageValue.{ImageValue}
 use Rattle.place_policy.specs.Policy.{Policy}
 use Rattle.rv_core.specs.LegValue.{LegValue, IsLegOfImage}
 use Rattle.task_request.specs.declared.request.Request.{Request}
-use Rattle.task_request.specs.declared.request.Request.TheVariants.{Continue, Load, Store, Enqueue, MakeSub, Emit, End, Trap}
+use Rattle.task_request.specs.declared.request.Request.TheVariants.{Continue, Load, Store, Enqueue, MakeSub, Emit, End}
+use Rattle.task_request.specs.declared.request.Request.TheVariants.{Trap}
 use Rattle.spec_state.specs.Changes.{request_of}
 use Rattle.spec_state.specs.View.{View}
 use Rattle.spec_state.specs.Least.{Queued, Spilled_at, IsHeir, IsLeastSpilled}
@@ -30,25 +31,29 @@ use Rattle.event_law.proofs.Keeps.Steps.{quantum_leads, trap_leads, sub_leads, b
 use Rattle.event_law.proofs.Keeps.Calls.{enqueue_leads, end_leads}
 
 -- where the least task is spilled, there is no heir
-pub spilled_no_heir : (view : View) (tile : ℕ) (heir : Option ℕ) → IsLeastSpilled view tile → IsHeir view heir → heir ≡ None
+pub spilled_no_heir : (view : View) (tile : ℕ) (heir : Option ℕ) → IsLeastSpilled view tile → IsHeir view heir
+    → heir ≡ None
 spilled_no_heir view tile None least is = refl
 spilled_no_heir view tile (Some id) least is =
     let same : Queued is.0.tile is.1.place ≡ Spilled_at tile least.place = least_is_one view (Queued is.0.tile is.1.place) (Spilled_at tile least.place) is.1.least least.least in
     absurd (cc (same))
 
 -- the least spilled task asks as the least one
-pub spilled_asks : (view : View) (tile : ℕ) → IsLeastSpilled view tile → (low : Key) × AsksAsLeast view tile Splitter low
+pub spilled_asks : (view : View) (tile : ℕ) → IsLeastSpilled view tile
+    → (low : Key) × AsksAsLeast view tile Splitter low
 spilled_asks view tile least = (least.least.key, (least, refl))
 
 -- a split
-split_leads : (image : ImageValue) (old : View) → Sound image old → (tile aborted : ℕ) (new : View) → tile < old.settings.tiles
+split_leads : (image : ImageValue) (old : View) → Sound image old → (tile aborted : ℕ) (new : View)
+    → tile < old.settings.tiles
     → SplitEvent tile old aborted new → Follows image old new
 split_leads image old sound tile aborted new inside made =
     let heirless : IsLeastSpilled old tile → Splitter ≡ asker_of sound.heir = λ least. ap asker_of (sym (spilled_no_heir old tile sound.heir least sound.is_heir)) in
     let follows = room_follows image tile Splitter old sound heirless (spilled_asks old tile) made.forced in
     let free = room_is_free image tile Splitter old sound heirless (spilled_asks old tile) made.forced in
     record {
-      now = (split_stays_sound image made.mid new follows.now tile (subst (λ s. tile < s.tiles) (sym follows.settings) inside) free made.change).0;
+      now =
+          (split_stays_sound image made.mid new follows.now tile (subst (λ s. tile < s.tiles) (sym follows.settings) inside) free made.change).0;
       settings = ap (λ view. view.settings) made.change.frame ∙ follows.settings;
     }
 
@@ -58,19 +63,30 @@ module _ (image : ImageValue) (book : BookView) (sound : Sound image book.view) 
       → StepEvent tile core leg book aborted new placers → Follows image book.view new
   step_leads tile core leg run step = by_request (request_of book.view step.task leg) refl step.comes
     where
-      by_request : (request : Request) → request_of book.view step.task leg ≡ request → ComesTo tile core leg step.id step.task request book aborted new placers → Follows image book.view new
-      by_request Continue asks made = quantum_leads image book.view sound tile core leg run step.id step.task step.takes new made.0
-      by_request (Load width rd offset) asks made = load_leads image book.view sound tile core leg run step.id step.task step.takes width rd offset asks aborted new made.0
-      by_request (Store offset bytes value) asks made = store_leads image book.view sound tile core leg run step.id step.task step.takes offset bytes value asks aborted new made.0
-      by_request (Enqueue spawn) asks made = enqueue_leads image book sound tile core leg run step.id step.task step.takes spawn asks aborted new placers made
-      by_request (MakeSub kind) asks made = sub_leads image book.view sound tile core leg run step.id step.task step.takes kind asks new made.0
-      by_request (Emit byte) asks made = byte_leads image book.view sound tile core leg run step.id step.task step.takes byte asks new made.0
-      by_request End asks made = end_leads image book sound tile core leg run step.id step.task step.takes asks aborted new made.0
-      by_request (Trap cause) asks made = trap_leads image book.view sound tile core leg run step.id step.task step.takes cause asks new made.0
+      by_request : (request : Request) → request_of book.view step.task leg ≡ request
+          → ComesTo tile core leg step.id step.task request book aborted new placers → Follows image book.view new
+      by_request Continue asks made =
+          quantum_leads image book.view sound tile core leg run step.id step.task step.takes new made.0
+      by_request (Load width rd offset) asks made =
+          load_leads image book.view sound tile core leg run step.id step.task step.takes width rd offset asks aborted new made.0
+      by_request (Store offset bytes value) asks made =
+          store_leads image book.view sound tile core leg run step.id step.task step.takes offset bytes value asks aborted new made.0
+      by_request (Enqueue spawn) asks made =
+          enqueue_leads image book sound tile core leg run step.id step.task step.takes spawn asks aborted new placers made
+      by_request (MakeSub kind) asks made =
+          sub_leads image book.view sound tile core leg run step.id step.task step.takes kind asks new made.0
+      by_request (Emit byte) asks made =
+          byte_leads image book.view sound tile core leg run step.id step.task step.takes byte asks new made.0
+      by_request End asks made =
+          end_leads image book sound tile core leg run step.id step.task step.takes asks aborted new made.0
+      by_request (Trap cause) asks made =
+          trap_leads image book.view sound tile core leg run step.id step.task step.takes cause asks new made.0
 
   -- an event that is granted and made leaves a sound view
-  pub makes_leads : (N : Type 0) (event : Event N) → IsGiven image book.view.settings event → IsGranted book event → Makes book event aborted new placers → Follows image book.view new
-  makes_leads N (event.Dispatch tile) given granted made = dispatch_leads N image book sound tile aborted new granted made.0
+  pub makes_leads : (N : Type 0) (event : Event N) → IsGiven image book.view.settings event → IsGranted book event
+      → Makes book event aborted new placers → Follows image book.view new
+  makes_leads N (event.Dispatch tile) given granted made =
+      dispatch_leads N image book sound tile aborted new granted made.0
   makes_leads N (event.Step tile core leg) given granted made = step_leads tile core leg given.2 made
   makes_leads N (event.Abort tile) given granted made = abort_leads N image book sound tile aborted new granted made.0
   makes_leads N event.Commit given granted made = commit_leads N image book sound new granted made.0
@@ -79,14 +95,16 @@ module _ (image : ImageValue) (book : BookView) (sound : Sound image book.view) 
 
 module _ (N : Type 0) (image : ImageValue) (old new : BookView) (event : Event N) (aborted : ℕ) (given : IsGiven image old.view.settings event) (sound : Sound image old.view) where
   -- one that is refused, whatever the reply
-  refused_keeps : (answer : Reply) → Happens old event answer aborted new → answer ≢ reply.Ok → Follows image old.view new.view
+  refused_keeps : (answer : Reply) → Happens old event answer aborted new → answer ≢ reply.Ok
+      → Follows image old.view new.view
   refused_keeps answer happens refused =
       let same : old ≡ new = sym (unchanged old new event aborted answer happens refused).1 in
       subst (λ (book : BookView). Follows image old.view book.view) same (follows_itself image old.view sound)
 
   -- an event, whatever it is answered
   pub happens_keeps : (answer : Reply) → Happens old event answer aborted new → Follows image old.view new.view
-  happens_keeps reply.Ok happens = makes_leads image old sound aborted new.view new.placers N event given happens.granted happens.makes
+  happens_keeps reply.Ok happens =
+      makes_leads image old sound aborted new.view new.placers N event given happens.granted happens.makes
   happens_keeps reply.Empty happens = refused_keeps reply.Empty happens (λ e. absurd (cc (e)))
   happens_keeps reply.Busy happens = refused_keeps reply.Busy happens (λ e. absurd (cc (e)))
   happens_keeps reply.Stall happens = refused_keeps reply.Stall happens (λ e. absurd (cc (e)))
@@ -97,4 +115,5 @@ module _ (N : Type 0) (image : ImageValue) (old new : BookView) (event : Event N
 
 -- whatever happens keeps a book's view sound
 pub event_stays_sound : (N : Type 0) → EventStaysSound N
-event_stays_sound N image old new event answer aborted given sound happens = (happens_keeps N image old new event aborted given sound answer happens).now
+event_stays_sound N image old new event answer aborted given sound happens =
+    (happens_keeps N image old new event aborted given sound answer happens).now

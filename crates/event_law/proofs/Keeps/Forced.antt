@@ -21,19 +21,22 @@ pub record Follows (image : ImageValue) (old mid : View) : Type 0 where
 
 module _ (image : ImageValue) (old : View) (sound : Sound image old) where
   -- an idle task is not dispatched
-  pub idle_is_open : (id : ℕ) (task : Task) → task_at old id ≡ Some task → task.status ≡ Idle → is_dispatched task ≡ false
+  pub idle_is_open : (id : ℕ) (task : Task) → task_at old id ≡ Some task → task.status ≡ Idle
+      → is_dispatched task ≡ false
   idle_is_open id task there idle =
       let stands : StandsAs image old.version old.settings.budget task Idle = subst (StandsAs image old.version old.settings.budget task) idle (sound.tasks.stands id task there) in
       ap is_dispatched stands
 
   -- a running one is
-  pub running_is_dispatched : (id core : ℕ) (task : Task) → task_at old id ≡ Some task → task.status ≡ Running core → is_dispatched task ≡ true
+  pub running_is_dispatched : (id core : ℕ) (task : Task) → task_at old id ≡ Some task → task.status ≡ Running core
+      → is_dispatched task ≡ true
   running_is_dispatched id core task there runs =
       let stands : StandsAs image old.version old.settings.budget task (Running core) = subst (StandsAs image old.version old.settings.budget task) runs (sound.tasks.stands id task there) in
       stands.0
 
   -- the least task, where it is dispatched, is the heir
-  pub least_is_heir : (id : ℕ) (task : Task) → IsLeastTask old id task → is_dispatched task ≡ true → sound.heir ≡ Some id
+  pub least_is_heir : (id : ℕ) (task : Task) → IsLeastTask old id task → is_dispatched task ≡ true
+      → sound.heir ≡ Some id
   least_is_heir id task least dispatched = heirs_are_one old sound.heir id sound.is_heir (task, least, dispatched)
 
   -- and the heir is the least task
@@ -45,7 +48,8 @@ module _ (image : ImageValue) (old : View) (sound : Sound image old) where
   follows_itself = record { now = sound; settings = refl }
 
   -- a running task that stays as it was takes the leg still
-  pub still_taken : (mid : View) (tile core id : ℕ) (leg : LegValue) (task : Task) → Follows image old mid → task_at mid id ≡ Some task
+  pub still_taken : (mid : View) (tile core id : ℕ) (leg : LegValue) (task : Task) → Follows image old mid
+      → task_at mid id ≡ Some task
       → IsLegOf image old tile core leg id task → IsLegOf image mid tile core leg id task
   still_taken mid tile core id leg task follows there taken =
       let runs = taken.takes.runs in
@@ -56,17 +60,25 @@ module _ (image : ImageValue) (old : View) (sound : Sound image old) where
       let holds : HasCore task.status core = subst (λ (s : Status). HasCore s core) (sym runs.running) refl in
       record {
         takes = record {
-          runs = record { on = record { held = (follows.now.sizes.held_are tile core id).1 (task, there, tile_is, holds); there = there }; running = runs.running };
+          runs =
+              record {
+                on = record { held = (follows.now.sizes.held_are tile core id).1 (task, there, tile_is, holds); there = there };
+                running = runs.running;
+              };
           from = taken.takes.from;
         };
         run = subst (λ s. IsLegOfImage image s.budget leg) (sym follows.settings) taken.run;
       }
 
 -- what an abort leaves follows, where it is sound
-pub abort_follows : (image : ImageValue) (firsts : ℕ → Type 0) (old mid : View) (aborted : ℕ) → Aborts firsts old aborted mid → Sound image mid → Follows image old mid
-abort_follows image firsts old mid aborted aborts now = record { now = now; settings = ap (λ view. view.settings) aborts.frame }
+pub abort_follows : (image : ImageValue) (firsts : ℕ → Type 0) (old mid : View) (aborted : ℕ)
+    → Aborts firsts old aborted mid → Sound image mid → Follows image old mid
+abort_follows image firsts old mid aborted aborts now =
+    record { now = now; settings = ap (λ view. view.settings) aborts.frame }
 
 -- an unmarked task stays as it was
-pub spared_stays : (firsts : ℕ → Type 0) (old mid : View) (aborted id : ℕ) (aborts : Aborts firsts old aborted mid) → is_marked aborts.marks id ≡ false
+pub spared_stays : (firsts : ℕ → Type 0) (old mid : View) (aborted id : ℕ) (aborts : Aborts firsts old aborted mid)
+    → is_marked aborts.marks id ≡ false
     → task_at mid id ≡ task_at old id
-spared_stays firsts old mid aborted id aborts unmarked = unmarked_stays aborts.marks old mid (abort_takes firsts old aborted mid aborts) id unmarked
+spared_stays firsts old mid aborted id aborts unmarked =
+    unmarked_stays aborts.marks old mid (abort_takes firsts old aborted mid aborts) id unmarked

@@ -1,5 +1,6 @@
 -- Where a tile has an idle task, it has a least one.
-use Rattle.std.proofs.Common.{ℕ, zero, suc, ◌≡◌, ◌≢◌, ◌<◌, ◌⊎◌, inl, inr, Option, Some, None, refl, sym, ap, subst, ◌∙◌, arith}
+use Rattle.std.proofs.Common.{ℕ, zero, suc, ◌≡◌, ◌≢◌, ◌<◌, ◌⊎◌, inl, inr, Option, Some, None, refl, sym, ap, subst, ◌∙◌}
+use Rattle.std.proofs.Common.{arith}
 use Rattle.std.specs.Prelude.{length, slice_get}
 use Rattle.std.specs.Ordering.{ordering_reverse, ordering_then}
 use Rattle.std.specs.declared.cmp.Ordering.{Ordering}
@@ -27,7 +28,8 @@ record Ranked : Type 0 where
   place : ℕ
 
 -- in one tile keys and places order any two
-ranked_total : (tile : ℕ) → IsTotalOrder (λ (a b : Ranked). ranked_cmp a.key (Queued tile a.place) b.key (Queued tile b.place))
+ranked_total : (tile : ℕ)
+    → IsTotalOrder (λ (a b : Ranked). ranked_cmp a.key (Queued tile a.place) b.key (Queued tile b.place))
 ranked_total tile =
     then_total (on_total (λ (a : Ranked). a.key) key_cmp_total)
     (then_total (on_total (λ (a : Ranked). tile) nat_cmp_total) (on_total (λ (a : Ranked). a.place) nat_cmp_total))
@@ -38,7 +40,10 @@ same_place tile p q key other tie = by_keys (key_cmp key other) tie
   where
     by_keys : (o : Ordering) → ordering_then o (spot_cmp (Queued tile p) (Queued tile q)) ≡ Equal → p ≡ q
     by_keys Less e = absurd (cc (e))
-    by_keys Equal e = let spots : Queued tile p ≡ Queued tile q = same_spot (Queued tile p) (Queued tile q) e in let places : p ≡ q = cc in places
+    by_keys Equal e =
+        let spots : Queued tile p ≡ Queued tile q = same_spot (Queued tile p) (Queued tile q) e in
+        let places : p ≡ q = cc in
+        places
     by_keys Greater e = absurd (cc (e))
 
 module _ (view : View) (tile : ℕ) where
@@ -55,7 +60,8 @@ module _ (view : View) (tile : ℕ) where
   idle_is Finished = inr (λ e. absurd (cc (e)))
 
   -- an idle task stands at a place, or none does
-  idle_or_not : (place : ℕ) → ((id : ℕ) × (task : Task) × IdleAt place id task) ⊎ ((id : ℕ) (task : Task) → IdleAt place id task → ⊥)
+  idle_or_not : (place : ℕ)
+      → ((id : ℕ) × (task : Task) × IdleAt place id task) ⊎ ((id : ℕ) (task : Task) → IdleAt place id task → ⊥)
   idle_or_not place = by_queue (slice_get (queue_at view tile) place) refl
     where
       by_task : (k : ℕ) (o : Option Task) → slice_get (queue_at view tile) place ≡ Some k → task_at view k ≡ o
@@ -86,10 +92,12 @@ module _ (view : View) (tile : ℕ) where
     task : Task
     this : IdleAt place id task
     within : place < bound
-    first : (q k : ℕ) (x : Task) → q < bound → q ≢ place → IdleAt q k x → ranked_cmp task.key (Queued tile place) x.key (Queued tile q) ≡ Less
+    first : (q k : ℕ) (x : Task) → q < bound → q ≢ place → IdleAt q k x
+        → ranked_cmp task.key (Queued tile place) x.key (Queued tile q) ≡ Less
 
   -- one place more, at which no task is idle
-  busy_more : (bound : ℕ) → ((id : ℕ) (task : Task) → IdleAt bound id task → ⊥) → FirstIdle bound → FirstIdle (suc bound)
+  busy_more : (bound : ℕ) → ((id : ℕ) (task : Task) → IdleAt bound id task → ⊥) → FirstIdle bound
+      → FirstIdle (suc bound)
   busy_more bound busy low = record {
     place = low.place;
     id = low.id;
@@ -104,7 +112,8 @@ module _ (view : View) (tile : ℕ) where
 
   -- one place more, at which one is
   idle_more : (bound id : ℕ) (task : Task) → IdleAt bound id task → FirstIdle bound → FirstIdle (suc bound)
-  idle_more bound id task here low = by_order (ranked_cmp low.task.key (Queued tile low.place) task.key (Queued tile bound)) refl
+  idle_more bound id task here low =
+      by_order (ranked_cmp low.task.key (Queued tile low.place) task.key (Queued tile bound)) refl
     where
       -- what stands at one place is one task
       one_task : (k : ℕ) (x : Task) → IdleAt bound k x → x ≡ task
@@ -114,7 +123,8 @@ module _ (view : View) (tile : ℕ) where
           let tasks : Some x ≡ Some task = sym one.at.there ∙ (ap (task_at view) same ∙ here.at.there) in
           cc
 
-      by_order : (o : Ordering) → ranked_cmp low.task.key (Queued tile low.place) task.key (Queued tile bound) ≡ o → FirstIdle (suc bound)
+      by_order : (o : Ordering) → ranked_cmp low.task.key (Queued tile low.place) task.key (Queued tile bound) ≡ o
+          → FirstIdle (suc bound)
       by_order Less less = record {
         place = low.place;
         id = low.id;
@@ -140,7 +150,8 @@ module _ (view : View) (tile : ℕ) where
         within = omega arith;
         first = λ q k x below other one.
             let turned : ranked_cmp task.key (Queued tile bound) low.task.key (Queued tile low.place) ≡ Less =
-            ranked_turned task.key (Queued tile bound) low.task.key (Queued tile low.place) ∙ ap ordering_reverse greater in
+            ranked_turned task.key (Queued tile bound) low.task.key (Queued tile low.place)
+            ∙ ap ordering_reverse greater in
             elim (cases_eq q low.place) [
               | inl same ↦
                   let there : IdleAt low.place k x = subst (λ p. IdleAt p k x) same one in
@@ -185,7 +196,12 @@ module _ (view : View) (tile : ℕ) where
       low.id,
       low.task,
       record {
-        idle = record { queued = get_contains (queue_at view tile) low.place low.id low.this.at.queued; there = low.this.at.there; idle = low.this.idle };
+        idle =
+            record {
+              queued = get_contains (queue_at view tile) low.place low.id low.this.at.queued;
+              there = low.this.at.there;
+              idle = low.this.idle;
+            };
         least = λ k x other idle p q y z at at_other.
             let distinct = distinct_at view.settings.task_queue view.queues tile sizes.task_queues in
             let place_is : low.place ≡ p = one_place (queue_at view tile) low.place p low.id distinct low.this.at.queued at.queued in
@@ -203,7 +219,8 @@ module _ (view : View) (tile : ℕ) where
     )
 
     -- where a task is idle, one is the least idle one
-    pub least_idle : (id : ℕ) (task : Task) → IsIdle view tile id task → (k : ℕ) × (x : Task) × IsLeastIdle view tile k x
+    pub least_idle : (id : ℕ) (task : Task) → IsIdle view tile id task
+        → (k : ℕ) × (x : Task) × IsLeastIdle view tile k x
     least_idle id task idle = elim (none_or_first (length (queue_at view tile))) [
       | inl none ↦
           let place = contains_get (queue_at view tile) id idle.queued in

@@ -6,14 +6,17 @@ use Rattle.spec_state.specs.declared.task.Status.TheVariants.{Idle}
 use Rattle.spec_state.specs.declared.task.Task.{Task}
 use Rattle.spec_state.specs.View.{View, task_at}
 use Rattle.spec_state.specs.Aborts.{Aborts, OnlyNode}
-use Rattle.spec_state.specs.Room.{Asker, Enqueuer, Coalesces, QueueHasRoom, IsLeastAsker, IsVictim, MakesRoom, asker_of, queue_has_room, coalesces, aborts_victim, aborts_creator}
+use Rattle.spec_state.specs.Room.{Asker, Enqueuer, Coalesces, QueueHasRoom, IsLeastAsker, IsVictim, MakesRoom, asker_of}
+use Rattle.spec_state.specs.Room.{queue_has_room, coalesces, aborts_victim, aborts_creator}
 use Rattle.spec_law.specs.RoomLaws.{AsksAsLeast, MayBeTaken}
 use Rattle.spec_law.specs.Sound.{Sound}
-use Rattle.spec_law.proofs.Proved.{abort_for_room_is_sound, cascade_spares_heir, coalesce_stays_sound, leaves_place, victim_is_later}
+use Rattle.spec_law.proofs.Proved.{abort_for_room_is_sound, cascade_spares_heir, coalesce_stays_sound, leaves_place}
+use Rattle.spec_law.proofs.Proved.{victim_is_later}
 use Rattle.event_law.proofs.Keeps.Forced.{Follows, abort_follows, follows_itself, spared_stays}
 
 -- a task that isn't idle is not moved
-pub busy_stays : (tile : ℕ) (old new : View) (id : ℕ) (task : Task) → Coalesces tile old new → task_at old id ≡ Some task → task.status ≢ Idle → task_at new id ≡ task_at old id
+pub busy_stays : (tile : ℕ) (old new : View) (id : ℕ) (task : Task) → Coalesces tile old new
+    → task_at old id ≡ Some task → task.status ≢ Idle → task_at new id ≡ task_at old id
 busy_stays tile old new id task c there busy =
     c.others id (λ moved.
     let movable = c.chosen.movable id moved in
@@ -41,11 +44,13 @@ module _ (image : ImageValue) where
   -- for a task that is the heir, where it asks as the least task, or for the least spilled one, where there is no heir
   module _ (tile : ℕ) (asker : Asker) (old : View) (sound : Sound image old) (is_heir : IsLeastAsker old tile asker → asker ≡ asker_of sound.heir) (asks : IsLeastAsker old tile asker → (low : Key) × AsksAsLeast old tile asker low) where
     -- what may be taken back is not the heir
-    not_heir : (low : Key) (first : ℕ) → IsLeastAsker old tile asker → MayBeTaken old asker low first → sound.heir ≢ Some first
+    not_heir : (low : Key) (first : ℕ) → IsLeastAsker old tile asker → MayBeTaken old asker low first
+        → sound.heir ≢ Some first
     not_heir low first least may same = may.other (is_heir least ∙ ap asker_of same)
 
     -- the victim is one for the heir
-    of_heir : (v : ℕ) (task : Task) → IsLeastAsker old tile asker → IsVictim old tile asker v task → IsVictim old tile (asker_of sound.heir) v task
+    of_heir : (v : ℕ) (task : Task) → IsLeastAsker old tile asker → IsVictim old tile asker v task
+        → IsVictim old tile (asker_of sound.heir) v task
     of_heir v task least victim = subst (λ a. IsVictim old tile a v task) (is_heir least) victim
 
     -- the view is sound then
@@ -61,17 +66,20 @@ module _ (image : ImageValue) where
         (abort_for_room_is_sound image tile v creator task old aborted new sound (of_heir v task least victim) (inr (loose, made_by)) aborts).0
 
     -- an abort of a task that may be taken back spares the asker
-    asker_stays : (low : Key) (first aborted id : ℕ) (mid : View) → IsLeastAsker old tile asker → MayBeTaken old asker low first → Aborts (OnlyNode first) old aborted mid → asker ≡ Enqueuer id
+    asker_stays : (low : Key) (first aborted id : ℕ) (mid : View) → IsLeastAsker old tile asker
+        → MayBeTaken old asker low first → Aborts (OnlyNode first) old aborted mid → asker ≡ Enqueuer id
         → task_at mid id ≡ task_at old id
     asker_stays low first aborted id mid least may aborts asks_it =
         spared_stays (OnlyNode first) old mid aborted id aborts
         (cascade_spares_heir image old first may.task aborts.marks sound may.there (not_heir low first least may) aborts.cascade id (heir_asks sound.heir id (sym (is_heir least) ∙ asks_it)))
 
     -- and a task that asks, and isn't idle, stays as it was
-    pub asker_is_there : {aborted : ℕ} {mid : View} (id : ℕ) (task : Task) → asker ≡ Enqueuer id → task_at old id ≡ Some task → task.status ≢ Idle
+    pub asker_is_there : {aborted : ℕ} {mid : View} (id : ℕ) (task : Task) → asker ≡ Enqueuer id
+        → task_at old id ≡ Some task → task.status ≢ Idle
         → MakesRoom tile asker old aborted mid → task_at mid id ≡ Some task
     asker_is_there id task asks_it there busy (queue_has_room free) = there
-    asker_is_there id task asks_it there busy (coalesces new full moves) = busy_stays tile old new id task moves there busy ∙ there
+    asker_is_there id task asks_it there busy (coalesces new full moves) =
+        busy_stays tile old new id task moves there busy ∙ there
     asker_is_there id task asks_it there busy (aborts_victim aborted v x mid new full none least victim firm aborts moves) =
         let low = asks least in
         let may = victim_is_later image old tile asker low.0 v v x sound low.1 none victim (inl (firm, refl)) in

@@ -16,7 +16,9 @@ use Rattle.spec_state.specs.Queries.{Conflicts, HasLine}
 use Rattle.spec_state.specs.Changes.{TakesLeg, request_of, KeepsQuantum, KeepsTrap, MakesSub, Emits}
 use Rattle.spec_law.specs.Sound.{Sound}
 use Rattle.spec_law.specs.Keeping.{AsksAt, IsLegOf, NoneConflicts}
-use Rattle.spec_law.proofs.Proved.{abort_of_conflicts_is_sound, abort_takes, byte_stays_sound, conflicts_spare_asker, load_stays_sound, marked_is_back, quantum_stays_sound, store_stays_sound, sub_stays_sound, trap_stays_sound}
+use Rattle.spec_law.proofs.Proved.{abort_of_conflicts_is_sound, abort_takes, byte_stays_sound, conflicts_spare_asker}
+use Rattle.spec_law.proofs.Proved.{load_stays_sound, marked_is_back, quantum_stays_sound, store_stays_sound}
+use Rattle.spec_law.proofs.Proved.{sub_stays_sound, trap_stays_sound}
 use Rattle.event_def.specs.Events.{TakesConflicts, LoadEvent, StoreEvent}
 use Rattle.event_law.proofs.Keeps.Forced.{Follows, abort_follows, still_taken, spared_stays}
 
@@ -37,21 +39,24 @@ module _ (image : ImageValue) (old : View) (sound : Sound image old) (tile core 
   }
 
   -- a trap
-  pub trap_leads : (cause : ℕ) → request_of old task leg ≡ Trap cause → (new : View) → KeepsTrap id task leg core cause old new → Follows image old new
+  pub trap_leads : (cause : ℕ) → request_of old task leg ≡ Trap cause → (new : View)
+      → KeepsTrap id task leg core cause old new → Follows image old new
   trap_leads cause asks new change = record {
     now = (trap_stays_sound image old new sound tile core id cause leg task (asks_at (Trap cause) asks) change).0;
     settings = ap (λ view. view.settings) change.frame;
   }
 
   -- a subdomain
-  pub sub_leads : (kind : Kind) → request_of old task leg ≡ MakeSub kind → (new : View) → MakesSub id task leg kind old new → Follows image old new
+  pub sub_leads : (kind : Kind) → request_of old task leg ≡ MakeSub kind → (new : View)
+      → MakesSub id task leg kind old new → Follows image old new
   sub_leads kind asks new change = record {
     now = (sub_stays_sound image old new sound tile core id leg task kind (asks_at (MakeSub kind) asks) change).0;
     settings = ap (λ view. view.settings) change.frame;
   }
 
   -- a byte
-  pub byte_leads : (byte : ℕ) → request_of old task leg ≡ Emit byte → (new : View) → Emits id task leg byte old new → Follows image old new
+  pub byte_leads : (byte : ℕ) → request_of old task leg ≡ Emit byte → (new : View) → Emits id task leg byte old new
+      → Follows image old new
   byte_leads byte asks new change = record {
     now = (byte_stays_sound image old new sound tile core id byte leg task (asks_at (Emit byte) asks) change).0;
     settings = ap (λ view. view.settings) change.frame;
@@ -77,8 +82,13 @@ module _ (image : ImageValue) (old : View) (sound : Sound image old) (tile core 
         ∙ there
 
     -- and asks for the same
-    asks_still : (request : Request) → request_of old task leg ≡ request → AsksAt image mid tile core leg id task request
-    asks_still request asks = record { is_leg = still_taken image old sound mid tile core id leg task conflicts_follow taker_stays is_taken; asks = ap (λ v. request_at (context_of v task) leg.to leg.stop) (conflicts_follow.now.version ∙ sym sound.version) ∙ asks }
+    asks_still : (request : Request) → request_of old task leg ≡ request
+        → AsksAt image mid tile core leg id task request
+    asks_still request asks =
+        record {
+          is_leg = still_taken image old sound mid tile core id leg task conflicts_follow taker_stays is_taken;
+          asks = ap (λ v. request_at (context_of v task) leg.to leg.stop) (conflicts_follow.now.version ∙ sym sound.version) ∙ asks;
+        }
 
     -- and nothing conflicts any more: what conflicted was taken back, and what was taken back is idle
     none_conflicts : NoneConflicts mid task offset write
@@ -91,7 +101,8 @@ module _ (image : ImageValue) (old : View) (sound : Sound image old) (tile core 
             absurd (cc (no_way))
         by_mark false spared =
             let was : task_at old k ≡ Some c.other =
-            sym (spared_stays (Conflicts old task (offset / old.settings.line) write) old mid aborted k forced spared) ∙ c.later.there in
+            sym (spared_stays (Conflicts old task (offset / old.settings.line) write) old mid aborted k forced spared)
+            ∙ c.later.there in
             let line : HasLine write c.other (offset / old.settings.line) =
             subst (λ s. HasLine write c.other (offset / s.line)) conflicts_follow.settings c.has_line in
             let marked = forced.cascade.least.holds k (record { other = c.other; later = record { there = was; dispatched = c.later.dispatched; later = c.later.later }; has_line = line }) in
@@ -99,7 +110,8 @@ module _ (image : ImageValue) (old : View) (sound : Sound image old) (tile core 
             absurd (cc (no_way))
 
   -- a load
-  pub load_leads : (width : LoadWidth) (rd offset : ℕ) → request_of old task leg ≡ Load width rd offset → (aborted : ℕ) (new : View)
+  pub load_leads : (width : LoadWidth) (rd offset : ℕ) → request_of old task leg ≡ Load width rd offset
+      → (aborted : ℕ) (new : View)
       → LoadEvent tile core leg id task width rd offset old aborted new → Follows image old new
   load_leads width rd offset asks aborted new made =
       let follows = conflicts_follow offset false aborted made.mid made.forced in
@@ -110,7 +122,8 @@ module _ (image : ImageValue) (old : View) (sound : Sound image old) (tile core 
       }
 
   -- a store
-  pub store_leads : (offset bytes value : ℕ) → request_of old task leg ≡ Store offset bytes value → (aborted : ℕ) (new : View)
+  pub store_leads : (offset bytes value : ℕ) → request_of old task leg ≡ Store offset bytes value
+      → (aborted : ℕ) (new : View)
       → StoreEvent tile core leg id task offset bytes value old aborted new → Follows image old new
   store_leads offset bytes value asks aborted new made =
       let follows = conflicts_follow offset true aborted made.mid made.forced in

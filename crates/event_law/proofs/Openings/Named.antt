@@ -1,5 +1,6 @@
 -- At the opening names are apart, and the free tasks are those of the image.
-use Rattle.std.proofs.Common.{ℕ, zero, suc, ◌+◌, ◌≡◌, ◌≢◌, ◌<◌, ◌≤◌, ◌⊎◌, ◌↔◌, inl, inr, true, false, List, [], ◌∷◌, Some, None, refl, sym, ap, subst, ◌∙◌, arith}
+use Rattle.std.proofs.Common.{ℕ, zero, suc, ◌+◌, ◌≡◌, ◌≢◌, ◌<◌, ◌≤◌, ◌⊎◌, ◌↔◌, inl, inr, true, false, List, [], ◌∷◌}
+use Rattle.std.proofs.Common.{Some, None, refl, sym, ap, subst, ◌∙◌, arith}
 use Rattle.std.specs.Prelude.{length, map, flat_map, option_map, replicate}
 use Rattle.std.specs.List.{All, AllByRecursion, enumerate_from}
 use Rattle.std.proofs.lemmas.List.Elements.{All-map, All-weaker, recursion_from_All}
@@ -57,12 +58,15 @@ module _ (kind : Kind) where
     pub sound : AreSound 0 0 false (bag_tasks view) (bags_spilled view)
 
   -- initial tasks of some places are ones of more
-  weaker : (few more : ℕ → ImageTask → Type 0) (view : View) → ((index : ℕ) (from : ImageTask) → few index from → more index from) → AreImageTasks kind few view
+  weaker : (few more : ℕ → ImageTask → Type 0) (view : View)
+      → ((index : ℕ) (from : ImageTask) → few index from → more index from) → AreImageTasks kind few view
       → AreImageTasks kind more view
   weaker few more view each are =
       record {
-        tasks = λ id task there. (let one = are.tasks id task there in record { index = one.index; tile = one.tile; from = one.from; one_of = each one.index one.from one.one_of; is = one.is });
-        spilled = All-weaker (λ block. All (IsImageSpilled kind few) block) (λ block. All (IsImageSpilled kind more) block)
+        tasks =
+            λ id task there. (let one = are.tasks id task there in record { index = one.index; tile = one.tile; from = one.from; one_of = each one.index one.from one.one_of; is = one.is });
+        spilled =
+            All-weaker (λ block. All (IsImageSpilled kind few) block) (λ block. All (IsImageSpilled kind more) block)
             (λ block all. All-weaker (IsImageSpilled kind few) (IsImageSpilled kind more)
             (λ s one. record { index = one.index; from = one.from; one_of = each one.index one.from one.one_of; is = one.is }) block all)
             view.blocks are.spilled;
@@ -84,12 +88,14 @@ module _ (kind : Kind) where
     bag_names (Committed turn index) name is = (is.1, subst (λ journal. turn ≤ length journal) named.history is.0)
     bag_names (Live task index) name is = absurd (none_heir task.0 is.0)
 
-    bag_heirs : (creator : Creator) (name : Name) → HasName view creator name → (j index : ℕ) → bag_creator creator ≡ bags.Live j index → false ≡ true
+    bag_heirs : (creator : Creator) (name : Name) → HasName view creator name → (j index : ℕ)
+        → bag_creator creator ≡ bags.Live j index → false ≡ true
     bag_heirs (Committed turn i) name is j index live = absurd (cc (live))
     bag_heirs (Live task i) name is j index live = absurd (none_heir task.0 is.0)
 
     -- a coalescing leaves names and free tasks as they are
-    coalesced : (tile : ℕ) (new : View) → Coalesces tile view new → IsNamed k new × SameFree 0 (bag_tasks view) (bags_spilled view) (bag_tasks new) (bags_spilled new)
+    coalesced : (tile : ℕ) (new : View) → Coalesces tile view new
+        → IsNamed k new × SameFree 0 (bag_tasks view) (bags_spilled view) (bag_tasks new) (bags_spilled new)
     coalesced tile new c =
         let first = some_first c.ids c.some in
         let queued = (c.chosen.movable first.0 first.1).1.idle.queued in
@@ -106,7 +112,8 @@ module _ (kind : Kind) where
         )
 
     -- so does what makes room
-    roomed : (tile : ℕ) (mid : View) → (QueueHasRoom view tile × (mid ≡ view)) ⊎ (IsFull view tile × Coalesces tile view mid)
+    roomed : (tile : ℕ) (mid : View)
+        → (QueueHasRoom view tile × (mid ≡ view)) ⊎ (IsFull view tile × Coalesces tile view mid)
         → IsNamed k mid × SameFree 0 (bag_tasks view) (bags_spilled view) (bag_tasks mid) (bags_spilled mid)
     roomed tile mid (inl free) =
         subst (λ v. IsNamed k v × SameFree 0 (bag_tasks view) (bags_spilled view) (bag_tasks v) (bags_spilled v)) (sym free.1)
@@ -181,7 +188,8 @@ module _ (kind : Kind) where
         )
 
   -- all placements from some place on
-  pub all_named : (tasks : List ImageTask) (k : ℕ) (old new : BookView) → IsNamed k old.view → PlacesAll kind (enumerate_from k tasks) old new
+  pub all_named : (tasks : List ImageTask) (k : ℕ) (old new : BookView) → IsNamed k old.view
+      → PlacesAll kind (enumerate_from k tasks) old new
       → (n : ℕ) × IsNamed n new.view
       × ((depth : ℕ) (q : PendingTask) → Free new.view depth q ↔ (Free old.view depth q ⊎ ((depth ≡ 1) × In q (map (image_task kind) (enumerate_from k tasks)))))
   all_named [] k old new named same =
@@ -218,7 +226,8 @@ module _ (kind : Kind) where
       are = none_are kind (λ index from. index < 0) image settings view empty;
       sized = none_sized image settings view empty;
       history = ap (λ v. v.history) empty.frame;
-      sound = subst (AreSound 0 0 false (bag_tasks view)) (sym none_spilled) (none_sound 0 0 false (bag_tasks view) (λ id. ap (option_map bag_task) (empty.none id)));
+      sound =
+          subst (AreSound 0 0 false (bag_tasks view)) (sym none_spilled) (none_sound 0 0 false (bag_tasks view) (λ id. ap (option_map bag_task) (empty.none id)));
     }
 
     -- and none is free

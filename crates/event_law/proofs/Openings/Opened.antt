@@ -1,5 +1,6 @@
 -- The opening, against the serial machine's.
-use Rattle.std.proofs.Common.{ℕ, ◌+◌, ◌≡◌, ◌<◌, ◌≤◌, ◌-◌, ◌⊎◌, ◌↔◌, inl, inr, Bool, true, false, [], Some, None, refl, sym, ap, subst, ◌∙◌, arith}
+use Rattle.std.proofs.Common.{ℕ, ◌+◌, ◌≡◌, ◌<◌, ◌≤◌, ◌-◌, ◌⊎◌, ◌↔◌, inl, inr, Bool, true, false, [], Some, None, refl}
+use Rattle.std.proofs.Common.{sym, ap, subst, ◌∙◌, arith}
 use Rattle.std.specs.Prelude.{length, slice_get, map, replicate, nat_le}
 use Rattle.std.specs.List.{enumerate_from}
 use Rattle.std.proofs.lemmas.List.Elements.{All-map, All-append, All-replicate, All-weaker}
@@ -30,7 +31,8 @@ use Rattle.spec_state.specs.declared.task.Task.{Task}
 use Rattle.spec_state.specs.View.{View, task_at}
 use Rattle.spec_state.specs.Filters.{HasNotes}
 use Rattle.spec_state.specs.Tasks.{is_dispatched, is_ordered_at}
-use Rattle.spec_state.specs.Groups.{heir_unless, keyed_tasks, keyed_task, keyed_spilled, all_keyed, all_spilled, logged_tasks, logged_task}
+use Rattle.spec_state.specs.Groups.{heir_unless, keyed_tasks, keyed_task, keyed_spilled, all_keyed, all_spilled}
+use Rattle.spec_state.specs.Groups.{logged_tasks, logged_task}
 use Rattle.spec_state.specs.Least.{IsHeir}
 use Rattle.spec_state.specs.Settings.{IsValid}
 use Rattle.spec_law.specs.Sound.{Sound, SoundMemory, SoundOrder, SoundTasks}
@@ -92,9 +94,11 @@ module _ (image : ImageValue) (settings : Settings) (among : ℕ → ImageTask �
 
   -- each uncommitted task is a root
   roots : (id : ℕ) (x : Keyed) → all_keyed view None id ≡ Some x → IsRoot x
-  roots id x at = by_case (beside_which (length view.tasks) (keyed_tasks view) (map (keyed_spilled (length view.history) None) (all_spilled view)) id x at)
+  roots id x at =
+      by_case (beside_which (length view.tasks) (keyed_tasks view) (map (keyed_spilled (length view.history) None) (all_spilled view)) id x at)
     where
-      by_case : (keyed_tasks view id ≡ Some x) ⊎ IsAmongSpilled x (map (keyed_spilled (length view.history) None) (all_spilled view)) → IsRoot x
+      by_case : (keyed_tasks view id ≡ Some x) ⊎ IsAmongSpilled x (map (keyed_spilled (length view.history) None) (all_spilled view))
+          → IsRoot x
       by_case (inl queued) =
           let one = from_option keyed_task (task_at view id) x queued in
           subst IsRoot one.2 (root_task view.version one.0 (are.tasks id one.0 one.1))
@@ -121,7 +125,8 @@ module _ (image : ImageValue) (settings : Settings) (among : ℕ → ImageTask �
       subst (λ (y : Logged). (y.dispatched ≡ false) × (y.log ≡ [])) one.2 (undispatched id one.0 one.1, ap (λ t. t.log) root.is)
 
   -- a task that has done nothing has no notes
-  no_notes : (id : ℕ) (task : Task) → task_at view id ≡ Some task → HasNotes task.lines (notes_of view.settings.line task.log)
+  no_notes : (id : ℕ) (task : Task) → task_at view id ≡ Some task
+      → HasNotes task.lines (notes_of view.settings.line task.log)
   no_notes id task there =
       subst (λ (t : Task). HasNotes t.lines (notes_of view.settings.line t.log)) (sym (are.tasks id task there).is)
       none_noted

@@ -23,7 +23,8 @@ use Rattle.spec_law.proofs.Proved.{all_added, pushes_each}
 use Rattle.event_law.proofs.Lists.{at_each_place}
 
 -- a task that is there after a coalescing was there before
-pub coalesced_was : (tile : ℕ) (old new : View) → Coalesces tile old new → (id : ℕ) (task : Task) → task_at new id ≡ Some task → task_at old id ≡ Some task
+pub coalesced_was : (tile : ℕ) (old new : View) → Coalesces tile old new → (id : ℕ) (task : Task)
+    → task_at new id ≡ Some task → task_at old id ≡ Some task
 coalesced_was tile old new c id task there =
     let stays : Contains c.ids id → ⊥ = λ moved. (let gone : None ≡ Some task = sym (c.gone id moved) ∙ there in cc) in
     sym (c.others id stays) ∙ there
@@ -63,7 +64,8 @@ module _ (kind : Kind) (among : ℕ → ImageTask → Type 0) where
       }
 
   -- so are several
-  spilled_all : (view : View) (ids : List ℕ) (moved : List Spilled) → AreImageTasks view → AllZip (IsSpilledAs view) ids moved → All IsImageSpilled moved
+  spilled_all : (view : View) (ids : List ℕ) (moved : List Spilled) → AreImageTasks view
+      → AllZip (IsSpilledAs view) ids moved → All IsImageSpilled moved
   spilled_all view [] [] are zip = All-nil IsImageSpilled
   spilled_all view [] (s ∷ moved) are zip = absurd zip
   spilled_all view (id ∷ ids) [] are zip = absurd zip
@@ -74,7 +76,8 @@ module _ (kind : Kind) (among : ℕ → ImageTask → Type 0) where
   pub coalesces_keeps : (tile : ℕ) (old new : View) → AreImageTasks old → Coalesces tile old new → AreImageTasks new
   coalesces_keeps tile old new are c =
       record {
-        tasks = λ id task there. subst (λ v. IsImageTask v task) (sym (ap (λ (v : View). v.version) c.frame)) (are.tasks id task (coalesced_was tile old new c id task there));
+        tasks =
+            λ id task there. subst (λ v. IsImageTask v task) (sym (ap (λ (v : View). v.version) c.frame)) (are.tasks id task (coalesced_was tile old new c id task there));
         spilled = subst (λ blocks. All (λ block. All IsImageSpilled block) blocks) (sym c.blocks)
             (All-set (λ block. All IsImageSpilled block) old.blocks tile (after_pushes (block_at old tile) c.moved)
             (all_added IsImageSpilled c.moved (block_at old tile) (after_pushes (block_at old tile) c.moved) (pushes_each c.moved (block_at old tile))
@@ -84,20 +87,24 @@ module _ (kind : Kind) (among : ℕ → ImageTask → Type 0) where
       }
 
   -- so does what makes room for one more
-  room_keeps : (tile : ℕ) (old mid : View) → AreImageTasks old → (QueueHasRoom old tile × (mid ≡ old)) ⊎ (IsFull old tile × Coalesces tile old mid) → AreImageTasks mid
+  room_keeps : (tile : ℕ) (old mid : View) → AreImageTasks old
+      → (QueueHasRoom old tile × (mid ≡ old)) ⊎ (IsFull old tile × Coalesces tile old mid) → AreImageTasks mid
   room_keeps tile old mid are (inl free) = subst AreImageTasks (sym free.1) are
   room_keeps tile old mid are (inr full) = coalesces_keeps tile old mid are full.1
 
   -- and so does a placement of one of them
-  pub places_keeps : (index : ℕ) (task : ImageTask) (old new : BookView) → among index task → AreImageTasks old.view → PlacesImageTask kind index task old new → AreImageTasks new.view
+  pub places_keeps : (index : ℕ) (task : ImageTask) (old new : BookView) → among index task → AreImageTasks old.view
+      → PlacesImageTask kind index task old new → AreImageTasks new.view
   places_keeps index task old new one_of are p =
       let mid = room_keeps (picked_tile old index) old.view p.mid are p.room in
       record {
         tasks = λ id x there. by_case id x there mid (cases_eq id p.id);
-        spilled = subst (λ blocks. All (λ block. All IsImageSpilled block) blocks) (sym (ap (λ v. v.blocks) p.frame)) mid.spilled;
+        spilled =
+            subst (λ blocks. All (λ block. All IsImageSpilled block) blocks) (sym (ap (λ v. v.blocks) p.frame)) mid.spilled;
       }
     where
-      by_case : (id : ℕ) (x : Task) → task_at new.view id ≡ Some x → AreImageTasks p.mid → (id ≡ p.id) ⊎ (id ≡ p.id → ⊥) → IsImageTask new.view.version x
+      by_case : (id : ℕ) (x : Task) → task_at new.view id ≡ Some x → AreImageTasks p.mid → (id ≡ p.id) ⊎ (id ≡ p.id → ⊥)
+          → IsImageTask new.view.version x
       by_case id x there mid (inl here) =
           let both : Some (idle_task p.mid.version (image_descriptor kind index task) (Committed 0 index) (picked_tile old index)) ≡ Some x =
           sym p.changes.changed ∙ (ap (task_at new.view) (sym here) ∙ there) in
@@ -107,13 +114,15 @@ module _ (kind : Kind) (among : ℕ → ImageTask → Type 0) where
           subst (λ v. IsImageTask v x) (sym (ap (λ (v : View). v.version) p.frame)) (mid.tasks id x (sym (p.changes.others id other) ∙ there))
 
   -- so do all placements
-  pub all_kept : (es : List (ℕ × ImageTask)) (old new : BookView) → AllByRecursion (λ e. among e.0 e.1) es → AreImageTasks old.view → PlacesAll kind es old new → AreImageTasks new.view
+  pub all_kept : (es : List (ℕ × ImageTask)) (old new : BookView) → AllByRecursion (λ e. among e.0 e.1) es
+      → AreImageTasks old.view → PlacesAll kind es old new → AreImageTasks new.view
   all_kept [] old new each are same = subst (λ (b : BookView). AreImageTasks b.view) same are
   all_kept (e ∷ es) old new each are placed =
       all_kept es placed.0 new each.1 (places_keeps e.0 e.1 old placed.0 each.0 are placed.1) placed.2
 
   -- the view without a task has none
-  pub none_are : (image : ImageValue) (settings : Settings) (view : View) → IsEmptyView image settings view → AreImageTasks view
+  pub none_are : (image : ImageValue) (settings : Settings) (view : View) → IsEmptyView image settings view
+      → AreImageTasks view
   none_are image settings view empty =
       record {
         tasks = λ id task there. (let no_way : None ≡ Some task = sym (empty.none id) ∙ there in absurd (cc (no_way)));

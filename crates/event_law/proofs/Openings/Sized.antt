@@ -1,5 +1,6 @@
 -- At the opening each task queue holds the tasks of its tile, and no more than it may.
-use Rattle.std.proofs.Common.{ℕ, ◌≡◌, ◌≢◌, ◌<◌, ◌≤◌, ◌⊎◌, inl, inr, true, false, List, [], ◌∷◌, ◌++◌, Option, Some, None, refl, sym, ap, subst, ◌∙◌, arith}
+use Rattle.std.proofs.Common.{ℕ, ◌≡◌, ◌≢◌, ◌<◌, ◌≤◌, ◌⊎◌, inl, inr, true, false, List, [], ◌∷◌, ◌++◌, Option, Some}
+use Rattle.std.proofs.Common.{None, refl, sym, ap, subst, ◌∙◌, arith}
 use Rattle.std.specs.Prelude.{length, slice_index_or, slice_set, is_some, option_map, Contains, replicate}
 use Rattle.std.specs.List.{All, AllPairs}
 use Rattle.std.proofs.lemmas.Bool.{cases_eq}
@@ -24,7 +25,8 @@ use Rattle.spec_state.specs.Opening.{IsEmptyView}
 use Rattle.spec_state.specs.Stored.{HasTask}
 use Rattle.event_def.specs.Opening.{image_descriptor, PlacesImageTask, PlacesAll}
 use Rattle.event_law.proofs.Lists.{at_each_place}
-use Rattle.event_law.proofs.Openings.Queued.{kept_was, kept_there, kept_stays, kept_few, kept_fewer, kept_distinct, kept_at, last_was, last_is, last_stays}
+use Rattle.event_law.proofs.Openings.Queued.{kept_was, kept_there, kept_stays, kept_few, kept_fewer, kept_distinct}
+use Rattle.event_law.proofs.Openings.Queued.{kept_at, last_was, last_is, last_stays}
 use Rattle.event_law.proofs.Openings.Rooted.{coalesced_was}
 
 -- a task of this tile
@@ -41,7 +43,8 @@ pub record IsSized (view : View) : Type 0 where
   pub blocks : length view.blocks ≡ view.settings.tiles
   pub task_queues : All (FitsQueue view.settings.task_queue) view.queues
   pub queued : (tile id : ℕ) → IsQueued view tile id → HasTask view tile id (λ status. Unit {0})
-  pub has : (tile id : ℕ) → tile < view.settings.tiles → HasTask view tile id (λ status. Unit {0}) → IsQueued view tile id
+  pub has : (tile id : ℕ) → tile < view.settings.tiles → HasTask view tile id (λ status. Unit {0})
+      → IsQueued view tile id
 
 -- an empty queue fits
 pub none_fit : (capacity : ℕ) → FitsQueue capacity []
@@ -80,7 +83,9 @@ module _ (tile : ℕ) (old new : View) (are : IsSized old) (c : Coalesces tile o
   -- a coalescing keeps the sizes
   pub coalesced_sized : IsSized new
   coalesced_sized = record {
-    queues = ap length c.queues ∙ (length-map old.queues (queue_after (room_tasks new)) ∙ (are.queues ∙ ap (λ s. s.tiles) (sym settings_stay)));
+    queues =
+        ap length c.queues
+        ∙ (length-map old.queues (queue_after (room_tasks new)) ∙ (are.queues ∙ ap (λ s. s.tiles) (sym settings_stay)));
     blocks = ap length c.blocks ∙ (length-set old.blocks tile _ ∙ (are.blocks ∙ ap (λ s. s.tiles) (sym settings_stay)));
     task_queues = subst (λ s. All (FitsQueue s.task_queue) new.queues) (sym settings_stay)
         (subst (All (FitsQueue old.settings.task_queue)) (sym c.queues)
@@ -105,10 +110,13 @@ module _ (tile : ℕ) (old new : View) (are : IsSized old) (c : Coalesces tile o
       subst (λ s. length (queue_at new tile) < s.task_queue) (sym settings_stay) now
 
 -- what makes room keeps the sizes, and makes a free place
-pub room_sized : (tile : ℕ) (old mid : View) → IsSized old → (QueueHasRoom old tile × (mid ≡ old)) ⊎ (IsFull old tile × Coalesces tile old mid)
+pub room_sized : (tile : ℕ) (old mid : View) → IsSized old
+    → (QueueHasRoom old tile × (mid ≡ old)) ⊎ (IsFull old tile × Coalesces tile old mid)
     → IsSized mid × QueueHasRoom mid tile
-room_sized tile old mid are (inl free) = (subst IsSized (sym free.1) are, subst (λ v. QueueHasRoom v tile) (sym free.1) free.0)
-room_sized tile old mid are (inr full) = (coalesced_sized tile old mid are full.1, coalesced_free tile old mid are full.1)
+room_sized tile old mid are (inl free) =
+    (subst IsSized (sym free.1) are, subst (λ v. QueueHasRoom v tile) (sym free.1) free.0)
+room_sized tile old mid are (inr full) =
+    (coalesced_sized tile old mid are full.1, coalesced_free tile old mid are full.1)
 
 module _ (kind : Kind) (index : ℕ) (task : ImageTask) (old new : BookView) (p : PlacesImageTask kind index task old new) (are : IsSized p.mid) (free : QueueHasRoom p.mid (picked_tile old index)) where
   tiles_stay : new.view.settings ≡ p.mid.settings
@@ -123,20 +131,23 @@ module _ (kind : Kind) (index : ℕ) (task : ImageTask) (old new : BookView) (p 
 
   -- what is queued is a task of the tile
   placed_queued : (t k : ℕ) → IsQueued new.view t k → HasAny new.view t k
-  placed_queued t k q = elim (last_was p.mid.queues (picked_tile old index) p.id t k (subst (λ (qs : List (List ℕ)). Contains (slice_index_or qs t []) k) p.queues q)) [
-    | inl was ↦
-        let h = are.queued t k was in
-        let other : k ≢ p.id = λ same. not_queued t (subst (IsQueued p.mid t) same was) in
-        (h.0, p.changes.others k other ∙ h.1, h.2, tt)
-    | inr is ↦
-        (idle_task p.mid.version (image_descriptor kind index task) (Committed 0 index) (picked_tile old index), ap (task_at new.view) is.1 ∙ p.changes.changed, sym is.0, tt)
-  ]
+  placed_queued t k q =
+      elim (last_was p.mid.queues (picked_tile old index) p.id t k (subst (λ (qs : List (List ℕ)). Contains (slice_index_or qs t []) k) p.queues q)) [
+        | inl was ↦
+            let h = are.queued t k was in
+            let other : k ≢ p.id = λ same. not_queued t (subst (IsQueued p.mid t) same was) in
+            (h.0, p.changes.others k other ∙ h.1, h.2, tt)
+        | inr is ↦
+            (idle_task p.mid.version (image_descriptor kind index task) (Committed 0 index) (picked_tile old index), ap (task_at new.view) is.1 ∙ p.changes.changed, sym is.0, tt)
+      ]
 
   -- and a task of the tile is queued
   placed_has : (t k : ℕ) → t < p.mid.settings.tiles → HasAny new.view t k → IsQueued new.view t k
-  placed_has t k within h = subst (λ (qs : List (List ℕ)). Contains (slice_index_or qs t []) k) (sym p.queues) (by_id (cases_eq k p.id))
+  placed_has t k within h =
+      subst (λ (qs : List (List ℕ)). Contains (slice_index_or qs t []) k) (sym p.queues) (by_id (cases_eq k p.id))
     where
-      by_id : (k ≡ p.id) ⊎ (k ≡ p.id → ⊥) → Contains (slice_index_or (slice_set p.mid.queues (picked_tile old index) (queue_at p.mid (picked_tile old index) ++ p.id ∷ [])) t []) k
+      by_id : (k ≡ p.id) ⊎ (k ≡ p.id → ⊥)
+          → Contains (slice_index_or (slice_set p.mid.queues (picked_tile old index) (queue_at p.mid (picked_tile old index) ++ p.id ∷ [])) t []) k
       by_id (inl same) =
           let both : Some (idle_task p.mid.version (image_descriptor kind index task) (Committed 0 index) (picked_tile old index)) ≡ Some h.0 =
           sym p.changes.changed ∙ (ap (task_at new.view) (sym same) ∙ h.1) in
@@ -146,7 +157,8 @@ module _ (kind : Kind) (index : ℕ) (task : ImageTask) (old new : BookView) (p 
           let is = last_is p.mid.queues (picked_tile old index) p.id inside in
           subst (λ u. Contains (slice_index_or (slice_set p.mid.queues (picked_tile old index) (queue_at p.mid (picked_tile old index) ++ p.id ∷ [])) u []) k) here
           (subst (Contains (slice_index_or (slice_set p.mid.queues (picked_tile old index) (queue_at p.mid (picked_tile old index) ++ p.id ∷ [])) (picked_tile old index) [])) (sym same) is)
-      by_id (inr other) = last_stays p.mid.queues (picked_tile old index) p.id t k (are.has t k within (h.0, sym (p.changes.others k other) ∙ h.1, h.2, tt))
+      by_id (inr other) =
+          last_stays p.mid.queues (picked_tile old index) p.id t k (are.has t k within (h.0, sym (p.changes.others k other) ∙ h.1, h.2, tt))
 
   -- a placement keeps the sizes
   pub placed_sized : IsSized new.view
@@ -154,7 +166,9 @@ module _ (kind : Kind) (index : ℕ) (task : ImageTask) (old new : BookView) (p 
       let q = queue_at p.mid (picked_tile old index) in
       let fits = at_each_place (FitsQueue p.mid.settings.task_queue) p.mid.queues (picked_tile old index) [] are.task_queues (none_fit p.mid.settings.task_queue) in
       record {
-        queues = ap length p.queues ∙ (length-set p.mid.queues (picked_tile old index) (queue_at p.mid (picked_tile old index) ++ p.id ∷ []) ∙ (are.queues ∙ ap (λ s. s.tiles) (sym tiles_stay)));
+        queues =
+            ap length p.queues
+            ∙ (length-set p.mid.queues (picked_tile old index) (queue_at p.mid (picked_tile old index) ++ p.id ∷ []) ∙ (are.queues ∙ ap (λ s. s.tiles) (sym tiles_stay)));
         blocks = ap (λ v. length v.blocks) p.frame ∙ (are.blocks ∙ ap (λ s. s.tiles) (sym tiles_stay));
         task_queues = subst (λ s. All (FitsQueue s.task_queue) new.view.queues) (sym tiles_stay)
             (subst (All (FitsQueue p.mid.settings.task_queue)) (sym p.queues)
@@ -169,21 +183,24 @@ module _ (kind : Kind) (index : ℕ) (task : ImageTask) (old new : BookView) (p 
       }
 
 -- all placements keep them
-pub all_sized : (kind : Kind) (es : List (ℕ × ImageTask)) (old new : BookView) → IsSized old.view → PlacesAll kind es old new → IsSized new.view
+pub all_sized : (kind : Kind) (es : List (ℕ × ImageTask)) (old new : BookView) → IsSized old.view
+    → PlacesAll kind es old new → IsSized new.view
 all_sized kind [] old new are same = subst (λ (b : BookView). IsSized b.view) same are
 all_sized kind (e ∷ es) old new are placed =
     let room = room_sized (picked_tile old e.0) old.view placed.1.mid are placed.1.room in
     all_sized kind es placed.0 new (placed_sized kind e.0 e.1 old placed.0 placed.1 room.0 room.1) placed.2
 
 -- the view without a task has them
-pub none_sized : (image : ImageValue) (settings : Settings) (view : View) → IsEmptyView image settings view → IsSized view
+pub none_sized : (image : ImageValue) (settings : Settings) (view : View) → IsEmptyView image settings view
+    → IsSized view
 none_sized image settings view empty =
     let tiles : view.settings.tiles ≡ settings.tiles = ap (λ v. v.settings.tiles) empty.frame in
     let queues : view.queues ≡ replicate settings.tiles [] = ap (λ v. v.queues) empty.frame in
     record {
       queues = ap length queues ∙ (length-replicate settings.tiles [] ∙ sym tiles);
       blocks = ap (λ v. length v.blocks) empty.frame ∙ (length-replicate settings.tiles [] ∙ sym tiles);
-      task_queues = subst (All (FitsQueue view.settings.task_queue)) (sym queues) (All-replicate (FitsQueue view.settings.task_queue) settings.tiles [] (none_fit view.settings.task_queue));
+      task_queues =
+          subst (All (FitsQueue view.settings.task_queue)) (sym queues) (All-replicate (FitsQueue view.settings.task_queue) settings.tiles [] (none_fit view.settings.task_queue));
       queued = λ t id q.
           absurd (at_each_place (λ ids. Contains ids id → ⊥) (replicate settings.tiles []) t []
           (All-replicate (λ (ids : List ℕ). Contains ids id → ⊥) settings.tiles [] (λ c. omega (arith, c.1))) (λ c. omega (arith, c.1))

@@ -1,5 +1,6 @@
 -- The group of sizes at the opening.
-use Rattle.std.proofs.Common.{ℕ, ◌+◌, ◌^◌, ◌≡◌, ◌<◌, ◌≤◌, ◌↔◌, List, [], Option, Some, None, refl, sym, ap, subst, ◌∙◌, arith}
+use Rattle.std.proofs.Common.{ℕ, ◌+◌, ◌^◌, ◌≡◌, ◌<◌, ◌≤◌, ◌↔◌, List, [], Option, Some, None, refl, sym, ap, subst, ◌∙◌}
+use Rattle.std.proofs.Common.{arith}
 use Rattle.std.specs.Prelude.{length, slice_get, slice_index_or, replicate, Contains}
 use Rattle.std.specs.List.{All}
 use Rattle.std.proofs.lemmas.List.{length-replicate}
@@ -36,7 +37,8 @@ one_bit Unordered = omega arith
 one_bit Ordered = omega arith
 
 -- free cores hold no task
-pub none_held : (tiles cores tile core id : ℕ) → slice_get (slice_index_or (replicate tiles (replicate cores None)) tile []) core ≡ Some (Some id) → ⊥
+pub none_held : (tiles cores tile core id : ℕ)
+    → slice_get (slice_index_or (replicate tiles (replicate cores None)) tile []) core ≡ Some (Some id) → ⊥
 none_held tiles cores tile core id held =
     let free : (list : List (Option ℕ)) → All (λ (o : Option ℕ). o ≡ None) list → slice_get list core ≡ Some (Some id) → ⊥ =
     λ list all at. none-some id (sym (all_get (λ (o : Option ℕ). o ≡ None) list core (Some id) all at)) in
@@ -58,14 +60,16 @@ module _ (kind : Kind) (image : ImageValue) (settings : Settings) (among : ℕ �
   all_idle id task there = ap (λ t. t.status) (are.tasks id task there).is
 
   -- no commit queue holds a task, and none is finished
-  finished_are : (tile id : ℕ) → Contains (finished_at view tile) id ↔ HasTask view tile id (λ status. status ≡ Finished)
+  finished_are : (tile id : ℕ)
+      → Contains (finished_at view tile) id ↔ HasTask view tile id (λ status. status ≡ Finished)
   finished_are tile id = (
     λ c. absurd (none_finished settings.tiles tile id (subst (λ (qs : List (List ℕ)). Contains (slice_index_or qs tile []) id) is.finished c)),
     λ h. (let no_way : Idle ≡ Finished = sym (all_idle id h.0 h.1) ∙ h.3 in absurd (cc (no_way))),
   )
 
   -- no core holds a task, and none runs or is trapped
-  held_are : (tile core id : ℕ) → (slice_get (cores_at view tile) core ≡ Some (Some id)) ↔ HasTask view tile id (λ status. HasCore status core)
+  held_are : (tile core id : ℕ)
+      → (slice_get (cores_at view tile) core ≡ Some (Some id)) ↔ HasTask view tile id (λ status. HasCore status core)
   held_are tile core id = (
     λ held. absurd (none_held settings.tiles settings.cores tile core id
         (subst (λ (cs : List (List (Option ℕ))). slice_get (slice_index_or cs tile []) core ≡ Some (Some id)) is.cores held)),
@@ -83,7 +87,9 @@ module _ (kind : Kind) (image : ImageValue) (settings : Settings) (among : ℕ �
     settings = subst IsValid (sym is.settings_are) valid;
     queues = sized.queues;
     finished = ap length is.finished ∙ (length-replicate settings.tiles [] ∙ ap (λ s. s.tiles) (sym is.settings_are));
-    cores = ap length is.cores ∙ (length-replicate settings.tiles (replicate settings.cores None) ∙ ap (λ s. s.tiles) (sym is.settings_are));
+    cores =
+        ap length is.cores
+        ∙ (length-replicate settings.tiles (replicate settings.cores None) ∙ ap (λ s. s.tiles) (sym is.settings_are));
     blocks = sized.blocks;
     task_queues = sized.task_queues;
     commit_queues = subst (All (FitsQueue view.settings.commit_queue)) (sym is.finished)
@@ -91,10 +97,14 @@ module _ (kind : Kind) (image : ImageValue) (settings : Settings) (among : ℕ �
     core_counts = subst (All (λ held. length held ≡ view.settings.cores)) (sym is.cores)
         (All-replicate (λ held. length held ≡ view.settings.cores) settings.tiles (replicate settings.cores None)
         (length-replicate settings.cores None ∙ ap (λ s. s.cores) (sym is.settings_are)));
-    queued_are = λ tile id. (sized.queued tile id, λ h. sized.has tile id (subst (λ t. t < view.settings.tiles) h.2 (tiles id h.0 h.1)) h);
+    queued_are =
+        λ tile id. (sized.queued tile id, λ h. sized.has tile id (subst (λ t. t < view.settings.tiles) h.2 (tiles id h.0 h.1)) h);
     finished_are = finished_are;
     held_are = held_are;
-    kinds = λ id task there. subst (λ (t : Task). t.kinds < 2 ^ depth_of t) (sym (are.tasks id task there).is) (one_bit kind);
-    bytes = λ id task there. subst (λ (t : Task). length t.bytes ≤ MAX_EMITTED) (sym (are.tasks id task there).is) (omega arith);
-    spilled = λ s there. spilled_desc s (All-contains (IsImageSpilled kind among) (all_spilled view) s (all_of_lists (IsImageSpilled kind among) view.blocks are.spilled) there);
+    kinds =
+        λ id task there. subst (λ (t : Task). t.kinds < 2 ^ depth_of t) (sym (are.tasks id task there).is) (one_bit kind);
+    bytes =
+        λ id task there. subst (λ (t : Task). length t.bytes ≤ MAX_EMITTED) (sym (are.tasks id task there).is) (omega arith);
+    spilled =
+        λ s there. spilled_desc s (All-contains (IsImageSpilled kind among) (all_spilled view) s (all_of_lists (IsImageSpilled kind among) view.blocks are.spilled) there);
   }

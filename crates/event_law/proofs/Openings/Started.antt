@@ -1,5 +1,6 @@
 -- The group of tasks at the opening.
-use Rattle.std.proofs.Common.{ℕ, ◌+◌, ◌≡◌, ◌≤◌, ◌↔◌, inl, inr, false, [], ◌∷◌, Some, None, refl, sym, ap, subst, ◌∙◌, arith}
+use Rattle.std.proofs.Common.{ℕ, ◌+◌, ◌≡◌, ◌≤◌, ◌↔◌, inl, inr, false, [], ◌∷◌, Some, None, refl, sym, ap, subst, ◌∙◌}
+use Rattle.std.proofs.Common.{arith}
 use Rattle.std.specs.Prelude.{length, map, Contains}
 use Rattle.std.specs.List.{enumerate_from}
 use Rattle.std.proofs.lemmas.List.Elements.{All-contains}
@@ -45,14 +46,16 @@ opening_matches image view free depth q = (
 module _ (image : ImageValue) (settings : Settings) (among : ℕ → ImageTask → Type 0) (view : View) (are : AreImageTasks image.kind among view) (is : IsUntouched image settings view) (names : AreSound 0 0 false (bag_tasks view) (bags_spilled view)) (matches : Matches 0 (bag_tasks view) (bags_spilled view) (opening image).stack) where
   -- a spilled task is one of the image's
   spilled_is : (s : Spilled) → Contains (all_spilled view) s → IsImageSpilled image.kind among s
-  spilled_is s there = All-contains (IsImageSpilled image.kind among) (all_spilled view) s (all_of_lists (IsImageSpilled image.kind among) view.blocks are.spilled) there
+  spilled_is s there =
+      All-contains (IsImageSpilled image.kind among) (all_spilled view) s (all_of_lists (IsImageSpilled image.kind among) view.blocks are.spilled) there
 
   -- the root domain is that of the opening's bag
   root_fits : FitsBags (domains_of (root_kinds image.kind) []) (opening image).stack
   root_fits = inl (λ i. record { kind = root_kind image.kind i; floor = 0 } ∷ [])
 
   -- no creator is to commit yet
-  no_live : (id : ℕ) (task : Task) (creator : TaskId) (index : ℕ) → task_at view id ≡ Some task → task.creator ≡ Live creator index → ⊥
+  no_live : (id : ℕ) (task : Task) (creator : TaskId) (index : ℕ) → task_at view id ≡ Some task
+      → task.creator ≡ Live creator index → ⊥
   no_live id task creator index there made =
       let one = are.tasks id task there in
       let no_way : Committed 0 one.index ≡ Live creator index = ap (λ t. t.creator) (sym one.is) ∙ made in
@@ -68,13 +71,16 @@ module _ (image : ImageValue) (settings : Settings) (among : ℕ → ImageTask �
   tasks_are = record {
     few = subst (λ journal. length journal ≤ view.settings.commits) (sym is.history) (omega arith);
     output = is.output;
-    names = subst (λ journal. AreSound (length journal) 0 false (bag_tasks view) (bags_spilled view)) (sym is.history) names;
-    matches = subst (λ journal. Matches (length journal) (bag_tasks view) (bags_spilled view) (opening image).stack) (sym is.history) matches;
+    names =
+        subst (λ journal. AreSound (length journal) 0 false (bag_tasks view) (bags_spilled view)) (sym is.history) names;
+    matches =
+        subst (λ journal. Matches (length journal) (bag_tasks view) (bags_spilled view) (opening image).stack) (sym is.history) matches;
     domains = λ id task turn index there made.
         subst (λ (t : Task). FitsBags (domains_of t.kinds t.key.domain) (opening image).stack) (sym (are.tasks id task there).is) root_fits;
     spilled_domains = λ s there low.
         subst (λ (x : Spilled). FitsBags (domains_of x.desc.kinds x.domain) (opening image).stack) (sym (spilled_is s there).is) root_fits;
-    stands = λ id task there. subst (λ (t : Task). StandsAs image view.version view.settings.budget t t.status) (sym (are.tasks id task there).is) refl;
+    stands =
+        λ id task there. subst (λ (t : Task). StandsAs image view.version view.settings.budget t t.status) (sym (are.tasks id task there).is) refl;
     children = λ id task creator index there made. absurd (no_live id task creator index there made);
     spilled_children = λ s there next. absurd (no_next s there next);
   }

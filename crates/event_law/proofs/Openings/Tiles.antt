@@ -20,18 +20,21 @@ abbrev pub HaveTiles : View → Type 0
 HaveTiles view = (id : ℕ) (task : Task) → task_at view id ≡ Some task → task.tile < view.settings.tiles
 
 -- what makes room for one more changes no settings
-room_settings : (tile : ℕ) (old mid : View) → (QueueHasRoom old tile × (mid ≡ old)) ⊎ (IsFull old tile × Coalesces tile old mid) → mid.settings ≡ old.settings
+room_settings : (tile : ℕ) (old mid : View)
+    → (QueueHasRoom old tile × (mid ≡ old)) ⊎ (IsFull old tile × Coalesces tile old mid) → mid.settings ≡ old.settings
 room_settings tile old mid (inl free) = ap (λ v. v.settings) free.1
 room_settings tile old mid (inr full) = ap (λ v. v.settings) full.1.frame
 
 -- and leaves each task in a tile that there is
-room_tiles : (tile : ℕ) (old mid : View) → HaveTiles old → (QueueHasRoom old tile × (mid ≡ old)) ⊎ (IsFull old tile × Coalesces tile old mid) → HaveTiles mid
+room_tiles : (tile : ℕ) (old mid : View) → HaveTiles old
+    → (QueueHasRoom old tile × (mid ≡ old)) ⊎ (IsFull old tile × Coalesces tile old mid) → HaveTiles mid
 room_tiles tile old mid have (inl free) = subst HaveTiles (sym free.1) have
 room_tiles tile old mid have (inr full) =
     λ id task there. subst (λ s. task.tile < s.tiles) (sym (ap (λ v. v.settings) full.1.frame)) (have id task (coalesced_was tile old mid full.1 id task there))
 
 -- a task is placed in a tile that there is
-places_tiles : (kind : Kind) (index : ℕ) (task : ImageTask) (old new : BookView) → HaveTiles old.view → PlacesImageTask kind index task old new → HaveTiles new.view
+places_tiles : (kind : Kind) (index : ℕ) (task : ImageTask) (old new : BookView) → HaveTiles old.view
+    → PlacesImageTask kind index task old new → HaveTiles new.view
 places_tiles kind index task old new have p id x there =
     subst (λ s. x.tile < s.tiles) (sym (ap (λ v. v.settings) p.frame)) (by_case (cases_eq id p.id))
   where
@@ -42,13 +45,18 @@ places_tiles kind index task old new have p id x there =
         let same : idle_task p.mid.version (image_descriptor kind index task) (Committed 0 index) (picked_tile old index) ≡ x = cc in
         let inside : picked_tile old index < p.mid.settings.tiles = subst (λ s. picked_tile old index < s.tiles) (sym (room_settings (picked_tile old index) old.view p.mid p.room)) p.inside in
         subst (λ (t : Task). t.tile < p.mid.settings.tiles) same inside
-    by_case (inr other) = room_tiles (picked_tile old index) old.view p.mid have p.room id x (sym (p.changes.others id other) ∙ there)
+    by_case (inr other) =
+        room_tiles (picked_tile old index) old.view p.mid have p.room id x (sym (p.changes.others id other) ∙ there)
 
 -- so are all that are placed
-pub all_have_tiles : (kind : Kind) (es : List (ℕ × ImageTask)) (old new : BookView) → HaveTiles old.view → PlacesAll kind es old new → HaveTiles new.view
+pub all_have_tiles : (kind : Kind) (es : List (ℕ × ImageTask)) (old new : BookView) → HaveTiles old.view
+    → PlacesAll kind es old new → HaveTiles new.view
 all_have_tiles kind [] old new have same = subst (λ (b : BookView). HaveTiles b.view) same have
-all_have_tiles kind (e ∷ es) old new have placed = all_have_tiles kind es placed.0 new (places_tiles kind e.0 e.1 old placed.0 have placed.1) placed.2
+all_have_tiles kind (e ∷ es) old new have placed =
+    all_have_tiles kind es placed.0 new (places_tiles kind e.0 e.1 old placed.0 have placed.1) placed.2
 
 -- the view without a task has none elsewhere
-pub none_elsewhere : (image : ImageValue) (settings : Settings) (view : View) → IsEmptyView image settings view → HaveTiles view
-none_elsewhere image settings view empty id task there = (let no_way : None ≡ Some task = sym (empty.none id) ∙ there in absurd (cc (no_way)))
+pub none_elsewhere : (image : ImageValue) (settings : Settings) (view : View) → IsEmptyView image settings view
+    → HaveTiles view
+none_elsewhere image settings view empty id task there =
+    (let no_way : None ≡ Some task = sym (empty.none id) ∙ there in absurd (cc (no_way)))

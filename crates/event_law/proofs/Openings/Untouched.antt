@@ -51,7 +51,9 @@ module _ (image : ImageValue) (settings : Settings) where
         cores = beside.cores ∙ is.cores;
       }
 
-  room_keeps : (tile : ℕ) (old mid : View) → IsUntouched image settings old → (QueueHasRoom old tile × (mid ≡ old)) ⊎ (IsFull old tile × Coalesces tile old mid) → IsUntouched image settings mid
+  room_keeps : (tile : ℕ) (old mid : View) → IsUntouched image settings old
+      → (QueueHasRoom old tile × (mid ≡ old)) ⊎ (IsFull old tile × Coalesces tile old mid)
+      → IsUntouched image settings mid
   room_keeps tile old mid is (inl free) = subst (IsUntouched image settings) (sym free.1) is
   room_keeps tile old mid is (inr full) =
       let rest = full.1.frame in
@@ -68,7 +70,8 @@ module _ (image : ImageValue) (settings : Settings) where
       })
 
   -- one placement
-  places_keeps : (kind : Kind) (index : ℕ) (task : ImageTask) (old new : BookView) → IsUntouched image settings old.view → PlacesImageTask kind index task old new → IsUntouched image settings new.view
+  places_keeps : (kind : Kind) (index : ℕ) (task : ImageTask) (old new : BookView) → IsUntouched image settings old.view
+      → PlacesImageTask kind index task old new → IsUntouched image settings new.view
   places_keeps kind index task old new is p =
       let rest = p.frame in
       beside_keeps p.mid new.view (room_keeps (picked_tile old index) old.view p.mid is p.room) (record {
@@ -84,9 +87,11 @@ module _ (image : ImageValue) (settings : Settings) where
       })
 
   -- and all of them
-  pub all_kept : (kind : Kind) (es : List (ℕ × ImageTask)) (old new : BookView) → IsUntouched image settings old.view → PlacesAll kind es old new → IsUntouched image settings new.view
+  pub all_kept : (kind : Kind) (es : List (ℕ × ImageTask)) (old new : BookView) → IsUntouched image settings old.view
+      → PlacesAll kind es old new → IsUntouched image settings new.view
   all_kept kind [] old new is same = subst (λ (b : BookView). IsUntouched image settings b.view) same is
-  all_kept kind (e ∷ es) old new is placed = all_kept kind es placed.0 new (places_keeps kind e.0 e.1 old placed.0 is placed.1) placed.2
+  all_kept kind (e ∷ es) old new is placed =
+      all_kept kind es placed.0 new (places_keeps kind e.0 e.1 old placed.0 is placed.1) placed.2
 
   -- the view without a task is so
   pub none_touched : (view : View) → IsEmptyView image settings view → IsUntouched image settings view

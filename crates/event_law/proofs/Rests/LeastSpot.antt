@@ -57,7 +57,8 @@ spots_cmp x y = ranked_cmp x.key x.spot y.key y.spot
 
 -- and their order is total
 pub spots_cmp_total : IsTotalOrder spots_cmp
-spots_cmp_total = then_total (on_total (λ (x : Keyed_spot). x.key) key_cmp_total) (on_total (λ (x : Keyed_spot). x.spot) spot_cmp_total)
+spots_cmp_total =
+    then_total (on_total (λ (x : Keyed_spot). x.key) key_cmp_total) (on_total (λ (x : Keyed_spot). x.spot) spot_cmp_total)
 
 module _ (view : View) where
   -- it is this spot, with the key of the task there
@@ -68,7 +69,8 @@ module _ (view : View) where
   at_queued : (tile place : ℕ) → HasLeast spots_cmp (IsAt (Queued tile place))
   at_queued tile place = by_id (slice_get (queue_at view tile) place) refl
     where
-      by_task : (id : ℕ) → slice_get (queue_at view tile) place ≡ Some id → (o : Option Task) → task_at view id ≡ o → HasLeast spots_cmp (IsAt (Queued tile place))
+      by_task : (id : ℕ) → slice_get (queue_at view tile) place ≡ Some id → (o : Option Task) → task_at view id ≡ o
+          → HasLeast spots_cmp (IsAt (Queued tile place))
       by_task id queued None none = inl (λ x is.
           let both : Some is.0.0 ≡ Some id = sym is.0.2.queued ∙ queued in
           let same : is.0.0 ≡ id = cc in
@@ -92,7 +94,8 @@ module _ (view : View) where
   at_spilled : (tile place : ℕ) → HasLeast spots_cmp (IsAt (Spilled_at tile place))
   at_spilled tile place = by_spilled (slice_get (block_at view tile) place) refl
     where
-      by_spilled : (o : Option Spilled) → slice_get (block_at view tile) place ≡ o → HasLeast spots_cmp (IsAt (Spilled_at tile place))
+      by_spilled : (o : Option Spilled) → slice_get (block_at view tile) place ≡ o
+          → HasLeast spots_cmp (IsAt (Spilled_at tile place))
       by_spilled None none = inl (λ x is. absurd (cc (sym none ∙ is.0.1)))
       by_spilled (Some s) at =
           only_one spots_cmp spots_cmp_total (IsAt (Spilled_at tile place)) (record { spot = Spilled_at tile place; key = open_key s }) ((s, at, refl), refl)
@@ -144,7 +147,8 @@ module _ (view : View) where
       record {
         key = low.one.key;
         has = of low.one low.is;
-        least = λ spot key has. greater_not (ranked_cmp low.one.key low.one.spot key spot) (low.low (record { spot = spot; key = key }) (among spot key has));
+        least =
+            λ spot key has. greater_not (ranked_cmp low.one.key low.one.spot key spot) (low.low (record { spot = spot; key = key }) (among spot key has));
       },
     )
   ]

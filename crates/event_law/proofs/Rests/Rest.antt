@@ -5,4 +5,5 @@ use Rattle.event_law.specs.Laws.{RestIsBounded}
 
 -- it is what a standing leaves, which is bounded for each standing
 pub rest_is_bounded : RestIsBounded
-rest_is_bounded view left has = subst (λ n. n ≤ view.settings.budget + 4) (sym has.left_is) (rest_bounded view.settings.budget has.stands)
+rest_is_bounded view left has =
+    subst (λ n. n ≤ view.settings.budget + 4) (sym has.left_is) (rest_bounded view.settings.budget has.stands)

@@ -18,7 +18,8 @@ some_rest budget standing.Idle = omega arith
 some_rest budget standing.Spilled = omega arith
 
 -- of a run that is over 1 is left
-over_left : (view : View) → IsOver view → (stands : Standing) → StandsSo view stands → rest_of_way view.settings.budget stands ≤ 1
+over_left : (view : View) → IsOver view → (stands : Standing) → StandsSo view stands
+    → rest_of_way view.settings.budget stands ≤ 1
 over_left view over standing.Over so = omega arith
 over_left view over standing.Finished so = absurd (so.0 over)
 over_left view over (standing.Running used) so = absurd (so.0 over)
@@ -26,7 +27,8 @@ over_left view over standing.Idle so = absurd (so.0 over)
 over_left view over standing.Spilled so = absurd (so.0 over)
 
 -- no other standing of the view leaves another number
-by_standing : (view : View) (stands : Standing) → StandsSo view stands → (left : ℕ) → HasRest view left → rest_of_way view.settings.budget stands ≡ left
+by_standing : (view : View) (stands : Standing) → StandsSo view stands → (left : ℕ) → HasRest view left
+    → rest_of_way view.settings.budget stands ≡ left
 by_standing view standing.Over so left has =
     let low = some_rest view.settings.budget has.stands in
     let high = over_left view so has.stands has.stands_so in

@@ -11,7 +11,8 @@ use Rattle.spec_state.specs.declared.task.Status.{Status}
 use Rattle.spec_state.specs.declared.task.Status.TheVariants.{Idle, Running, Trapped, Finished}
 use Rattle.spec_state.specs.declared.task.Task.{Task}
 use Rattle.spec_state.specs.View.{View, queue_at}
-use Rattle.spec_state.specs.Least.{Spot, Queued, Spilled_at, IsAllCommitted, IsLeastSpot, IsLeastTask, IsLeastSpilled, IsQueuedAt}
+use Rattle.spec_state.specs.Least.{Spot, Queued, Spilled_at, IsAllCommitted, IsLeastSpot, IsLeastTask, IsLeastSpilled}
+use Rattle.spec_state.specs.Least.{IsQueuedAt}
 use Rattle.spec_law.specs.Sound.{Sound}
 use Rattle.spec_law.proofs.Proved.{get_contains, least_is_next, least_is_one}
 use Rattle.event_def.specs.Advancing.{StandsSo}
@@ -26,7 +27,8 @@ abbrev pub Stands : View → Type 0
 Stands view = (stands : Standing) × StandsSo view stands
 
 -- of a sound view, the task at a least place of a queue is the least task, since it stands in the queue of its own tile
-pub queued_least : (image : ImageValue) (view : View) → Sound image view → (tile place : ℕ) → IsLeastSpot view (Queued tile place)
+pub queued_least : (image : ImageValue) (view : View) → Sound image view → (tile place : ℕ)
+    → IsLeastSpot view (Queued tile place)
     → (id : ℕ) × (task : Task) × IsLeastTask view id task
 queued_least image view sound tile place least = (
   id,
@@ -77,10 +79,12 @@ module _ (image : ImageValue) (view : View) (sound : Sound image view) (some : I
 
     -- it stands as its status says
     by_status : (status : Status) → task.status ≡ status → Stands view
-    by_status Idle is = (standing.Idle, (untrapped (λ core cause trapped. absurd (cc (sym is ∙ trapped))), id, task, least, is))
+    by_status Idle is =
+        (standing.Idle, (untrapped (λ core cause trapped. absurd (cc (sym is ∙ trapped))), id, task, least, is))
     by_status (Running core) is =
         (standing.Running task.core.used, (untrapped (λ other cause trapped. absurd (cc (sym is ∙ trapped))), id, task, core, least, is, refl))
-    by_status Finished is = (standing.Finished, (untrapped (λ core cause trapped. absurd (cc (sym is ∙ trapped))), id, task, least, is))
+    by_status Finished is =
+        (standing.Finished, (untrapped (λ core cause trapped. absurd (cc (sym is ∙ trapped))), id, task, least, is))
     by_status (Trapped core cause) is =
         let may = least_is_next image view sound id task least in
         let name : Name = record { creator = may.turn; index = may.index } in
@@ -117,7 +121,8 @@ stands_so image view sound = elim (least_spot view) [
 ]
   where
     by_count : (spot : Spot) → IsLeastSpot view spot
-        → (length view.history ≡ view.settings.commits) ⊎ (length view.history ≡ view.settings.commits → ⊥) → Stands view
+        → (length view.history ≡ view.settings.commits) ⊎ (length view.history ≡ view.settings.commits → ⊥)
+        → Stands view
     by_count spot least (inl full) = (standing.Over, (ends.Limit, ((λ all. all spot least.key least.has), full)))
     by_count spot least (inr few) = by_spot image view sound (λ all. all spot least.key least.has) few spot least
 

@@ -14,7 +14,9 @@ use Rattle.spec_state.specs.Groups.{all_keyed, all_spilled, bag_creator, bag_spi
 use Rattle.spec_state.specs.Least.{HasKey, IsAllCommitted, Queued, Spilled_at, Spot}
 use Rattle.spec_law.specs.Sound.{Sound}
 use Rattle.spec_state.specs.View.{View, task_at}
-use Rattle.spec_law.proofs.Proved.{below_all, firm_is_committed, Free, free_is_keyed, id_below, in_spilled, lowest, none_is_committed, place_in_all, queued_stands, spilled_in_keys, spilled_stands, spot_of, which}
+use Rattle.spec_law.proofs.Proved.{below_all, firm_is_committed, Free, free_is_keyed, id_below, in_spilled, lowest}
+use Rattle.spec_law.proofs.Proved.{none_is_committed, place_in_all, queued_stands, spilled_in_keys, spilled_stands}
+use Rattle.spec_law.proofs.Proved.{spot_of, which}
 use Rattle.task_law.specs.Tasks.{pending}
 use Rattle.event_law.proofs.Serials.Stack.{none_stands, stands_nowhere}
 
@@ -26,7 +28,8 @@ record HasFree (image : ImageValue) (view : View) (sound : Sound image view) : T
 
 module _ (image : ImageValue) (view : View) (sound : Sound image view) where
   -- each free task stands at a spot
-  free_has_spot : (depth : ℕ) (p : PendingTask) → Free view sound.sizes sound.heir depth p → (spot : Spot) × (key : Key) × HasKey view spot key
+  free_has_spot : (depth : ℕ) (p : PendingTask) → Free view sound.sizes sound.heir depth p
+      → (spot : Spot) × (key : Key) × HasKey view spot key
   free_has_spot depth p free =
       let order = free_is_keyed view sound.sizes sound.heir depth p free in
       let at = spot_of view sound.sizes sound.heir order.id order.x order.there in
@@ -53,8 +56,10 @@ module _ (image : ImageValue) (view : View) (sound : Sound image view) where
       bounded j y there = let read = mapped_some keyed_task (task_at view j) y there in id_below view j read.0 read.1
 
   -- what stands at a spot stands among all tasks
-  spot_is_keyed : (spot : Spot) (key : Key) → HasKey view spot key → (id : ℕ) × (x : Keyed) × (all_keyed view sound.heir id ≡ Some x)
-  spot_is_keyed (Queued tile place) key has = (has.0, keyed_task has.1, queued_stands view sound.heir has.0 has.1 has.2.there)
+  spot_is_keyed : (spot : Spot) (key : Key) → HasKey view spot key
+      → (id : ℕ) × (x : Keyed) × (all_keyed view sound.heir id ≡ Some x)
+  spot_is_keyed (Queued tile place) key has =
+      (has.0, keyed_task has.1, queued_stands view sound.heir has.0 has.1 has.2.there)
   spot_is_keyed (Spilled_at tile place) key has =
       let among = place_in_all view.blocks tile place has.0 has.1 in
       let stands = spilled_stands view sound.heir among.0 has.0 among.1 in

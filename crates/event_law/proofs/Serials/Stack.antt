@@ -7,7 +7,8 @@ use Rattle.task_law.specs.Commit.{Stands}
 use Rattle.task_law.proofs.Proved.{head_has, inner-Stands, Stands-inner}
 
 -- where no task stands in a bag, no bag is left
-pub none_stands : (stack : List BagValue) → ((depth : ℕ) (p : PendingTask) → Stands stack depth p → ⊥) → inner stack ≡ []
+pub none_stands : (stack : List BagValue) → ((depth : ℕ) (p : PendingTask) → Stands stack depth p → ⊥)
+    → inner stack ≡ []
 none_stands stack none = by_stack (inner stack) refl
   where
     by_stack : (left : List BagValue) → inner stack ≡ left → left ≡ []
@@ -18,5 +19,7 @@ none_stands stack none = by_stack (inner stack) refl
         absurd (none bag.depth one.0 (inner-Stands stack bag.depth one.0 here))
 
 -- where no bag is left, no task stands in one
-pub stands_nowhere : (stack : List BagValue) → inner stack ≡ [] → (depth : ℕ) (p : PendingTask) → Stands stack depth p → ⊥
-stands_nowhere stack empty depth p stands = subst (λ (bags : List BagValue). Stands bags depth p) empty (Stands-inner stack depth p stands)
+pub stands_nowhere : (stack : List BagValue) → inner stack ≡ [] → (depth : ℕ) (p : PendingTask) → Stands stack depth p
+    → ⊥
+stands_nowhere stack empty depth p stands =
+    subst (λ (bags : List BagValue). Stands bags depth p) empty (Stands-inner stack depth p stands)

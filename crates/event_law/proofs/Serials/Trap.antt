@@ -1,5 +1,6 @@
 -- The trap of the least task of a sound view is that of the serial machine's next task.
-use Rattle.std.proofs.Common.{◌≡◌, ◌≢◌, ◌+◌, [], ◌==◌, ℕ, true, length, Option, Some, None, sym, ap, subst, ◌∙◌, map, is_some, option_map, if◌then◌else◌, refl}
+use Rattle.std.proofs.Common.{◌≡◌, ◌≢◌, ◌+◌, [], ◌==◌, ℕ, true, length, Option, Some, None, sym, ap, subst, ◌∙◌, map}
+use Rattle.std.proofs.Common.{is_some, option_map, if◌then◌else◌, refl}
 use Rattle.std.specs.Prelude.{IsSome}
 use Rattle.fractal_vt.specs.Levels.{closed_level}
 use Rattle.guest_image.specs.ImageValue.{ImageValue, IsImage}
@@ -35,7 +36,8 @@ abbrev without_one : (ℕ → Option Logged) → ℕ → ℕ → Option Logged
 without_one tasks id k = if k == id then None else tasks k
 
 -- the log of the least task, where it is dispatched, replays on the serial machine's memory
-pub least_replays : (image : ImageValue) (view : View) (sound : Sound image view) (id : ℕ) (task : Task) → IsLeastTask view id task → IsSome task.key.tb
+pub least_replays : (image : ImageValue) (view : View) (sound : Sound image view) (id : ℕ) (task : Task)
+    → IsLeastTask view id task → IsSome task.key.tb
     → Replays sound.serial.memory task.log
 least_replays image view sound id task is some =
     (commit_keeps_chain view.settings.line (logged_tasks view) (without_one (logged_tasks view) id) id (logged_task task) sound.serial.memory view.memory leaves sound.memory.chained).0
@@ -43,7 +45,8 @@ least_replays image view sound id task is some =
     number : (n : ℕ) × (task.key.tb ≡ Some n)
     number = number_of task.key.tb some
 
-    least : (k : ℕ) (other : Logged) → k ≢ id → logged_tasks view k ≡ Some other → other.dispatched ≡ true → Earlier (logged_task task) other
+    least : (k : ℕ) (other : Logged) → k ≢ id → logged_tasks view k ≡ Some other → other.dispatched ≡ true
+        → Earlier (logged_task task) other
     least k other apart at runs =
         let read = mapped_some logged_task (task_at view k) other at in
         subst (Earlier (logged_task task)) (sym read.2)
@@ -62,7 +65,8 @@ least_replays image view sound id task is some =
 module _ (image : ImageValue) (view : View) (within : IsImage image) (sound : Sound image view) (name : Name) (cause pc : ℕ) (is : LeastIsTrapped view name cause pc) where
   -- what stands next in its run is the trap
   stands : IsSome is.task.key.tb × TrapsNext image view.version view.settings.budget is.task cause
-  stands = subst (StandsAs image view.version view.settings.budget is.task) is.trapped (sound.tasks.stands is.id is.task is.least.queued_at.there)
+  stands =
+      subst (StandsAs image view.version view.settings.budget is.task) is.trapped (sound.tasks.stands is.id is.task is.least.queued_at.there)
 
   -- it may take the serial machine's next turn
   may : MayTakeTurn sound.serial.stack is.task

@@ -25,7 +25,8 @@ module _ (view : View) (heir : Option ℕ) (sound : SoundOrder view heir) (count
 
   pub reached_later : (k : ℕ) → Reached count pull firsts k → own k ⊎ IsTaskAbove view task k
   reached_later k (start a is) = each k is
-  reached_later k (step {a} b before in_a in_b pulled) = inr (pulled_from a b (reached_later a before) (pulls a b pulled))
+  reached_later k (step {a} b before in_a in_b pulled) =
+      inr (pulled_from a b (reached_later a before) (pulls a b pulled))
 
 -- no task is above itself
 not_above_itself : (task : Task) → key_cmp task.key task.key ≡ Less → ⊥
@@ -41,7 +42,8 @@ cascade_is_later image view first task marks sound there cascade id marked other
 
 -- what is taken back for an access of a task is later than the task
 pub conflicts_are_later : (image : ImageValue) (view : View) (id line : ℕ) (task : Task) (write : Bool) (marks : List Bool)
-    → Sound image view → task_at view id ≡ Some task → IsCascade view (Conflicts view task line write) marks → (k : ℕ) → Marked marks k → IsTaskAbove view task k
+    → Sound image view → task_at view id ≡ Some task → IsCascade view (Conflicts view task line write) marks → (k : ℕ)
+    → Marked marks k → IsTaskAbove view task k
 conflicts_are_later image view id line task write marks sound there cascade k marked =
     elim (reached_later view sound.heir sound.order (length marks) cascade.pull (λ a b. (cascade.pulls a b).0) (λ k. ⊥) (Conflicts view task line write) task
     (λ k is. absurd is) (λ k c. inr (c.other, c.later.there, c.later.later)) k (cascade.least.reached k marked)) [

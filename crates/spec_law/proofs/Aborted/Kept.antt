@@ -46,5 +46,6 @@ abort_keeps_memory image marks old new sound takes =
     record {
       chained = subst (λ s. IsChained s.line (logged_tasks new) sound.serial.memory new.memory) (sym same)
           (subst (IsChained old.settings.line (logged_tasks new) sound.serial.memory) (sym back.memory_is) chained);
-      noted = λ id task at. subst (λ s. HasNotes task.lines (notes_of s.line task.log)) (sym same) (noted_by marks old new takes sound.memory.noted id task at);
+      noted =
+          λ id task at. subst (λ s. HasNotes task.lines (notes_of s.line task.log)) (sym same) (noted_by marks old new takes sound.memory.noted id task at);
     }

@@ -1,5 +1,6 @@
 -- An abort that spares the heir leaves it the heir, and makes none where there was none.
-use Rattle.std.proofs.Common.{◌≡◌, ◌≢◌, ◌+◌, ◌<◌, ℕ, Bool, true, false, List, [], length, Option, Some, None, refl, sym, ap, subst, ◌∙◌, inl, inr, arith, map, slice_get, slice_index_or, is_some}
+use Rattle.std.proofs.Common.{◌≡◌, ◌≢◌, ◌+◌, ◌<◌, ℕ, Bool, true, false, List, [], length, Option, Some, None, refl, sym}
+use Rattle.std.proofs.Common.{ap, subst, ◌∙◌, inl, inr, arith, map, slice_get, slice_index_or, is_some}
 use Rattle.std.proofs.lemmas.List.{length-map}
 use Rattle.std.specs.Ordering.{ordering_reverse}
 use Rattle.std.specs.declared.cmp.Ordering.{Ordering}
@@ -49,11 +50,15 @@ module _ (marks : List Bool) (old new : View) (takes : TakesMarked marks old new
   same_blocks : new.blocks ≡ old.blocks
   same_blocks = ap (λ v. v.blocks) takes.frame
 
-  spilled_was : (tile place : ℕ) (s : Spilled) → slice_get (block_at new tile) place ≡ Some s → slice_get (block_at old tile) place ≡ Some s
-  spilled_was tile place s at = subst (λ blocks. slice_get (slice_index_or blocks tile []) place ≡ Some s) same_blocks at
+  spilled_was : (tile place : ℕ) (s : Spilled) → slice_get (block_at new tile) place ≡ Some s
+      → slice_get (block_at old tile) place ≡ Some s
+  spilled_was tile place s at =
+      subst (λ blocks. slice_get (slice_index_or blocks tile []) place ≡ Some s) same_blocks at
 
-  spilled_now : (tile place : ℕ) (s : Spilled) → slice_get (block_at old tile) place ≡ Some s → slice_get (block_at new tile) place ≡ Some s
-  spilled_now tile place s at = subst (λ blocks. slice_get (slice_index_or blocks tile []) place ≡ Some s) (sym same_blocks) at
+  spilled_now : (tile place : ℕ) (s : Spilled) → slice_get (block_at old tile) place ≡ Some s
+      → slice_get (block_at new tile) place ≡ Some s
+  spilled_now tile place s at =
+      subst (λ blocks. slice_get (slice_index_or blocks tile []) place ≡ Some s) (sym same_blocks) at
 
   -- an heir that is spared is the least task, and dispatched
   module _ (id : ℕ) (out : is_marked marks id ≡ false) (order : SoundOrder old (Some id)) (heir : IsHeir old (Some id)) where
@@ -76,7 +81,8 @@ module _ (marks : List Bool) (old new : View) (takes : TakesMarked marks old new
         (λ k t there unmarked other. above_before k t other there)
         (λ k now back other. below_reopened (levels_of (keyed_task heir.0)) (keyed_task back.was) (above_before k back.was other back.there))
 
-    spilled_above : (tile place : ℕ) (s : Spilled) → slice_get (block_at new tile) place ≡ Some s → key_cmp heir.0.key (open_key s) ≢ Greater
+    spilled_above : (tile place : ℕ) (s : Spilled) → slice_get (block_at new tile) place ≡ Some s
+        → key_cmp heir.0.key (open_key s) ≢ Greater
     spilled_above tile place s at =
         let least = heir.1.least in
         let whole = least.least (Spilled_at tile place) (open_key s) (s, spilled_was tile place s at, refl) in
@@ -121,7 +127,8 @@ module _ (marks : List Bool) (old new : View) (takes : TakesMarked marks old new
               subst (λ y. levels_cmp (levels_of y) (levels_of (keyed_task x)) ≡ Less) is
               (least_is_below (all_keyed old None) (map closed_level old.path) old.next k number.0 task order.order low number.1 j (keyed_task x) other (queued_stands old None j x at))
 
-          spilled : (tile place : ℕ) (s : Spilled) → slice_get (block_at old tile) place ≡ Some s → key_cmp t.key (open_key s) ≢ Greater
+          spilled : (tile place : ℕ) (s : Spilled) → slice_get (block_at old tile) place ≡ Some s
+              → key_cmp t.key (open_key s) ≢ Greater
           spilled tile place s at =
               let all = place_in_all old.blocks tile place s at in
               let entry = get_mapped (keyed_spilled (length old.history) None) (all_spilled old) all.0 s all.1 in
@@ -134,7 +141,9 @@ module _ (marks : List Bool) (old new : View) (takes : TakesMarked marks old new
       idle_low t there is open' = by_mark (is_marked marks k) refl
         where
           free : live_creator t.creator ≡ None
-          free = sym (ap (λ x. x.creator) is) ∙ (innermost (all_keyed old None) (map closed_level old.path) old.next k task order.order low).committed
+          free =
+              sym (ap (λ x. x.creator) is)
+              ∙ (innermost (all_keyed old None) (map closed_level old.path) old.next k task order.order low).committed
 
           upto : key_cmp t.key n.key ≢ Greater
           upto = subst (λ y. levels_cmp (levels_of y) (levels_of (keyed_task n)) ≢ Greater) is upto_n
@@ -152,7 +161,8 @@ module _ (marks : List Bool) (old new : View) (takes : TakesMarked marks old new
               (λ i. record { domain = t.key.domain; ts = t.key.ts; tb = sym open' i })
 
       -- a spilled one is there still
-      spilled_low : (s : Spilled) (place : ℕ) → slice_get (all_spilled old) place ≡ Some s → task ≡ keyed_spilled (length old.history) None s → ⊥
+      spilled_low : (s : Spilled) (place : ℕ) → slice_get (all_spilled old) place ≡ Some s
+          → task ≡ keyed_spilled (length old.history) None s → ⊥
       spilled_low s place at is =
           let one = place_in_one old.blocks place s at in
           let whole = least.least.least (Spilled_at one.0 one.1) (open_key s) (s, spilled_now one.0 one.1 s one.2, refl) in
@@ -164,16 +174,18 @@ module _ (marks : List Bool) (old new : View) (takes : TakesMarked marks old new
           (subst (λ y. levels_cmp (levels_of y) (levels_of (keyed_task n)) ≢ Greater) is upto_n) above
 
       pub no_low : ⊥
-      no_low = elim (beside_which (length old.tasks) (keyed_tasks old) (map (keyed_spilled (length old.history) None) (all_spilled old)) k task low.there) [
-        | inl queued ↦ (let read = mapped_some keyed_task (task_at old k) task queued in by_tie read.0 read.1 read.2 (read.0.key.tb) refl)
-        | inr entry ↦ (let read = entry_at (all_spilled old) entry.0 entry.1 in spilled_low read.0 entry.0 read.1 read.2)
-      ]
+      no_low =
+          elim (beside_which (length old.tasks) (keyed_tasks old) (map (keyed_spilled (length old.history) None) (all_spilled old)) k task low.there) [
+            | inl queued ↦ (let read = mapped_some keyed_task (task_at old k) task queued in by_tie read.0 read.1 read.2 (read.0.key.tb) refl)
+            | inr entry ↦ (let read = entry_at (all_spilled old) entry.0 entry.1 in spilled_low read.0 entry.0 read.1 read.2)
+          ]
         where
           by_tie : (t : Task) → task_at old k ≡ Some t → task ≡ keyed_task t → (tie : Option ℕ) → t.key.tb ≡ tie → ⊥
           by_tie t there is None tie = idle_low t there is tie
           by_tie t there is (Some m) tie = dispatched_low t there is (ap is_some tie)
 
-          entry_at : (ss : List Spilled) (place : ℕ) → slice_get (map (keyed_spilled (length old.history) None) ss) place ≡ Some task
+          entry_at : (ss : List Spilled) (place : ℕ)
+              → slice_get (map (keyed_spilled (length old.history) None) ss) place ≡ Some task
               → (s : Spilled) × (slice_get ss place ≡ Some s) × (task ≡ keyed_spilled (length old.history) None s)
           entry_at ss place at = got_mapped (keyed_spilled (length old.history) None) ss place task at
 
@@ -197,5 +209,7 @@ module _ (marks : List Bool) (old new : View) (takes : TakesMarked marks old new
     ]
 
 pub abort_keeps_heir : AbortKeepsHeirOfView
-abort_keeps_heir marks old new None takes spares order sizes heir = λ id n least runs. none_new marks old new takes sizes order heir id n least runs
-abort_keeps_heir marks old new (Some id) takes spares order sizes heir = stays_heir marks old new takes sizes id (spares id refl) order heir
+abort_keeps_heir marks old new None takes spares order sizes heir =
+    λ id n least runs. none_new marks old new takes sizes order heir id n least runs
+abort_keeps_heir marks old new (Some id) takes spares order sizes heir =
+    stays_heir marks old new takes sizes id (spares id refl) order heir

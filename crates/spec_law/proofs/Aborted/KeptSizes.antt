@@ -1,5 +1,6 @@
 -- An abort keeps the group of sizes.
-use Rattle.std.proofs.Common.{◌≡◌, ◌≢◌, ◌≤◌, ◌<◌, ◌^◌, ℕ, Bool, true, false, List, length, not, Option, Some, None, refl, sym, ap, subst, ◌∙◌, arith, map, option_map, slice_get, is_some, if◌then◌else◌}
+use Rattle.std.proofs.Common.{◌≡◌, ◌≢◌, ◌≤◌, ◌<◌, ◌^◌, ℕ, Bool, true, false, List, length, not, Option, Some, None}
+use Rattle.std.proofs.Common.{refl, sym, ap, subst, ◌∙◌, arith, map, option_map, slice_get, is_some, if◌then◌else◌}
 use Rattle.std.specs.Prelude.{Contains, filter, All}
 use Rattle.std.proofs.lemmas.List.{length-map}
 use Rattle.std.proofs.lemmas.List.Elements.{All-map, All-weaker}
@@ -19,10 +20,12 @@ use Rattle.spec_law.specs.Sound.{SoundSizes}
 use Rattle.spec_law.specs.AbortLaws.{TakesMarked, AbortKeepsSoundSizes}
 use Rattle.spec_law.proofs.Aborted.Taken.{unmarked_stays}
 use Rattle.spec_law.proofs.Aborted.KeptTasks.{each_now}
-use Rattle.spec_law.proofs.Tasks.Filtered.{filter_shorter, filter_was, filter_is, filter_leaves, queue_filtered, list_mapped, got_mapped, get_mapped}
+use Rattle.spec_law.proofs.Tasks.Filtered.{filter_shorter, filter_was, filter_is, filter_leaves, queue_filtered}
+use Rattle.spec_law.proofs.Tasks.Filtered.{list_mapped, got_mapped, get_mapped}
 
 -- bounded lists of distinct ids stay so
-pub bounded_filtered : (p : ℕ → Bool) (bound : ℕ) (lists : List (List ℕ)) → All (λ ids. (length ids ≤ bound) × AreDistinct ids) lists
+pub bounded_filtered : (p : ℕ → Bool) (bound : ℕ) (lists : List (List ℕ))
+    → All (λ ids. (length ids ≤ bound) × AreDistinct ids) lists
     → All (λ ids. (length ids ≤ bound) × AreDistinct ids) (map (filter p) lists)
 bounded_filtered p bound lists each =
     All-map (λ ids. (length ids ≤ bound) × AreDistinct ids) (filter p) lists
@@ -30,7 +33,8 @@ bounded_filtered p bound lists each =
     (λ ids is. (let shorter = filter_shorter p ids in (omega (arith, shorter, is.0), AllPairs-filter (λ a b. a ≢ b) p ids is.1))) lists each)
 
 -- a core that is held afterwards was held by that task, which is unmarked
-still_held : (marks : List Bool) (holder : Option ℕ) (id : ℕ) → Some id ≡ freed_core marks holder → (holder ≡ Some id) × (is_marked marks id ≡ false)
+still_held : (marks : List Bool) (holder : Option ℕ) (id : ℕ) → Some id ≡ freed_core marks holder
+    → (holder ≡ Some id) × (is_marked marks id ≡ false)
 still_held marks None id is = absurd (cc)
 still_held marks (Some held) id is = by_mark (is_marked marks held) refl
   where
@@ -70,8 +74,10 @@ module _ (marks : List Bool) (old new : View) (takes : TakesMarked marks old new
       ∙ (λ i. record old { tasks = new.tasks; memory = new.memory; queues = queues i; finished = takes.finished i; cores = takes.cores i })
 
   -- each task was there, in the same tile
-  pub was_in_tile : (id : ℕ) (now : Task) → task_at new id ≡ Some now → (was : Task) × (task_at old id ≡ Some was) × (now.tile ≡ was.tile)
-  was_in_tile = each_now marks old new takes (λ id now. (was : Task) × (task_at old id ≡ Some was) × (now.tile ≡ was.tile))
+  pub was_in_tile : (id : ℕ) (now : Task) → task_at new id ≡ Some now
+      → (was : Task) × (task_at old id ≡ Some was) × (now.tile ≡ was.tile)
+  was_in_tile =
+      each_now marks old new takes (λ id now. (was : Task) × (task_at old id ≡ Some was) × (now.tile ≡ was.tile))
       (λ id t there out. (t, there, refl)) (λ id now back. (back.was, back.there, refl))
 
   -- a task that is there stands so
@@ -99,7 +105,8 @@ module _ (marks : List Bool) (old new : View) (takes : TakesMarked marks old new
       subst (λ ids. Contains ids id) (sym (list_mapped (filter here) refl old.queues tile))
       (filter_leaves here (queue_at old tile) id was (ap (λ o. is_some (option_map room_task o)) now.1))
 
-  finished_forth : (tile id : ℕ) → Contains (finished_at listed tile) id → HasTask listed tile id (λ status. status ≡ Finished)
+  finished_forth : (tile id : ℕ) → Contains (finished_at listed tile) id
+      → HasTask listed tile id (λ status. status ≡ Finished)
   finished_forth tile id has =
       let left : Contains (filter unmarked (finished_at old tile)) id = subst (λ ids. Contains ids id) (list_mapped (filter unmarked) refl old.finished tile) has in
       let was = (sizes.finished_are tile id).0 (filter_was unmarked (finished_at old tile) id left) in
@@ -107,19 +114,23 @@ module _ (marks : List Bool) (old new : View) (takes : TakesMarked marks old new
       (was.0, unmarked_stays marks old new takes id out ∙ was.1, was.2, was.3)
 
   -- a task whose status is none of an idle one is unmarked, and was the same before
-  not_idle : (kind : Status → Type 0) → ((t : Task) → kind (idle_again old.version t).status → ⊥) → (id : ℕ) (now : Task) → task_at new id ≡ Some now → kind now.status
+  not_idle : (kind : Status → Type 0) → ((t : Task) → kind (idle_again old.version t).status → ⊥)
+      → (id : ℕ) (now : Task) → task_at new id ≡ Some now → kind now.status
       → (is_marked marks id ≡ false) × (task_at old id ≡ Some now)
-  not_idle kind none = each_now marks old new takes (λ id now. kind now.status → (is_marked marks id ≡ false) × (task_at old id ≡ Some now))
+  not_idle kind none =
+      each_now marks old new takes (λ id now. kind now.status → (is_marked marks id ≡ false) × (task_at old id ≡ Some now))
       (λ id t there out is. (out, there)) (λ id now back is. absurd (none back.was is))
 
-  finished_back : (tile id : ℕ) → HasTask listed tile id (λ status. status ≡ Finished) → Contains (finished_at listed tile) id
+  finished_back : (tile id : ℕ) → HasTask listed tile id (λ status. status ≡ Finished)
+      → Contains (finished_at listed tile) id
   finished_back tile id now =
       let was = not_idle (λ status. status ≡ Finished) (λ t is. absurd (cc)) id now.0 now.1 now.3 in
       let has = (sizes.finished_are tile id).1 (now.0, was.1, now.2, now.3) in
       subst (λ ids. Contains ids id) (sym (list_mapped (filter unmarked) refl old.finished tile))
       (filter_leaves unmarked (finished_at old tile) id has (ap not was.0))
 
-  held_forth : (tile core id : ℕ) → slice_get (cores_at listed tile) core ≡ Some (Some id) → HasTask listed tile id (λ status. HasCore status core)
+  held_forth : (tile core id : ℕ) → slice_get (cores_at listed tile) core ≡ Some (Some id)
+      → HasTask listed tile id (λ status. HasCore status core)
   held_forth tile core id held =
       let got : slice_get (map (freed_core marks) (cores_at old tile)) core ≡ Some (Some id) =
       ap (λ cores. slice_get cores core) (sym (list_mapped (map (freed_core marks)) refl old.cores tile)) ∙ held
@@ -129,7 +140,8 @@ module _ (marks : List Bool) (old new : View) (takes : TakesMarked marks old new
       let was = (sizes.held_are tile core id).0 (from.1 ∙ ap Some still.0) in
       (was.0, unmarked_stays marks old new takes id still.1 ∙ was.1, was.2, was.3)
 
-  held_back : (tile core id : ℕ) → HasTask listed tile id (λ status. HasCore status core) → slice_get (cores_at listed tile) core ≡ Some (Some id)
+  held_back : (tile core id : ℕ) → HasTask listed tile id (λ status. HasCore status core)
+      → slice_get (cores_at listed tile) core ≡ Some (Some id)
   held_back tile core id now =
       let was = not_idle (λ status. HasCore status core) (λ t is. is) id now.0 now.1 now.3 in
       let got = (sizes.held_are tile core id).1 (now.0, was.1, now.2, now.3) in
@@ -153,10 +165,13 @@ module _ (marks : List Bool) (old new : View) (takes : TakesMarked marks old new
         queued_are = λ tile id. (queued_forth tile id, queued_back tile id);
         finished_are = λ tile id. (finished_forth tile id, finished_back tile id);
         held_are = λ tile core id. (held_forth tile core id, held_back tile core id);
-        kinds = each_now marks old new takes (λ id t. t.kinds < 2 ^ depth_of t) (λ id t there out. sizes.kinds id t there) (λ id now back. sizes.kinds id back.was back.there);
-        bytes = each_now marks old new takes (λ id t. length t.bytes ≤ MAX_EMITTED) (λ id t there out. sizes.bytes id t there) (λ id now back. omega arith);
+        kinds =
+            each_now marks old new takes (λ id t. t.kinds < 2 ^ depth_of t) (λ id t there out. sizes.kinds id t there) (λ id now back. sizes.kinds id back.was back.there);
+        bytes =
+            each_now marks old new takes (λ id t. length t.bytes ≤ MAX_EMITTED) (λ id t there out. sizes.bytes id t there) (λ id now back. omega arith);
         spilled = sizes.spilled;
       }
 
 pub abort_keeps_sizes : AbortKeepsSoundSizes
-abort_keeps_sizes marks old new takes sizes = subst SoundSizes (sym (new_is marks old new takes sizes)) (listed_sizes marks old new takes sizes)
+abort_keeps_sizes marks old new takes sizes =
+    subst SoundSizes (sym (new_is marks old new takes sizes)) (listed_sizes marks old new takes sizes)

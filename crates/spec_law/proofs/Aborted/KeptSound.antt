@@ -14,7 +14,8 @@ use Rattle.spec_state.specs.Queries.{Conflicts, IsLater}
 use Rattle.spec_state.specs.Aborts.{OnlyNode}
 use Rattle.spec_state.specs.Room.{asker_of}
 use Rattle.spec_law.specs.Sound.{Sound}
-use Rattle.spec_law.specs.AbortLaws.{AbortKeepsSound, AbortOfOneIsSound, AbortOfConflictsIsSound, AbortOfLaterIsSound, AbortForRoomIsSound}
+use Rattle.spec_law.specs.AbortLaws.{AbortKeepsSound, AbortOfOneIsSound, AbortOfConflictsIsSound, AbortOfLaterIsSound}
+use Rattle.spec_law.specs.AbortLaws.{AbortForRoomIsSound}
 use Rattle.spec_law.proofs.Aborted.Taken.{abort_takes}
 use Rattle.spec_law.proofs.Aborted.Kept.{abort_keeps_memory}
 use Rattle.spec_law.proofs.Tasks.Rebound.{abort_keeps_order}
@@ -50,7 +51,8 @@ abort_of_conflicts_is_sound image id line task write old aborted new sound there
     (conflicts_spare_heir image old id line task write abort.marks sound there abort.cascade)
 
 -- a task above a queued one is no heir
-above_is_no_heir : (image : ImageValue) (view : View) (sound : Sound image view) (id v : ℕ) (task x : Task) → task_at view id ≡ Some task → IsLater view task v x → sound.heir ≢ Some v
+above_is_no_heir : (image : ImageValue) (view : View) (sound : Sound image view) (id v : ℕ) (task x : Task)
+    → task_at view id ≡ Some task → IsLater view task v x → sound.heir ≢ Some v
 above_is_no_heir image view sound id v task x there later heir =
     let least = heir_is_least view sound.heir v sound.is_heir heir in
     let both : Some x ≡ Some least.0 = sym later.there ∙ least.1.queued_at.there in
@@ -62,7 +64,8 @@ abort_of_later_is_sound image id v task x old aborted new sound there later =
     abort_of_one_is_sound image v x old aborted new sound later.there (above_is_no_heir image old sound id v task x there later)
 
 -- the uncommitted creator of a task is a queued task
-creator_there : (image : ImageValue) (view : View) (sound : Sound image view) (v first : ℕ) (task : Task) → task_at view v ≡ Some task → (c : Creator) → task.creator ≡ c → live_creator c ≡ Some first
+creator_there : (image : ImageValue) (view : View) (sound : Sound image view) (v first : ℕ) (task : Task)
+    → task_at view v ≡ Some task → (c : Creator) → task.creator ≡ c → live_creator c ≡ Some first
     → (x : Task) × (task_at view first ≡ Some x) × (index : ℕ) × (task.creator ≡ Live (record { 0 = first }) index)
 creator_there image view sound v first task there (Committed turn index) is live = absurd (cc)
 creator_there image view sound v first task there (Live creator index) is live =

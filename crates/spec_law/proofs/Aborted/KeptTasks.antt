@@ -1,5 +1,6 @@
 -- An abort that spares the heir keeps the group of tasks.
-use Rattle.std.proofs.Common.{◌≡◌, ℕ, Bool, true, false, List, length, Option, Some, refl, sym, ap, subst, ◌∙◌, inl, is_some, unwrap_or}
+use Rattle.std.proofs.Common.{◌≡◌, ℕ, Bool, true, false, List, length, Option, Some, refl, sym, ap, subst, ◌∙◌, inl}
+use Rattle.std.proofs.Common.{is_some, unwrap_or}
 use Rattle.guest_image.specs.ImageValue.{ImageValue}
 use Rattle.serial_machine.specs.State.{SerialState}
 use Rattle.task_law.specs.Commit.{Matches}
@@ -27,38 +28,52 @@ each_now marks old new takes holds unmarked idle id t at = by_mark (is_marked ma
   where
     by_mark : (b : Bool) → is_marked marks id ≡ b → holds id t
     by_mark false out = unmarked id t (sym (unmarked_stays marks old new takes id out) ∙ at) out
-    by_mark true taken = let back = marked_is_back marks old new takes id t taken at in subst (holds id) (sym back.is) (idle id t back)
+    by_mark true taken =
+        let back = marked_is_back marks old new takes id t taken at in subst (holds id) (sym back.is) (idle id t back)
 
 module _ (image : ImageValue) (marks : List Bool) (old new : View) (heir : Option ℕ) (serial : SerialState) (takes : TakesMarked marks old new) (spares : SparesHeir marks heir) (sound : SoundTasks image old heir serial) where
   -- what an unmarked creator made it has made still
-  made_now : (id index : ℕ) (d : Descriptor) → is_marked marks id ≡ false → IsMadeBy old id index d → IsMadeBy (changed_to old new) id index d
+  made_now : (id index : ℕ) (d : Descriptor) → is_marked marks id ≡ false → IsMadeBy old id index d
+      → IsMadeBy (changed_to old new) id index d
   made_now id index d out made =
-      record { creator = made.creator; there = unmarked_stays marks old new takes id out ∙ made.there; spawn = made.spawn; made = made.made; descriptor_is = made.descriptor_is }
+      record {
+        creator = made.creator;
+        there = unmarked_stays marks old new takes id out ∙ made.there;
+        spawn = made.spawn;
+        made = made.made;
+        descriptor_is = made.descriptor_is;
+      }
 
   -- the creator of an unmarked task is unmarked
-  creator_out : (id c : ℕ) (t : Task) → task_at old id ≡ Some t → is_marked marks id ≡ false → live_creator t.creator ≡ Some c → is_marked marks c ≡ false
+  creator_out : (id c : ℕ) (t : Task) → task_at old id ≡ Some t → is_marked marks id ≡ false
+      → live_creator t.creator ≡ Some c → is_marked marks c ≡ false
   creator_out id c t there out made = by_mark (is_marked marks c) refl
     where
       by_mark : (b : Bool) → is_marked marks c ≡ b → is_marked marks c ≡ false
       by_mark false is = is
-      by_mark true is = absurd (cc (takes.holds c id (inl (record { child = t; there = there; made_by = made })) is, out))
+      by_mark true is =
+          absurd (cc (takes.holds c id (inl (record { child = t; there = there; made_by = made })) is, out))
 
   -- the free tasks are the same ones, and names are apart and families whole
   same_free : SameFree (length old.history) (bag_tasks old) (bags_spilled old) (bag_tasks new) (bags_spilled old)
       × (AreSound (length old.history) (unwrap_or heir 0) (is_some heir) (bag_tasks old) (bags_spilled old)
       → AreSound (length old.history) (unwrap_or heir 0) (is_some heir) (bag_tasks new) (bags_spilled old))
-  same_free = aborts_keep (is_marked marks) (bag_tasks old) (bag_tasks new) (bags_spilled old) (length old.history) (unwrap_or heir 0) (is_some heir) (bags_taken_back marks old new takes)
+  same_free =
+      aborts_keep (is_marked marks) (bag_tasks old) (bag_tasks new) (bags_spilled old) (length old.history) (unwrap_or heir 0) (is_some heir) (bags_taken_back marks old new takes)
 
   matches : Matches (length old.history) (bag_tasks new) (bags_spilled old) serial.stack
-  matches depth p = (λ free. (sound.matches depth p).0 ((same_free.0 depth p).1 free), λ stands. (same_free.0 depth p).0 ((sound.matches depth p).1 stands))
+  matches depth p =
+      (λ free. (sound.matches depth p).0 ((same_free.0 depth p).1 free), λ stands. (same_free.0 depth p).0 ((sound.matches depth p).1 stands))
 
   -- the domains of a task of a committed creator are those of the bags
   abbrev InBags : ℕ → Task → Type 0
-  InBags id t = (turn index : ℕ) → t.creator ≡ Committed turn index → FitsBags (domains_of t.kinds t.key.domain) serial.stack
+  InBags id t =
+      (turn index : ℕ) → t.creator ≡ Committed turn index → FitsBags (domains_of t.kinds t.key.domain) serial.stack
 
   -- a task is as its creator made it
   abbrev IsMade : ℕ → Task → Type 0
-  IsMade id t = (creator : TaskId) (index : ℕ) → t.creator ≡ Live creator index → IsMadeBy (changed_to old new) creator.0 index (descriptor_of t)
+  IsMade id t =
+      (creator : TaskId) (index : ℕ) → t.creator ≡ Live creator index → IsMadeBy (changed_to old new) creator.0 index (descriptor_of t)
 
   kept : SoundTasks image (changed_to old new) heir serial
   kept =
@@ -78,7 +93,8 @@ module _ (image : ImageValue) (marks : List Bool) (old new : View) (heir : Optio
             (λ k now back creator index made. made_now creator.0 index (descriptor_of back.was)
             (subst (λ c. is_marked_creator marks (live_creator c) ≡ false) made back.spared) (sound.children k back.was creator index back.there made))
             id task at creator index;
-        spilled_children = λ s has next. (let was = sound.spilled_children s has next in (was.0, was.1, made_now was.0 s.desc.name.index (spilled_descriptor s) (spares was.0 was.1) was.2));
+        spilled_children =
+            λ s has next. (let was = sound.spilled_children s has next in (was.0, was.1, made_now was.0 s.desc.name.index (spilled_descriptor s) (spares was.0 was.1) was.2));
       }
 
 pub abort_keeps_tasks : AbortKeepsSoundTasks

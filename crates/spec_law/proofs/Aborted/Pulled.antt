@@ -16,7 +16,8 @@ abbrev pub IsTaskAbove : View → Task → ℕ → Type 0
 IsTaskAbove view low id = (x : Task) × (task_at view id ≡ Some x) × (key_cmp low.key x.key ≡ Less)
 
 -- what is taken back with a task is a task above it
-pub pulled_above : (view : View) (heir : Option ℕ) → SoundOrder view heir → (a b : ℕ) (x : Task) → task_at view a ≡ Some x → PullsInView view a b → IsTaskAbove view x b
+pub pulled_above : (view : View) (heir : Option ℕ) → SoundOrder view heir → (a b : ℕ) (x : Task)
+    → task_at view a ≡ Some x → PullsInView view a b → IsTaskAbove view x b
 pulled_above view heir sound a b x there (inl child) =
     let has = sound.order.creators b (keyed_task child.child) a (queued_stands view heir b child.child child.there) child.made_by in
     let both : Some has.task ≡ Some (keyed_task x) = sym has.there ∙ queued_stands view heir a x there in

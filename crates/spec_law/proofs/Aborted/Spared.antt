@@ -16,7 +16,8 @@ use Rattle.spec_law.proofs.Aborted.Pulled.{IsTaskAbove}
 use Rattle.spec_law.proofs.Aborted.Cascades.{cascade_is_later, conflicts_are_later}
 
 -- a queued task stands at a place of its tile's queue
-pub queued_at : (view : View) → SoundSizes view → (id : ℕ) (task : Task) → task_at view id ≡ Some task → (place : ℕ) × IsQueuedAt view task.tile place id task
+pub queued_at : (view : View) → SoundSizes view → (id : ℕ) (task : Task) → task_at view id ≡ Some task
+    → (place : ℕ) × IsQueuedAt view task.tile place id task
 queued_at view sizes id task there =
     let place = contains_get (queue_at view task.tile) id ((sizes.queued_are task.tile id).1 (task, there, refl, tt)) in
     (place.0, record { queued = place.1; there = there })
@@ -32,22 +33,26 @@ least_key view id x is =
     has.3 ∙ ap (λ t. t.key) same
 
 -- no queued task is below the least one
-pub not_below_least : (view : View) → SoundSizes view → (least id : ℕ) (x task : Task) → IsLeastTask view least x → task_at view id ≡ Some task → key_cmp task.key x.key ≡ Less → ⊥
+pub not_below_least : (view : View) → SoundSizes view → (least id : ℕ) (x task : Task) → IsLeastTask view least x
+    → task_at view id ≡ Some task → key_cmp task.key x.key ≡ Less → ⊥
 not_below_least view sizes least id x task is there below =
     let spot = queued_at view sizes id task there in
     let greater : key_cmp is.least.key task.key ≡ Greater =
-    ap (λ k. key_cmp k task.key) (least_key view least x is) ∙ key_cmp_total.antisymm x.key task.key ∙ ap ordering_reverse below
+    ap (λ k. key_cmp k task.key) (least_key view least x is) ∙ key_cmp_total.antisymm x.key task.key
+    ∙ ap ordering_reverse below
     in
     is.least.least (Queued task.tile spot.0) task.key (id, task, spot.1, refl)
     (ap (λ o. ordering_then o (spot_cmp (Queued x.tile is.place) (Queued task.tile spot.0))) greater)
 
 -- the heir is the least task
-pub heir_is_least : (view : View) (heir : Option ℕ) (h : ℕ) → IsHeir view heir → heir ≡ Some h → (x : Task) × IsLeastTask view h x
+pub heir_is_least : (view : View) (heir : Option ℕ) (h : ℕ) → IsHeir view heir → heir ≡ Some h
+    → (x : Task) × IsLeastTask view h x
 heir_is_least view None h is same = absurd (cc)
 heir_is_least view (Some id) h is same = let eq : id ≡ h = cc in (is.0, subst (λ k. IsLeastTask view k is.0) eq is.1)
 
 -- where the heir, if it were marked, would lie above a task that is there, it is unmarked
-spared_by : (image : ImageValue) (view : View) (sound : Sound image view) (id : ℕ) (task : Task) (marks : List Bool) → task_at view id ≡ Some task
+spared_by : (image : ImageValue) (view : View) (sound : Sound image view) (id : ℕ) (task : Task) (marks : List Bool)
+    → task_at view id ≡ Some task
     → (h : ℕ) → sound.heir ≡ Some h → (is_marked marks h ≡ true → IsTaskAbove view task h) → is_marked marks h ≡ false
 spared_by image view sound id task marks there h heir above = by_mark (is_marked marks h) refl
   where

@@ -1,5 +1,6 @@
 -- What an abort leaves under each id, and what the laws of order, tasks and memory see of it.
-use Rattle.std.proofs.Common.{◌≡◌, ◌≤◌, ◌<◌, ◌∷◌, ℕ, zero, suc, Bool, true, false, List, [], length, Option, Some, None, refl, sym, ap, subst, ◌∙◌, inl, inr, arith, option_map, if◌then◌else◌}
+use Rattle.std.proofs.Common.{◌≡◌, ◌≤◌, ◌<◌, ◌∷◌, ℕ, zero, suc, Bool, true, false, List, [], length, Option, Some, None}
+use Rattle.std.proofs.Common.{refl, sym, ap, subst, ◌∙◌, inl, inr, arith, option_map, if◌then◌else◌}
 use Rattle.memory_law.specs.Events as memory
 use Rattle.memory_law.specs.Tasks.{Logged, Earlier}
 use Rattle.order_law.specs.Events as order
@@ -11,7 +12,8 @@ use Rattle.spec_state.specs.declared.task.Creator.TheVariants.{Committed, Live}
 use Rattle.spec_state.specs.declared.task.Task.{Task}
 use Rattle.spec_state.specs.View.{View, task_at}
 use Rattle.spec_state.specs.Tasks.{idle_again}
-use Rattle.spec_state.specs.Groups.{keyed_tasks, keyed_task, logged_tasks, logged_task, bag_tasks, bag_task, bag_creator, live_creator}
+use Rattle.spec_state.specs.Groups.{keyed_tasks, keyed_task, logged_tasks, logged_task, bag_tasks, bag_task}
+use Rattle.spec_state.specs.Groups.{bag_creator, live_creator}
 use Rattle.spec_state.specs.Aborts.{PullsInView, IsCascade, is_marked, is_marked_creator, taken_back, Aborts, OnlyNode}
 use Rattle.spec_law.specs.AbortLaws.{HoldsPulled, TakesMarked, AbortTakesMarked, ConflictsTakeMarked}
 use Rattle.spec_law.proofs.Tasks.Beside.{id_below}
@@ -35,25 +37,37 @@ pulled_there view a b (inl child) = (child.child, child.there)
 pulled_there view a b (inr reads) = (reads.reader, reads.later.there)
 
 -- the marks of a cascade hold all that is taken back with what they hold
-pub cascade_holds : (view : View) (firsts : ℕ → Type 0) (marks : List Bool) → IsCascade view firsts marks → HoldsPulled view marks
+pub cascade_holds : (view : View) (firsts : ℕ → Type 0) (marks : List Bool) → IsCascade view firsts marks
+    → HoldsPulled view marks
 cascade_holds view firsts marks cascade a b pulled marked =
     let there = pulled_there view a b pulled in
     let in_tasks = id_below view b there.0 there.1 in
     let size : length view.tasks ≤ length marks = cascade.size in
     cascade.least.closed a b (marked_below marks a marked) (omega (arith, in_tasks, size)) ((cascade.pulls a b).1 pulled) marked
 
-pub abort_takes : (firsts : ℕ → Type 0) (old : View) (aborted : ℕ) (new : View) (abort : Aborts firsts old aborted new) → TakesMarked abort.marks old new
+pub abort_takes : (firsts : ℕ → Type 0) (old : View) (aborted : ℕ) (new : View) (abort : Aborts firsts old aborted new)
+    → TakesMarked abort.marks old new
 abort_takes firsts old aborted new abort =
-    record { holds = cascade_holds old firsts abort.marks abort.cascade; each = abort.each; memory = abort.memory; queues = abort.queues; finished = abort.finished; cores = abort.cores; frame = abort.frame }
+    record {
+      holds = cascade_holds old firsts abort.marks abort.cascade;
+      each = abort.each;
+      memory = abort.memory;
+      queues = abort.queues;
+      finished = abort.finished;
+      cores = abort.cores;
+      frame = abort.frame;
+    }
 
 pub abort_takes_marked : AbortTakesMarked
 abort_takes_marked first = abort_takes (OnlyNode first)
 
 pub conflicts_take_marked : ConflictsTakeMarked
-conflicts_take_marked task line write old = abort_takes (Rattle.spec_state.specs.Queries.Conflicts old task line write) old
+conflicts_take_marked task line write old =
+    abort_takes (Rattle.spec_state.specs.Queries.Conflicts old task line write) old
 
 -- what stands under an unmarked id stays
-taken_unmarked : (version : ℕ) (marks : List Bool) (id : ℕ) (was : Option Task) → is_marked marks id ≡ false → taken_back version marks id was ≡ was
+taken_unmarked : (version : ℕ) (marks : List Bool) (id : ℕ) (was : Option Task) → is_marked marks id ≡ false
+    → taken_back version marks id was ≡ was
 taken_unmarked version marks id None out = refl
 taken_unmarked version marks id (Some t) out =
     ap (λ b. if b then (if is_marked_creator marks (live_creator t.creator) then None else Some (idle_again version t)) else Some t) out
@@ -81,21 +95,28 @@ module _ (marks : List Bool) (old new : View) (takes : TakesMarked marks old new
   -- what becomes of a marked task
   marked_now : (id : ℕ) (t : Task) → is_marked marks id ≡ true → task_at old id ≡ Some t
       → task_at new id ≡ (if is_marked_creator marks (live_creator t.creator) then None else Some (idle_again old.version t))
-  marked_now id t taken there = takes.each id ∙ ap (taken_back old.version marks id) there ∙ taken_marked old.version marks id t taken
+  marked_now id t taken there =
+      takes.each id ∙ ap (taken_back old.version marks id) there ∙ taken_marked old.version marks id t taken
 
-  pub marked_leaves : (id : ℕ) (t : Task) → is_marked marks id ≡ true → task_at old id ≡ Some t → is_marked_creator marks (live_creator t.creator) ≡ true
+  pub marked_leaves : (id : ℕ) (t : Task) → is_marked marks id ≡ true → task_at old id ≡ Some t
+      → is_marked_creator marks (live_creator t.creator) ≡ true
       → task_at new id ≡ None
-  marked_leaves id t taken there creator = marked_now id t taken there ∙ ap (λ b. if b then None else Some (idle_again old.version t)) creator
+  marked_leaves id t taken there creator =
+      marked_now id t taken there ∙ ap (λ b. if b then None else Some (idle_again old.version t)) creator
 
-  pub marked_idles : (id : ℕ) (t : Task) → is_marked marks id ≡ true → task_at old id ≡ Some t → is_marked_creator marks (live_creator t.creator) ≡ false
+  pub marked_idles : (id : ℕ) (t : Task) → is_marked marks id ≡ true → task_at old id ≡ Some t
+      → is_marked_creator marks (live_creator t.creator) ≡ false
       → task_at new id ≡ Some (idle_again old.version t)
-  marked_idles id t taken there creator = marked_now id t taken there ∙ ap (λ b. if b then None else Some (idle_again old.version t)) creator
+  marked_idles id t taken there creator =
+      marked_now id t taken there ∙ ap (λ b. if b then None else Some (idle_again old.version t)) creator
 
   -- a marked task that is there afterwards is idle again
-  pub marked_is_back : (id : ℕ) (now : Task) → is_marked marks id ≡ true → task_at new id ≡ Some now → IsBack marks old id now
+  pub marked_is_back : (id : ℕ) (now : Task) → is_marked marks id ≡ true → task_at new id ≡ Some now
+      → IsBack marks old id now
   marked_is_back id now taken at = by_was (task_at old id) refl
     where
-      by_creator : (t : Task) → task_at old id ≡ Some t → (b : Bool) → is_marked_creator marks (live_creator t.creator) ≡ b → IsBack marks old id now
+      by_creator : (t : Task) → task_at old id ≡ Some t → (b : Bool)
+          → is_marked_creator marks (live_creator t.creator) ≡ b → IsBack marks old id now
       by_creator t there true creator = absurd (cc (marked_leaves id t taken there creator, at))
       by_creator t there false creator =
           let both : Some now ≡ Some (idle_again old.version t) = sym at ∙ marked_idles id t taken there creator in
@@ -107,7 +128,8 @@ module _ (marks : List Bool) (old new : View) (takes : TakesMarked marks old new
       by_was (Some t) there = by_creator t there (is_marked_creator marks (live_creator t.creator)) refl
 
   -- the order of tasks
-  holds_children : (k c : ℕ) (x : Keyed) → keyed_tasks old k ≡ Some x → x.creator ≡ Some c → is_marked marks c ≡ true → is_marked marks k ≡ true
+  holds_children : (k c : ℕ) (x : Keyed) → keyed_tasks old k ≡ Some x → x.creator ≡ Some c → is_marked marks c ≡ true
+      → is_marked marks k ≡ true
   holds_children k c x at creator marked =
       let read = mapped_some keyed_task (task_at old k) x at in
       takes.holds c k (inl (record { child = read.0; there = read.1; made_by = sym (ap (λ y. y.creator) read.2) ∙ creator })) marked
@@ -124,10 +146,16 @@ module _ (marks : List Bool) (old new : View) (takes : TakesMarked marks old new
       )
 
   pub order_aborts : order.AbortsInKeys (is_marked marks) (keyed_tasks old) (keyed_tasks new)
-  order_aborts = record { holds_children = holds_children; others = λ k out. ap (option_map keyed_task) (unmarked_stays k out); members = members }
+  order_aborts =
+      record {
+        holds_children = holds_children;
+        others = λ k out. ap (option_map keyed_task) (unmarked_stays k out);
+        members = members;
+      }
 
   -- memory
-  logs_back : (id : ℕ) (task : Logged) → is_marked marks id ≡ true → logged_tasks new id ≡ Some task → (task.dispatched ≡ false) × (task.log ≡ [])
+  logs_back : (id : ℕ) (task : Logged) → is_marked marks id ≡ true → logged_tasks new id ≡ Some task
+      → (task.dispatched ≡ false) × (task.log ≡ [])
   logs_back id task taken at =
       let read = mapped_some logged_task (task_at new id) task at in
       let back = marked_is_back id read.0 taken read.1 in
@@ -155,11 +183,13 @@ module _ (marks : List Bool) (old new : View) (takes : TakesMarked marks old new
 
   -- the bags
   -- a creator that is unmarked wherever it is uncommitted
-  spared_is : (c : Creator) → ((k index : ℕ) → bag_creator c ≡ bags.Live k index → is_marked marks k ≡ false) → is_marked_creator marks (live_creator c) ≡ false
+  spared_is : (c : Creator) → ((k index : ℕ) → bag_creator c ≡ bags.Live k index → is_marked marks k ≡ false)
+      → is_marked_creator marks (live_creator c) ≡ false
   spared_is (Committed turn i) spared = refl
   spared_is (Live task i) spared = spared task.0 i refl
 
-  bag_gone : (k : ℕ) (x : bags.BagTask) (creator index : ℕ) → is_marked marks k ≡ true → bag_tasks old k ≡ Some x → x.creator ≡ bags.Live creator index
+  bag_gone : (k : ℕ) (x : bags.BagTask) (creator index : ℕ) → is_marked marks k ≡ true → bag_tasks old k ≡ Some x
+      → x.creator ≡ bags.Live creator index
       → is_marked marks creator ≡ true → bag_tasks new k ≡ None
   bag_gone k x creator index taken at made marked =
       let read = mapped_some bag_task (task_at old k) x at in
@@ -172,7 +202,8 @@ module _ (marks : List Bool) (old new : View) (takes : TakesMarked marks old new
   bag_stays k x taken at spared =
       let read = mapped_some bag_task (task_at old k) x at in
       let creator = spared_is read.0.creator (λ c index made. spared c index (ap (λ t. t.creator) read.2 ∙ made)) in
-      ap (option_map bag_task) (marked_idles k read.0 taken read.1 creator) ∙ ap (λ t. Some (moves.idle_bag_task t)) (sym read.2)
+      ap (option_map bag_task) (marked_idles k read.0 taken read.1 creator)
+      ∙ ap (λ t. Some (moves.idle_bag_task t)) (sym read.2)
 
   pub bags_taken_back : moves.TakesBackInBags (is_marked marks) (bag_tasks old) (bag_tasks new)
   bags_taken_back =

@@ -1,5 +1,6 @@
 -- A load or a store with which no task conflicts keeps a view sound.
-use Rattle.std.proofs.Common.{◌≡◌, ◌∷◌, ◌++◌, ◌/◌, ℕ, List, Bool, true, false, [], length, Some, None, refl, sym, ap, subst, ◌∙◌, is_some, option_map}
+use Rattle.std.proofs.Common.{◌≡◌, ◌∷◌, ◌++◌, ◌/◌, ℕ, List, Bool, true, false, [], length, Some, None, refl, sym, ap}
+use Rattle.std.proofs.Common.{subst, ◌∙◌, is_some, option_map}
 use Rattle.std.proofs.lemmas.Bool.{false_from_ne_true}
 use Rattle.guest_image.specs.ImageValue.{ImageValue}
 use Rattle.memory_law.specs.Chain.{IsChained}
@@ -34,7 +35,8 @@ use Rattle.spec_law.proofs.Steps.Tasks.{step_keeps_tasks}
 use Rattle.fractal_vt.proofs.Proved.{mapped_some}
 
 -- an access keeps the number that stood there
-access_old : (memory : List ℕ) (call : MemoryCall) → (access_of memory call).old ≡ number_at memory (access_of memory call).offset (access_of memory call).width
+access_old : (memory : List ℕ) (call : MemoryCall)
+    → (access_of memory call).old ≡ number_at memory (access_of memory call).offset (access_of memory call).width
 access_old memory (Load offset width) = refl
 access_old memory (Store offset width value) = refl
 
@@ -73,14 +75,16 @@ module _ (image : ImageValue) (old new : View) (sound : Sound image old) (tile c
     log = refl;
     accessible = within;
     old_is = access_old old.memory call;
-    noted = noted_more (length old.memory) old.settings.line (has_touched task) (has_written task) task.log access does.lines
+    noted =
+        noted_more (length old.memory) old.settings.line (has_touched task) (has_written task) task.log access does.lines
         (subst (λ n. IsNoted n old.settings.line (logged_task task)) (sym sound.memory.chained.size)
         (sound.memory.chained.noted id (logged_task task) (ap (option_map logged_task) there)))
         within does.notes;
   }
 
   -- a later dispatched task has no line of the access
-  no_line : (write : Bool) → is_some access.new ≡ write → (k : ℕ) (other : Logged) → logged_tasks old k ≡ Some other → other.dispatched ≡ true → Earlier (logged_task task) other
+  no_line : (write : Bool) → is_some access.new ≡ write → (k : ℕ) (other : Logged) → logged_tasks old k ≡ Some other
+      → other.dispatched ≡ true → Earlier (logged_task task) other
       → (x : Task) × (other ≡ logged_task x) × (HasLine write x (access.offset / old.settings.line) → ⊥)
   no_line write same k other at runs later =
       let read = mapped_some logged_task (task_at old k) other at in (
@@ -97,17 +101,20 @@ module _ (image : ImageValue) (old new : View) (sound : Sound image old) (tile c
         }),
       )
 
-  no_later_wrote : access.new ≡ None → memory.NoLaterWrote (logged_tasks old) (logged_task task) (access.offset / old.settings.line)
+  no_later_wrote : access.new ≡ None
+      → memory.NoLaterWrote (logged_tasks old) (logged_task task) (access.offset / old.settings.line)
   no_later_wrote none k other at runs later =
       let line = no_line false (ap is_some none) k other at runs later in
       false_from_ne_true (other.wrote (access.offset / old.settings.line)) (λ wrote. line.2 (sym (ap (λ t. t.wrote (access.offset / old.settings.line)) line.1) ∙ wrote))
 
-  no_later_touched : (value : ℕ) → access.new ≡ Some value → memory.NoLaterTouched (logged_tasks old) (logged_task task) (access.offset / old.settings.line)
+  no_later_touched : (value : ℕ) → access.new ≡ Some value
+      → memory.NoLaterTouched (logged_tasks old) (logged_task task) (access.offset / old.settings.line)
   no_later_touched value some k other at runs later =
       let line = no_line true (ap is_some some) k other at runs later in
       false_from_ne_true (other.touched (access.offset / old.settings.line)) (λ touched. line.2 (sym (ap (λ t. t.touched (access.offset / old.settings.line)) line.1) ∙ touched))
 
-  chained_by : (c : MemoryCall) → call ≡ c → IsChained old.settings.line (logged_tasks new) sound.serial.memory (after_call old.memory call)
+  chained_by : (c : MemoryCall) → call ≡ c
+      → IsChained old.settings.line (logged_tasks new) sound.serial.memory (after_call old.memory call)
   chained_by (Load offset width) is =
       let none : access.new ≡ None = ap (λ c. (access_of old.memory c).new) is in
       subst (λ c. IsChained old.settings.line (logged_tasks new) sound.serial.memory (after_call old.memory c)) (sym is)
@@ -146,7 +153,8 @@ module _ (image : ImageValue) (old new : View) (sound : Sound image old) (tile c
       is_run = subst (λ v. IsRun image v.settings.budget v.history sound.serial) (sym does.frame) sound.is_run;
       heir = sound.heir;
       is_heir = step_keeps_heir old new id task now steps_one sound.heir sound.is_heir;
-      tasks = step_keeps_tasks old new id task now steps_one (λ index spawn at. (at, refl)) image sound.heir sound.serial sound.tasks refl stands_now;
+      tasks =
+          step_keeps_tasks old new id task now steps_one (λ index spawn at. (at, refl)) image sound.heir sound.serial sound.tasks refl stands_now;
       memory = access_keeps_memory;
       order = step_keeps_order old new id task now steps_one sound.heir sound.order;
       sizes = step_keeps_sizes old new id task now steps_one sound.sizes

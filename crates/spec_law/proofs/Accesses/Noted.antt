@@ -16,14 +16,16 @@ pub none_noted : HasNotes no_lines []
 none_noted = is_signature_of_none
 
 -- where a log is noted, each of its accesses lies aligned within the memory
-noted_within : (size line : ℕ) (touched wrote : ℕ → Bool) (log : List Access) → AreNotedInFilter size line touched wrote log → AllAccessible size log
+noted_within : (size line : ℕ) (touched wrote : ℕ → Bool) (log : List Access)
+    → AreNotedInFilter size line touched wrote log → AllAccessible size log
 noted_within size line touched wrote [] noted = All-nil (λ access. IsAccessible size access.offset access.width)
 noted_within size line touched wrote (access ∷ log) noted =
     All-cons (λ access. IsAccessible size access.offset access.width) access log noted.0 (noted_within size line touched wrote log noted.3)
 
 -- a filter with the notes of a log and one access more leaves none of them out
 pub noted_more : (size line : ℕ) (touched wrote : ℕ → Bool) (log : List Access) (access : Access) (lines : Lines)
-    → AreNotedInFilter size line touched wrote log → IsAccessible size access.offset access.width → HasNotes lines (notes_of line (log ++ access ∷ []))
+    → AreNotedInFilter size line touched wrote log → IsAccessible size access.offset access.width
+    → HasNotes lines (notes_of line (log ++ access ∷ []))
     → AreNotedInFilter size line (touched_of lines) (wrote_of lines) (log ++ access ∷ [])
 noted_more size line touched wrote log access lines noted within notes =
     noted_all size line (touched_of lines) (wrote_of lines) (log ++ access ∷ [])

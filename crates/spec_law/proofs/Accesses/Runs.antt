@@ -30,7 +30,8 @@ RanWith image old task access core =
 
 module _ (image : ImageValue) (old : View) (sound : Sound image old) (tile core id : ℕ) (leg : LegValue) (task : Task) where
   -- what a task asks of memory lies in it
-  pub lies_within : (asked : Request) → AsksAt image old tile core leg id task asked → IsInData (length old.memory) asked
+  pub lies_within : (asked : Request) → AsksAt image old tile core leg id task asked
+      → IsInData (length old.memory) asked
   lies_within asked at =
       let reaches : image.data_size ≤ length sound.serial.memory = run_reaches image old.settings.budget old.history sound.serial sound.is_run in
       let long : length old.memory ≡ length sound.serial.memory = sound.memory.chained.size in
@@ -38,7 +39,8 @@ module _ (image : ImageValue) (old : View) (sound : Sound image old) (tile core 
       (request_at-reaches (context_of old.version task) leg.to leg.stop image.data_size (length old.memory) (omega (arith, reaches, long)) at.is_leg.run.inside)
 
   -- a load
-  pub ran_load : (width : LoadWidth) (rd offset : ℕ) → AsksAt image old tile core leg id task (request.Load width rd offset)
+  pub ran_load : (width : LoadWidth) (rd offset : ℕ)
+      → AsksAt image old tile core leg id task (request.Load width rd offset)
       → RanWith image old task (access_of old.memory (Load offset (load_width width))) (after_load_of leg.to width rd (number_at old.memory offset (load_width width)))
   ran_load width rd offset at =
       load (access_of old.memory (Load offset (load_width width))) width rd (ran_leg image old sound tile core id leg task at.is_leg)

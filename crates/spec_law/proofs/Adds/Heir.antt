@@ -1,5 +1,6 @@
 -- A task that comes to be, idle and above the heir, leaves the heir the heir, and makes none where there was none.
-use Rattle.std.proofs.Common.{◌≡◌, ◌⊎◌, ◌<◌, ℕ, true, length, Option, Some, None, refl, sym, ap, subst, ◌∙◌, inl, inr, slice_get}
+use Rattle.std.proofs.Common.{◌≡◌, ◌⊎◌, ◌<◌, ℕ, true, length, Option, Some, None, refl, sym, ap, subst, ◌∙◌, inl, inr}
+use Rattle.std.proofs.Common.{slice_get}
 use Rattle.std.specs.Ordering.{ordering_then}
 use Rattle.std.specs.declared.cmp.Ordering.TheVariants.{Less}
 use Rattle.fractal_vt.specs.declared.key.Key.{Key}
@@ -57,7 +58,8 @@ module _ (old new : View) (id : ℕ) (task : Task) (adds : Adds id task old new)
       }
 
   -- a dispatched least task was the least one before
-  was_least : task ≡ idle_again old.version task → (k : ℕ) (t : Task) → IsLeastTask now k t → is_dispatched t ≡ true → IsLeastTask old k t
+  was_least : task ≡ idle_again old.version task → (k : ℕ) (t : Task) → IsLeastTask now k t → is_dispatched t ≡ true
+      → IsLeastTask old k t
   was_least idle k t least runs =
       record {
         place = least.place;
@@ -78,10 +80,13 @@ module _ (old new : View) (id : ℕ) (task : Task) (adds : Adds id task old new)
         | inr same ↦ absurd (cc (was, ap (task_at old) same, adds.vacant))
       ]
 
-  kept : (heir : Option ℕ) → task ≡ idle_again old.version task → ((h : ℕ) (x : Task) → heir ≡ Some h → task_at old h ≡ Some x → key_cmp x.key task.key ≡ Less) → IsHeir old heir → IsHeir now heir
+  kept : (heir : Option ℕ) → task ≡ idle_again old.version task
+      → ((h : ℕ) (x : Task) → heir ≡ Some h → task_at old h ≡ Some x → key_cmp x.key task.key ≡ Less) → IsHeir old heir
+      → IsHeir now heir
   kept (Some h) idle above (x, least, runs) = (x, stays_least h x (above h x refl least.queued_at.there) least, runs)
   kept None idle above none = λ k t least runs. none k t (was_least idle k t least runs) runs
 
-  pub add_keeps_heir : (heir : Option ℕ) → task ≡ idle_again old.version task → ((h : ℕ) (x : Task) → heir ≡ Some h → task_at old h ≡ Some x → key_cmp x.key task.key ≡ Less)
+  pub add_keeps_heir : (heir : Option ℕ) → task ≡ idle_again old.version task
+      → ((h : ℕ) (x : Task) → heir ≡ Some h → task_at old h ≡ Some x → key_cmp x.key task.key ≡ Less)
       → IsHeir old heir → IsHeir new heir
   add_keeps_heir heir idle above is = subst (λ v. IsHeir v heir) (sym adds.frame) (kept heir idle above is)

@@ -1,5 +1,6 @@
 -- A new child keeps the order of all uncommitted tasks.
-use Rattle.std.proofs.Common.{◌≡◌, ◌≢◌, ◌<◌, ℕ, Bool, true, false, List, length, Option, Some, None, refl, sym, ap, subst, ◌∙◌, map, option_map, nat_lt}
+use Rattle.std.proofs.Common.{◌≡◌, ◌≢◌, ◌<◌, ℕ, Bool, true, false, List, length, Option, Some, None, refl, sym, ap}
+use Rattle.std.proofs.Common.{subst, ◌∙◌, map, option_map, nat_lt}
 use Rattle.std.proofs.lemmas.Bool.{lt-ltb}
 use Rattle.fractal_vt.specs.Levels.{closed_level}
 use Rattle.order_law.specs.Events.{beside, Changes, IsPlaced}
@@ -40,8 +41,12 @@ module _ (old new : View) (id : ℕ) (task : Task) (adds : Adds id task old new)
     where
       by_test : (b : Bool) → nat_lt k (length new.tasks) ≡ b → after k ≡ before k
       by_test true low =
-          low_is (length new.tasks) (keyed_tasks new) spilled_list k low ∙ ap (option_map keyed_task) (adds.changes.others k other) ∙ sym (low_is (length new.tasks) (keyed_tasks old) spilled_list k low)
-      by_test false high = high_is (length new.tasks) (keyed_tasks new) spilled_list k high ∙ sym (high_is (length new.tasks) (keyed_tasks old) spilled_list k high)
+          low_is (length new.tasks) (keyed_tasks new) spilled_list k low
+          ∙ ap (option_map keyed_task) (adds.changes.others k other)
+          ∙ sym (low_is (length new.tasks) (keyed_tasks old) spilled_list k low)
+      by_test false high =
+          high_is (length new.tasks) (keyed_tasks new) spilled_list k high
+          ∙ sym (high_is (length new.tasks) (keyed_tasks old) spilled_list k high)
 
   vacant : before id ≡ None
   vacant =
@@ -51,13 +56,17 @@ module _ (old new : View) (id : ℕ) (task : Task) (adds : Adds id task old new)
   changes : Changes before after id (Some (keyed_task task))
   changes =
       record {
-        changed = beside_task (length new.tasks) (keyed_tasks new) spilled_list id (keyed_task task) (id_below new id task adds.changes.changed) (ap (option_map keyed_task) adds.changes.changed);
+        changed =
+            beside_task (length new.tasks) (keyed_tasks new) spilled_list id (keyed_task task) (id_below new id task adds.changes.changed) (ap (option_map keyed_task) adds.changes.changed);
         others = others;
       }
 
-  pub add_keeps_order : (creator number : ℕ) (creator_task : Task) → task_at old creator ≡ Some creator_task → creator_task.key.tb ≡ Some number → task.key.tb ≡ None
-      → live_creator task.creator ≡ Some creator → IsPlaced (keyed_task creator_task) (keyed_task task) → SoundOrder old heir → SoundOrder new heir
-  add_keeps_order creator number creator_task there numbered open' made_by placed sound = subst (λ v. SoundOrder v heir) (sym adds.frame) (record { order = kept; numbers = sound.numbers })
+  pub add_keeps_order : (creator number : ℕ) (creator_task : Task) → task_at old creator ≡ Some creator_task
+      → creator_task.key.tb ≡ Some number → task.key.tb ≡ None
+      → live_creator task.creator ≡ Some creator → IsPlaced (keyed_task creator_task) (keyed_task task)
+      → SoundOrder old heir → SoundOrder new heir
+  add_keeps_order creator number creator_task there numbered open' made_by placed sound =
+      subst (λ v. SoundOrder v heir) (sym adds.frame) (record { order = kept; numbers = sound.numbers })
     where
       kept : IsOrdered (all_keyed (added_to old new) heir) (map closed_level old.path) old.next
       kept =
@@ -65,7 +74,8 @@ module _ (old new : View) (id : ℕ) (task : Task) (adds : Adds id task old new)
           (record {
             creator = creator;
             task = keyed_task creator_task;
-            there = beside_task (length new.tasks) (keyed_tasks old) spilled_list creator (keyed_task creator_task) (bounded creator (keyed_task creator_task) (ap (option_map keyed_task) there)).1 (ap (option_map keyed_task) there);
+            there =
+                beside_task (length new.tasks) (keyed_tasks old) spilled_list creator (keyed_task creator_task) (bounded creator (keyed_task creator_task) (ap (option_map keyed_task) there)).1 (ap (option_map keyed_task) there);
             number = number;
             dispatched = numbered;
             id = id;

@@ -1,9 +1,11 @@
 -- A task that comes to be, idle, as the last one of a queue with a free place keeps the group of sizes.
-use Rattle.std.proofs.Common.{◌≡◌, ◌≢◌, ◌<◌, ◌≤◌, ◌^◌, ◌+◌, ◌∷◌, ◌++◌, ℕ, [], length, sym, ap, subst, ◌∙◌, inl, inr, arith}
+use Rattle.std.proofs.Common.{◌≡◌, ◌≢◌, ◌<◌, ◌≤◌, ◌^◌, ◌+◌, ◌∷◌, ◌++◌, ℕ, [], length, sym, ap, subst, ◌∙◌, inl, inr}
+use Rattle.std.proofs.Common.{arith}
 use Rattle.std.specs.Prelude.{Contains, All}
 use Rattle.std.proofs.lemmas.Bool.{cases_eq}
 use Rattle.std.proofs.lemmas.List.{length_push, length-set}
-use Rattle.std.proofs.lemmas.List.Elements.{All-set, Contains-get_or, Contains-push, Contains-push_cases, Contains-append_left}
+use Rattle.std.proofs.lemmas.List.Elements.{All-set, Contains-get_or, Contains-push, Contains-push_cases}
+use Rattle.std.proofs.lemmas.List.Elements.{Contains-append_left}
 use Rattle.std.proofs.lemmas.List.Quantifiers.{all_pairs_push}
 use Rattle.tile_queues.specs.Queue.{AreDistinct}
 use Rattle.spec_state.specs.declared.emitted.TheConstants.{MAX_EMITTED}
@@ -34,7 +36,8 @@ module _ (old new : View) (id : ℕ) (task : Task) (adds : Adds id task old new)
   has_forth kind tile k has = (has.0, still_there old new id task adds k has.0 has.1, has.2, has.3)
 
   -- and was there, where that is no status of an idle one
-  has_back : (kind : Status → Type 0) → (kind Idle → ⊥) → (tile k : ℕ) → HasTask now tile k kind → HasTask old tile k kind
+  has_back : (kind : Status → Type 0) → (kind Idle → ⊥) → (tile k : ℕ) → HasTask now tile k kind
+      → HasTask old tile k kind
   has_back kind none tile k has = elim (cases_eq k id) [
     | inl same ↦ absurd (none (subst kind (ap (λ t. t.status) (is_new old new id task adds k has.0 same has.1 ∙ idle)) has.3))
     | inr other ↦ (has.0, was_there old new id task adds k has.0 other has.1, has.2, has.3)
@@ -86,7 +89,8 @@ module _ (old new : View) (id : ℕ) (task : Task) (adds : Adds id task old new)
   add_keeps_sizes kinds = subst SoundSizes (sym adds.frame)
       (record {
         settings = sizes.settings;
-        queues = ap length adds.queues ∙ length-set old.queues task.tile (queue_at old task.tile ++ id ∷ []) ∙ sizes.queues;
+        queues =
+            ap length adds.queues ∙ length-set old.queues task.tile (queue_at old task.tile ++ id ∷ []) ∙ sizes.queues;
         finished = sizes.finished;
         cores = sizes.cores;
         blocks = sizes.blocks;
@@ -103,8 +107,10 @@ module _ (old new : View) (id : ℕ) (task : Task) (adds : Adds id task old new)
           λ held. has_forth (λ status. HasCore status core) tile k ((sizes.held_are tile core k).0 held),
           λ has. (sizes.held_are tile core k).1 (has_back (λ status. HasCore status core) (λ is. is) tile k has),
         );
-        kinds = each_stepped old new id task adds.changes (λ k t. t.kinds < 2 ^ depth_of t) (λ k t other at. sizes.kinds k t at) kinds;
-        bytes = each_stepped old new id task adds.changes (λ k t. length t.bytes ≤ MAX_EMITTED) (λ k t other at. sizes.bytes k t at)
+        kinds =
+            each_stepped old new id task adds.changes (λ k t. t.kinds < 2 ^ depth_of t) (λ k t other at. sizes.kinds k t at) kinds;
+        bytes =
+            each_stepped old new id task adds.changes (λ k t. length t.bytes ≤ MAX_EMITTED) (λ k t other at. sizes.bytes k t at)
             (let none : length task.bytes ≡ 0 = ap (λ t. length t.bytes) idle in omega (arith, none));
         spilled = sizes.spilled;
       })

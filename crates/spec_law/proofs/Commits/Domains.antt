@@ -1,5 +1,6 @@
 -- The domains of a task, as its levels and kinds give them: what its calls depend on, and the domains of its children.
-use Rattle.std.proofs.Common.{◌≡◌, ◌≤◌, ◌<◌, ◌+◌, ◌*◌, ◌-◌, ◌/◌, ◌%◌, ◌^◌, ◌∷◌, ◌++◌, ◌==◌, ℕ, zero, suc, List, [], length, take, Option, Some, None, refl, sym, ap, subst, ◌∙◌, arith}
+use Rattle.std.proofs.Common.{◌≡◌, ◌≤◌, ◌<◌, ◌+◌, ◌*◌, ◌-◌, ◌/◌, ◌%◌, ◌^◌, ◌∷◌, ◌++◌, ◌==◌, ℕ, zero, suc, List, []}
+use Rattle.std.proofs.Common.{length, take, Option, Some, None, refl, sym, ap, subst, ◌∙◌, arith}
 use Rattle.std.proofs.Math.Nat.{pow-suc, mul_assoc, add-mul-mod_self_right}
 use Rattle.std.proofs.lemmas.Nat.{pow_pos}
 use Rattle.std.proofs.Math.Arith.{mod-mul}
@@ -11,7 +12,8 @@ use Rattle.task_desc.specs.declared.desc.Place.TheVariants.{Same, Sub, Super}
 use Rattle.task_law.specs.Domains.{Domain, first_kind, ChildDomains}
 use Rattle.task_law.specs.Domains as turns
 use Rattle.spec_state.specs.declared.task.Task.{Task}
-use Rattle.spec_state.specs.Tasks.{kind_at, kind_if, outer_kind, floor_in, start_context, sub_bit, depth_of, own_level, child_domain, child_kinds}
+use Rattle.spec_state.specs.Tasks.{kind_at, kind_if, outer_kind, floor_in, start_context, sub_bit, depth_of, own_level}
+use Rattle.spec_state.specs.Tasks.{child_domain, child_kinds}
 use Rattle.spec_state.specs.Groups.{domains_behind, domains_of}
 
 -- the kind of the next domain out, behind so many levels inside these
@@ -32,7 +34,15 @@ record HasContext (outer : List Domain) (floor kinds : ℕ) (levels : List Level
 -- the first of the domains is that of the levels and kinds, by the levels from the outermost on
 has_context : (outer : List Domain) (floor kinds : ℕ) (levels : List Level) → HasContext outer floor kinds levels
 has_context outer floor kinds [] =
-    record { own = record { kind = kind_at 0 kinds; floor = floor }; rest = outer; is = refl; kind = refl; floor_is = refl; outside = refl; long = omega arith }
+    record {
+      own = record { kind = kind_at 0 kinds; floor = floor };
+      rest = outer;
+      is = refl;
+      kind = refl;
+      floor_is = refl;
+      outside = refl;
+      long = omega arith;
+    }
 has_context outer floor kinds (level ∷ levels) =
     let inner = has_context (record { kind = kind_at 0 kinds; floor = floor } ∷ outer) level.ts (kinds / 2) levels in
     record {
@@ -45,7 +55,8 @@ has_context outer floor kinds (level ∷ levels) =
       long = omega (arith, inner.long);
     }
   where
-    one_more : (n : ℕ) → kind_outside (record { kind = kind_at 0 kinds; floor = floor } ∷ outer) n (kinds / 2) ≡ Some (kind_at n kinds)
+    one_more : (n : ℕ)
+        → kind_outside (record { kind = kind_at 0 kinds; floor = floor } ∷ outer) n (kinds / 2) ≡ Some (kind_at n kinds)
     one_more zero = refl
     one_more (suc n) = refl
 
@@ -141,7 +152,8 @@ module _ (kinds n : ℕ) where
       halved high = omega arith
 
 -- with one more level, and its bit above the others, there is one more domain
-sub_behind : (outer : List Domain) (floor kinds bit : ℕ) (levels : List Level) (level : Level) → kinds < 2 ^ suc (length levels)
+sub_behind : (outer : List Domain) (floor kinds bit : ℕ) (levels : List Level) (level : Level)
+    → kinds < 2 ^ suc (length levels)
     → domains_behind outer floor (kinds + bit * 2 ^ suc (length levels)) (levels ++ level ∷ [])
     ≡ record { kind = kind_of bit; floor = level.ts } ∷ domains_behind outer floor kinds levels
 sub_behind outer floor kinds bit [] level low =
@@ -167,7 +179,8 @@ super_behind outer floor kinds l (m ∷ ms) =
     let half = kept_bits kinds (suc (length ms)) in
     let same = kept_bit kinds (suc (length ms)) in (
       inner.0,
-      inner.1 ∙ (λ i. inner.0 ∷ domains_behind (record { kind = kind_if (sym same i == 1); floor = floor } ∷ outer) l.ts (sym half i) (take (length ms) (m ∷ ms))),
+      inner.1
+          ∙ (λ i. inner.0 ∷ domains_behind (record { kind = kind_if (sym same i == 1); floor = floor } ∷ outer) l.ts (sym half i) (take (length ms) (m ∷ ms))),
     )
 
 -- a child has the domains of its creator, those and one more, or one fewer
@@ -194,7 +207,8 @@ module _ (task : Task) (small : task.kinds < 2 ^ depth_of task) where
       (one.0, one.1 ∙ ap (λ n. one.0 ∷ domains_of (task.kinds % 2 ^ suc (length ls)) (take n (l ∷ ls))) (sym short))
 
   -- for each domain of a child
-  pub child_domains : (place : Place) → (place ≡ Sub → (kind : Kind) × (task.sub ≡ Some kind)) → (place ≡ Super → 2 ≤ depth_of task)
+  pub child_domains : (place : Place) → (place ≡ Sub → (kind : Kind) × (task.sub ≡ Some kind))
+      → (place ≡ Super → 2 ≤ depth_of task)
       → ChildDomains (domains_of task.kinds task.key.domain) task.key.ts task.sub place (domains_of (child_kinds task place) (child_domain task place))
   child_domains Same inside outside = refl
   child_domains Sub inside outside = let has = inside refl in (has.0, has.1, in_sub has.0 has.1)

@@ -1,5 +1,6 @@
 -- In a view in order there is an heir or none: the least of all tasks, where it is queued and dispatched.
-use Rattle.std.proofs.Common.{◌≡◌, ◌≢◌, ◌+◌, ◌<◌, ℕ, true, length, Option, Some, None, refl, sym, ap, subst, ◌∙◌, inl, inr, arith, map, slice_get, is_some}
+use Rattle.std.proofs.Common.{◌≡◌, ◌≢◌, ◌+◌, ◌<◌, ℕ, true, length, Option, Some, None, refl, sym, ap, subst, ◌∙◌, inl}
+use Rattle.std.proofs.Common.{inr, arith, map, slice_get, is_some}
 use Rattle.std.proofs.lemmas.List.{length-map}
 use Rattle.std.specs.declared.cmp.Ordering.TheVariants.{Less, Greater}
 use Rattle.fractal_vt.specs.declared.key.Key.{Key}
@@ -25,8 +26,11 @@ use Rattle.spec_law.proofs.Tasks.Beside.{id_below, queued_stands}
 use Rattle.spec_law.proofs.Tasks.Places.{place_in_all, place_in_one}
 
 -- a key with an open tiebreaker ties with no key of a dispatched task
-not_open : (key other : Key) → key.tb ≡ None → is_some other.tb ≡ true → key_cmp key other ≢ Greater → key_cmp other key ≢ Greater → ⊥
-not_open key other open' numbered one two = let same = same_key key other one two in absurd (cc (sym (ap (λ k. is_some k.tb) same) ∙ ap is_some open', numbered))
+not_open : (key other : Key) → key.tb ≡ None → is_some other.tb ≡ true → key_cmp key other ≢ Greater
+    → key_cmp other key ≢ Greater → ⊥
+not_open key other open' numbered one two =
+    let same = same_key key other one two in
+    absurd (cc (sym (ap (λ k. is_some k.tb) same) ∙ ap is_some open', numbered))
 
 module _ (view : View) (sizes : SoundSizes view) (sound : SoundOrder view None) where
   -- a spilled task, as the order reads it where there is no heir
@@ -55,7 +59,8 @@ module _ (view : View) (sizes : SoundSizes view) (sound : SoundOrder view None) 
 
   module _ (k : ℕ) (task : Keyed) (low : IsLeastInKeys (all_keyed view None) k task) where
     -- the least of all tasks, where it is dispatched, is the heir
-    dispatched_heir : (t : Task) → task_at view k ≡ Some t → task ≡ keyed_task t → (n : ℕ) → t.key.tb ≡ Some n → IsHeir view (Some k)
+    dispatched_heir : (t : Task) → task_at view k ≡ Some t → task ≡ keyed_task t → (n : ℕ) → t.key.tb ≡ Some n
+        → IsHeir view (Some k)
     dispatched_heir t there is n tie = (t, makes_least view sizes k t there others spilled, ap is_some tie)
       where
         others : (j : ℕ) (x : Task) → j ≢ k → task_at view j ≡ Some x → key_cmp t.key x.key ≡ Less
@@ -64,7 +69,8 @@ module _ (view : View) (sizes : SoundSizes view) (sound : SoundOrder view None) 
             (least_is_below (all_keyed view None) (map closed_level view.path) view.next k n task sound.order low (ap (λ y. y.last.tb) is ∙ tie) j (keyed_task x) other
             (queued_stands view None j x at))
 
-        spilled : (tile place : ℕ) (s : Spilled) → slice_get (block_at view tile) place ≡ Some s → key_cmp t.key (open_key s) ≢ Greater
+        spilled : (tile place : ℕ) (s : Spilled) → slice_get (block_at view tile) place ≡ Some s
+            → key_cmp t.key (open_key s) ≢ Greater
         spilled tile place s at =
             let all = place_in_all view.blocks tile place s at in
             let stands = beside_spilled (length view.tasks) (keyed_tasks view) (map spilled_in_order (all_spilled view)) (spilled_in_order s) (all.0, get_mapped spilled_in_order (all_spilled view) all.0 s all.1) in
@@ -79,7 +85,8 @@ module _ (view : View) (sizes : SoundSizes view) (sound : SoundOrder view None) 
         (not_above other.key t.key (not_below_least view sizes id k other t least there))
 
     -- nor where it is spilled
-    spilled_none : (s : Spilled) (place : ℕ) → slice_get (all_spilled view) place ≡ Some s → task ≡ spilled_in_order s → IsHeir view None
+    spilled_none : (s : Spilled) (place : ℕ) → slice_get (all_spilled view) place ≡ Some s → task ≡ spilled_in_order s
+        → IsHeir view None
     spilled_none s place at is id other least runs =
         let one = place_in_one view.blocks place s at in
         let whole = least.least.least (Spilled_at one.0 one.1) (open_key s) (s, one.2, refl) in
@@ -93,12 +100,14 @@ module _ (view : View) (sizes : SoundSizes view) (sound : SoundOrder view None) 
 
     -- there is an heir or none by how it stands
     by_lowest : (heir : Option ℕ) × IsHeir view heir
-    by_lowest = elim (beside_which (length view.tasks) (keyed_tasks view) (map spilled_in_order (all_spilled view)) k task low.there) [
-      | inl queued ↦ (let read = mapped_some keyed_task (task_at view k) task queued in by_tie read.0 read.1 read.2 read.0.key.tb refl)
-      | inr at ↦ (let read = got_mapped spilled_in_order (all_spilled view) at.0 task at.1 in (None, spilled_none read.0 at.0 read.1 read.2))
-    ]
+    by_lowest =
+        elim (beside_which (length view.tasks) (keyed_tasks view) (map spilled_in_order (all_spilled view)) k task low.there) [
+          | inl queued ↦ (let read = mapped_some keyed_task (task_at view k) task queued in by_tie read.0 read.1 read.2 read.0.key.tb refl)
+          | inr at ↦ (let read = got_mapped spilled_in_order (all_spilled view) at.0 task at.1 in (None, spilled_none read.0 at.0 read.1 read.2))
+        ]
       where
-        by_tie : (t : Task) → task_at view k ≡ Some t → task ≡ keyed_task t → (tie : Option ℕ) → t.key.tb ≡ tie → (heir : Option ℕ) × IsHeir view heir
+        by_tie : (t : Task) → task_at view k ≡ Some t → task ≡ keyed_task t → (tie : Option ℕ) → t.key.tb ≡ tie
+            → (heir : Option ℕ) × IsHeir view heir
         by_tie t there is None tie = (None, idle_none t there is tie)
         by_tie t there is (Some n) tie = (Some k, dispatched_heir t there is n tie)
 

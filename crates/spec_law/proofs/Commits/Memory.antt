@@ -31,7 +31,8 @@ module _ (old new : View) (commit : Commits old new) (sizes : SoundSizes old) (h
         others = logged_stays old new commit;
       }
     where
-      least : (k : ℕ) (other : Logged) → k ≢ commit.id → logged_tasks old k ≡ Some other → other.dispatched ≡ true → Earlier (logged_task commit.task) other
+      least : (k : ℕ) (other : Logged) → k ≢ commit.id → logged_tasks old k ≡ Some other → other.dispatched ≡ true
+          → Earlier (logged_task commit.task) other
       least k other apart at runs =
           let read = mapped_some logged_task (task_at old k) other at in
           subst (Earlier (logged_task commit.task)) (sym read.2)
@@ -41,12 +42,14 @@ module _ (old new : View) (commit : Commits old new) (sizes : SoundSizes old) (h
   module _ (serial : SerialState) (sound : SoundMemory old serial) where
     -- the log replays, and the others chain from the memory that it leaves
     both : Replays serial.memory commit.task.log × IsChained old.settings.line (logged_tasks new) (after_accesses serial.memory commit.task.log) old.memory
-    both = commit_keeps_chain old.settings.line (logged_tasks old) (logged_tasks new) commit.id (logged_task commit.task) serial.memory old.memory logs_commit sound.chained
+    both =
+        commit_keeps_chain old.settings.line (logged_tasks old) (logged_tasks new) commit.id (logged_task commit.task) serial.memory old.memory logs_commit sound.chained
 
     pub log_replays : Replays serial.memory commit.task.log
     log_replays = both.0
 
-    pub commit_keeps_memory : (after : SerialState) → after.memory ≡ after_accesses serial.memory commit.task.log → SoundMemory new after
+    pub commit_keeps_memory : (after : SerialState) → after.memory ≡ after_accesses serial.memory commit.task.log
+        → SoundMemory new after
     commit_keeps_memory after is =
         let line : new.settings.line ≡ old.settings.line = ap (λ v. v.settings.line) commit.frame in
         let memory_is : new.memory ≡ old.memory = ap (λ v. v.memory) commit.frame in

@@ -1,5 +1,6 @@
 -- A commit of the heir keeps the order of all uncommitted tasks.
-use Rattle.std.proofs.Common.{◌≡◌, ◌≢◌, ◌≤◌, ◌<◌, ◌+◌, ◌-◌, ◌++◌, ◌∷◌, ℕ, Bool, true, false, List, [], length, Option, Some, None, refl, sym, ap, subst, ◌∙◌, map, option_map, slice_get, nat_lt, unwrap_or}
+use Rattle.std.proofs.Common.{◌≡◌, ◌≢◌, ◌≤◌, ◌<◌, ◌+◌, ◌-◌, ◌++◌, ◌∷◌, ℕ, Bool, true, false, List, [], length, Option}
+use Rattle.std.proofs.Common.{Some, None, refl, sym, ap, subst, ◌∙◌, map, option_map, slice_get, nat_lt, unwrap_or}
 use Rattle.std.specs.Prelude.{Contains}
 use Rattle.std.proofs.lemmas.List.{length-append, map-append}
 use Rattle.std.proofs.lemmas.Option.{slice_get-map}
@@ -31,12 +32,14 @@ use Rattle.spec_law.proofs.Tasks.Beside.{id_below, queued_stands}
 use Rattle.fractal_vt.proofs.Proved.{mapped_some}
 
 -- the least task is the least of all for the order
-pub least_of_all : (view : View) → SoundSizes view → (heir : Option ℕ) (id : ℕ) (task : Task) → IsLeastTask view id task → IsLeastInKeys (all_keyed view heir) id (keyed_task task)
+pub least_of_all : (view : View) → SoundSizes view → (heir : Option ℕ) (id : ℕ) (task : Task) → IsLeastTask view id task
+    → IsLeastInKeys (all_keyed view heir) id (keyed_task task)
 least_of_all view sizes heir id task is =
     let key = queued_key view task.tile is.place id task is.least.key is.queued_at is.least.has in
     record {
       there = queued_stands view heir id task is.queued_at.there;
-      least = λ k x at. subst (λ key. levels_cmp (keys.levels key) (levels_of x) ≢ Greater) key (none_below view sizes heir (Queued task.tile is.place) is.least k x at);
+      least =
+          λ k x at. subst (λ key. levels_cmp (keys.levels key) (levels_of x) ≢ Greater) key (none_below view sizes heir (Queued task.tile is.place) is.least k x at);
     }
 
 -- a task without an uncommitted creator is the same once its creator is left out
@@ -79,7 +82,8 @@ module _ (old new : View) (commit : Commits old new) (sizes : SoundSizes old) (f
     where
       by_creator : (c : Option ℕ) → x.creator ≡ c → x.creator ≡ None
       by_creator None is = is
-      by_creator (Some c) is = absurd (free (is ∙ sym (spilled_creator (length old.history) (Some commit.id) (all_spilled old) x c (j, at) is)))
+      by_creator (Some c) is =
+          absurd (free (is ∙ sym (spilled_creator (length old.history) (Some commit.id) (all_spilled old) x c (j, at) is)))
 
   -- all tasks after the commit, with the spilled ones under their ids of before
   abbrev mid : ℕ → Option Keyed
@@ -97,21 +101,30 @@ module _ (old new : View) (commit : Commits old new) (sizes : SoundSizes old) (f
           low_is bound (keyed_tasks new) after commit.id (lt-ltb commit.id bound (id_below old commit.id commit.task commit.least.queued_at.there))
           ∙ ap (option_map keyed_task) (leaves old new commit)
 
-      children : (k : ℕ) (x : Keyed) → k ≢ commit.id → all_keyed old (Some commit.id) k ≡ Some x → x.creator ≡ Some commit.id → mid k ≡ Some (without_creator x)
+      children : (k : ℕ) (x : Keyed) → k ≢ commit.id → all_keyed old (Some commit.id) k ≡ Some x
+          → x.creator ≡ Some commit.id → mid k ≡ Some (without_creator x)
       children k x other at child = by_test (nat_lt k bound) refl
         where
           by_test : (b : Bool) → nat_lt k bound ≡ b → mid k ≡ Some (without_creator x)
-          by_test true low = low_is bound (keyed_tasks new) after k low ∙ keyed_child old new commit k x other (sym (low_is bound (keyed_tasks old) before k low) ∙ at) child
-          by_test false high = high_is bound (keyed_tasks new) after k high ∙ spilled_after (k - bound) x (sym (high_is bound (keyed_tasks old) before k high) ∙ at)
+          by_test true low =
+              low_is bound (keyed_tasks new) after k low
+              ∙ keyed_child old new commit k x other (sym (low_is bound (keyed_tasks old) before k low) ∙ at) child
+          by_test false high =
+              high_is bound (keyed_tasks new) after k high
+              ∙ spilled_after (k - bound) x (sym (high_is bound (keyed_tasks old) before k high) ∙ at)
 
-      others : (k : ℕ) (x : Keyed) → k ≢ commit.id → all_keyed old (Some commit.id) k ≡ Some x → x.creator ≢ Some commit.id → mid k ≡ Some x
+      others : (k : ℕ) (x : Keyed) → k ≢ commit.id → all_keyed old (Some commit.id) k ≡ Some x
+          → x.creator ≢ Some commit.id → mid k ≡ Some x
       others k x other at free = by_test (nat_lt k bound) refl
         where
           by_test : (b : Bool) → nat_lt k bound ≡ b → mid k ≡ Some x
-          by_test true low = low_is bound (keyed_tasks new) after k low ∙ keyed_other old new commit k x other (sym (low_is bound (keyed_tasks old) before k low) ∙ at) free
+          by_test true low =
+              low_is bound (keyed_tasks new) after k low
+              ∙ keyed_other old new commit k x other (sym (low_is bound (keyed_tasks old) before k low) ∙ at) free
           by_test false high =
               let entry = sym (high_is bound (keyed_tasks old) before k high) ∙ at in
-              high_is bound (keyed_tasks new) after k high ∙ spilled_after (k - bound) x entry ∙ ap Some (freed_is x (spilled_free (k - bound) x entry free))
+              high_is bound (keyed_tasks new) after k high ∙ spilled_after (k - bound) x entry
+              ∙ ap Some (freed_is x (spilled_free (k - bound) x entry free))
 
       none : (k : ℕ) → all_keyed old (Some commit.id) k ≡ None → mid k ≡ None
       none k at = by_test (nat_lt k bound) refl
@@ -120,7 +133,9 @@ module _ (old new : View) (commit : Commits old new) (sizes : SoundSizes old) (f
           by_test true low =
               low_is bound (keyed_tasks new) after k low
               ∙ ap (option_map keyed_task) (none_stays old new commit k (none_of keyed_task (task_at old k) (sym (low_is bound (keyed_tasks old) before k low) ∙ at)))
-          by_test false high = high_is bound (keyed_tasks new) after k high ∙ none_after (k - bound) (sym (high_is bound (keyed_tasks old) before k high) ∙ at)
+          by_test false high =
+              high_is bound (keyed_tasks new) after k high
+              ∙ none_after (k - bound) (sym (high_is bound (keyed_tasks old) before k high) ∙ at)
 
   -- each queued task stands below both bounds
   bounded : (k : ℕ) (x : Keyed) → keyed_tasks new k ≡ Some x → (k < length old.tasks) × (k < length new.tasks)
@@ -150,7 +165,8 @@ module _ (old new : View) (commit : Commits old new) (sizes : SoundSizes old) (f
         tb_is = ap (λ tb. Some (unwrap_or tb 0)) tie ∙ sym tie
 
     pub commit_keeps_order : SoundOrder new heir
-    commit_keeps_order = record { order = kept; numbers = subst (λ n. n ≤ DISPATCH_NUMBERS) (sym same_next) sound.numbers }
+    commit_keeps_order =
+        record { order = kept; numbers = subst (λ n. n ≤ DISPATCH_NUMBERS) (sym same_next) sound.numbers }
       where
         same_blocks : all_spilled new ≡ all_spilled old
         same_blocks = ap (λ v. all_spilled v) commit.frame

@@ -1,5 +1,6 @@
 -- A commit keeps the group of sizes.
-use Rattle.std.proofs.Common.{◌≡◌, ◌≢◌, ◌≤◌, ◌<◌, ◌^◌, ◌==◌, ℕ, Bool, true, List, [], length, not, Some, refl, sym, ap, subst, ◌∙◌, map, slice_get, slice_index_or}
+use Rattle.std.proofs.Common.{◌≡◌, ◌≢◌, ◌≤◌, ◌<◌, ◌^◌, ◌==◌, ℕ, Bool, true, List, [], length, not, Some, refl, sym, ap}
+use Rattle.std.proofs.Common.{subst, ◌∙◌, map, slice_get, slice_index_or}
 use Rattle.std.specs.Prelude.{Contains, ◌↔◌}
 use Rattle.std.proofs.lemmas.List.{length-map}
 use Rattle.tile_queues.specs.Queue.{ids_but}
@@ -77,13 +78,15 @@ module _ (old new : View) (commit : Commits old new) (sizes : SoundSizes old) wh
       subst (λ status. HasCore status core) (ap (λ t. t.status) task_is ∙ commit.finished_is) has.3
 
   -- what a core holds stays there
-  held_forth : (tile core k : ℕ) → slice_get (cores_at old tile) core ≡ Some (Some k) → HasTask listed tile k (λ status. HasCore status core)
+  held_forth : (tile core k : ℕ) → slice_get (cores_at old tile) core ≡ Some (Some k)
+      → HasTask listed tile k (λ status. HasCore status core)
   held_forth tile core k held =
       let was = (sizes.held_are tile core k).0 held in
       (left old new commit was.0, stays old new commit k was.0 (not_held tile core k was) was.1, was.2, was.3)
 
   -- and held it before
-  held_back : (tile core k : ℕ) → HasTask listed tile k (λ status. HasCore status core) → slice_get (cores_at old tile) core ≡ Some (Some k)
+  held_back : (tile core k : ℕ) → HasTask listed tile k (λ status. HasCore status core)
+      → slice_get (cores_at old tile) core ≡ Some (Some k)
   held_back tile core k now =
       let was = was_there old new commit k now.0 now.1 in
       (sizes.held_are tile core k).1
@@ -107,7 +110,8 @@ module _ (old new : View) (commit : Commits old new) (sizes : SoundSizes old) wh
             (forth old.finished (λ status. status ≡ Finished) sizes.finished_are tile k, back old.finished (λ status. status ≡ Finished) sizes.finished_are tile k);
         held_are = λ tile core k. (held_forth tile core k, held_back tile core k);
         kinds = each_left old new commit (λ k t. t.kinds < 2 ^ depth_of t) (λ k t other there. sizes.kinds k t there);
-        bytes = each_left old new commit (λ k t. length t.bytes ≤ MAX_EMITTED) (λ k t other there. sizes.bytes k t there);
+        bytes =
+            each_left old new commit (λ k t. length t.bytes ≤ MAX_EMITTED) (λ k t other there. sizes.bytes k t there);
         spilled = sizes.spilled;
       }
 

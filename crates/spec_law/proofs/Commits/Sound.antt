@@ -20,7 +20,12 @@ use Rattle.spec_law.proofs.Commits.Turn.{state, taken, numbered, is_heir}
 module _ (image : ImageValue) (old new : View) (sound : Sound image old) (commit : Commits old new) where
   -- the entry of the turn
   abbrev entry : Entry
-  entry = record { name = record { creator = commit.turn; index = commit.index }; depth = depth_of commit.task; ts = commit.task.key.ts }
+  entry =
+      record {
+        name = record { creator = commit.turn; index = commit.index };
+        depth = depth_of commit.task;
+        ts = commit.task.key.ts;
+      }
 
   -- the journal is a run with the turn at its end
   runs_on : IsRun image new.settings.budget new.history (state image old new sound commit)

@@ -1,5 +1,6 @@
 -- What a commit leaves under each id, and what the laws of order, tasks and memory see of it.
-use Rattle.std.proofs.Common.{◌≡◌, ◌≢◌, ◌⊎◌, ◌+◌, ◌==◌, ℕ, length, Option, Some, None, refl, sym, ap, subst, ◌∙◌, inl, inr, option_map, if◌then◌else◌}
+use Rattle.std.proofs.Common.{◌≡◌, ◌≢◌, ◌⊎◌, ◌+◌, ◌==◌, ℕ, length, Option, Some, None, refl, sym, ap, subst, ◌∙◌, inl}
+use Rattle.std.proofs.Common.{inr, option_map, if◌then◌else◌}
 use Rattle.std.proofs.lemmas.Bool.{cases_eq}
 use Rattle.order_law.specs.Events.{without_creator}
 use Rattle.order_law.specs.Tasks.{Keyed}
@@ -10,7 +11,8 @@ use Rattle.spec_state.specs.declared.task.Creator.TheVariants.{Committed, Live}
 use Rattle.spec_state.specs.declared.task.Task.{Task}
 use Rattle.spec_state.specs.declared.task.TaskId.{TaskId}
 use Rattle.spec_state.specs.View.{View, task_at}
-use Rattle.spec_state.specs.Groups.{keyed_tasks, keyed_task, logged_tasks, logged_task, bag_tasks, bag_task, bag_creator, live_creator}
+use Rattle.spec_state.specs.Groups.{keyed_tasks, keyed_task, logged_tasks, logged_task, bag_tasks, bag_task}
+use Rattle.spec_state.specs.Groups.{bag_creator, live_creator}
 use Rattle.spec_state.specs.Changes.{Commits, creator_after, after_commit}
 use Rattle.spec_state.proofs.Proved.{same_test, other_test}
 use Rattle.spec_law.proofs.Aborted.Taken.{none_of}
@@ -34,12 +36,14 @@ kept_creator id n (Live task index) other =
     ap (λ b. if b then Committed n index else Live task index) (other_test task.0 id (λ same. other (ap Some same)))
 
 -- for the bags a child's creator is the turn of this number
-turned_creator : (id n index : ℕ) (c : Creator) → bag_creator c ≡ bags.Live id index → bag_creator (creator_after id n c) ≡ bags.Committed n index
+turned_creator : (id n index : ℕ) (c : Creator) → bag_creator c ≡ bags.Live id index
+    → bag_creator (creator_after id n c) ≡ bags.Committed n index
 turned_creator id n index (Committed turn i) is = absurd (cc)
 turned_creator id n index (Live task i) is =
     let same : task.0 ≡ id = cc in
     let index_is : i ≡ index = cc in
-    ap (λ b. bag_creator (if b then Committed n i else Live task i)) (ap (λ k. k == id) same ∙ same_test id) ∙ ap (bags.Committed n) index_is
+    ap (λ b. bag_creator (if b then Committed n i else Live task i)) (ap (λ k. k == id) same ∙ same_test id)
+    ∙ ap (bags.Committed n) index_is
 
 -- and any other stays
 still_creator : (id n : ℕ) (c : Creator) → ((index : ℕ) → bag_creator c ≢ bags.Live id index) → creator_after id n c ≡ c
@@ -48,7 +52,8 @@ still_creator id n (Live task index) other =
     ap (λ b. if b then Committed n index else Live task index) (other_test task.0 id (λ same. other index (ap (λ k. bags.Live k index) same)))
 
 -- an uncommitted creator was one before, and is another task
-pub live_before : (id n : ℕ) (c : Creator) (x : TaskId) (index : ℕ) → creator_after id n c ≡ Live x index → (c ≡ Live x index) × (x.0 ≢ id)
+pub live_before : (id n : ℕ) (c : Creator) (x : TaskId) (index : ℕ) → creator_after id n c ≡ Live x index
+    → (c ≡ Live x index) × (x.0 ≢ id)
 live_before id n (Committed turn i) x index is = absurd (cc)
 live_before id n (Live task i) x index is = elim (cases_eq task.0 id) [
   | inl same ↦ absurd (cc (sym (ap (λ b. if b then Committed n i else Live task i) (ap (λ k. k == id) same ∙ same_test id)) ∙ is))
@@ -79,7 +84,8 @@ module _ (old new : View) (commit : Commits old new) where
   -- any other task stays so
   pub stays : (k : ℕ) (t : Task) → k ≢ commit.id → task_at old k ≡ Some t → task_at new k ≡ Some (left t)
   stays k t other there =
-      commit.each k ∙ ap (after_commit commit.id number k) there ∙ ap (λ b. if b then None else Some (left t)) (other_test k commit.id other)
+      commit.each k ∙ ap (after_commit commit.id number k) there
+      ∙ ap (λ b. if b then None else Some (left t)) (other_test k commit.id other)
 
   -- the task leaves
   pub leaves : task_at new commit.id ≡ None
@@ -114,12 +120,15 @@ module _ (old new : View) (commit : Commits old new) where
           record { was = t; other = other; there = there; is = same }
 
   -- what holds of each task that was there, as the commit leaves it, holds of all that are there
-  pub each_left : (holds : ℕ → Task → Type 0) → ((k : ℕ) (t : Task) → k ≢ commit.id → task_at old k ≡ Some t → holds k (left t))
+  pub each_left : (holds : ℕ → Task → Type 0)
+      → ((k : ℕ) (t : Task) → k ≢ commit.id → task_at old k ≡ Some t → holds k (left t))
       → (k : ℕ) (now : Task) → task_at new k ≡ Some now → holds k now
-  each_left holds was k now at = let is = was_there k now at in subst (holds k) (sym is.is) (was k is.was is.other is.there)
+  each_left holds was k now at =
+      let is = was_there k now at in subst (holds k) (sym is.is) (was k is.was is.other is.there)
 
   -- the order of tasks
-  pub keyed_child : (k : ℕ) (x : Keyed) → k ≢ commit.id → keyed_tasks old k ≡ Some x → x.creator ≡ Some commit.id → keyed_tasks new k ≡ Some (without_creator x)
+  pub keyed_child : (k : ℕ) (x : Keyed) → k ≢ commit.id → keyed_tasks old k ≡ Some x → x.creator ≡ Some commit.id
+      → keyed_tasks new k ≡ Some (without_creator x)
   keyed_child k x other at child =
       let read = mapped_some keyed_task (task_at old k) x at in
       ap (option_map keyed_task) (stays k read.0 other read.1)
@@ -127,7 +136,8 @@ module _ (old new : View) (commit : Commits old new) where
       ∙ ap (λ y. Some (without_creator y)) (sym read.2)
 
   -- and any other stays as it was
-  pub keyed_other : (k : ℕ) (x : Keyed) → k ≢ commit.id → keyed_tasks old k ≡ Some x → x.creator ≢ Some commit.id → keyed_tasks new k ≡ Some x
+  pub keyed_other : (k : ℕ) (x : Keyed) → k ≢ commit.id → keyed_tasks old k ≡ Some x → x.creator ≢ Some commit.id
+      → keyed_tasks new k ≡ Some x
   keyed_other k x other at free =
       let read = mapped_some keyed_task (task_at old k) x at in
       ap (option_map keyed_task) (stays k read.0 other read.1)
@@ -140,10 +150,12 @@ module _ (old new : View) (commit : Commits old new) where
     where
       by_was : (was : Option Task) → task_at old k ≡ was → logged_tasks new k ≡ logged_tasks old k
       by_was None none = ap (option_map logged_task) (none_stays k none) ∙ sym (ap (option_map logged_task) none)
-      by_was (Some t) there = ap (option_map logged_task) (stays k t other there) ∙ sym (ap (option_map logged_task) there)
+      by_was (Some t) there =
+          ap (option_map logged_task) (stays k t other there) ∙ sym (ap (option_map logged_task) there)
 
   -- the bags
-  bag_child : (k : ℕ) (x : bags.BagTask) (index : ℕ) → k ≢ commit.id → bag_tasks old k ≡ Some x → x.creator ≡ bags.Live commit.id index
+  bag_child : (k : ℕ) (x : bags.BagTask) (index : ℕ) → k ≢ commit.id → bag_tasks old k ≡ Some x
+      → x.creator ≡ bags.Live commit.id index
       → bag_tasks new k ≡ Some (turns.with_turn x number index)
   bag_child k x index other at child =
       let read = mapped_some bag_task (task_at old k) x at in
@@ -152,7 +164,8 @@ module _ (old new : View) (commit : Commits old new) where
       ∙ ap (λ y. Some (turns.with_turn y number index)) (sym read.2)
 
   -- a task of another creator stays as it was
-  bag_other : (k : ℕ) (x : bags.BagTask) → k ≢ commit.id → bag_tasks old k ≡ Some x → ((index : ℕ) → x.creator ≢ bags.Live commit.id index) → bag_tasks new k ≡ Some x
+  bag_other : (k : ℕ) (x : bags.BagTask) → k ≢ commit.id → bag_tasks old k ≡ Some x
+      → ((index : ℕ) → x.creator ≢ bags.Live commit.id index) → bag_tasks new k ≡ Some x
   bag_other k x other at free =
       let read = mapped_some bag_task (task_at old k) x at in
       ap (option_map bag_task) (stays k read.0 other read.1)

@@ -1,5 +1,6 @@
 -- A commit keeps the group of tasks, against the state of the serial machine after the turn.
-use Rattle.std.proofs.Common.{◌≡◌, ◌≤◌, ◌<◌, ◌+◌, ◌++◌, ℕ, List, length, Option, Some, refl, sym, ap, subst, ◌∙◌, inl, inr, arith, map, option_map, is_some, unwrap_or, slice_get}
+use Rattle.std.proofs.Common.{◌≡◌, ◌≤◌, ◌<◌, ◌+◌, ◌++◌, ℕ, List, length, Option, Some, refl, sym, ap, subst, ◌∙◌, inl}
+use Rattle.std.proofs.Common.{inr, arith, map, option_map, is_some, unwrap_or, slice_get}
 use Rattle.std.specs.Prelude.{Contains}
 use Rattle.fractal_vt.specs.declared.level.Level.{Level}
 use Rattle.guest_image.specs.ImageValue.{ImageValue}
@@ -18,18 +19,21 @@ use Rattle.spec_state.specs.declared.task.Task.{Task}
 use Rattle.spec_state.specs.declared.task.TaskId.{TaskId}
 use Rattle.spec_state.specs.View.{View, task_at}
 use Rattle.spec_state.specs.Tasks.{Descriptor, child_descriptor, depth_of, descriptor_of, spilled_descriptor}
-use Rattle.spec_state.specs.Groups.{all_spilled, bag_creator, bag_task, bag_tasks, bag_spilled, bags_spilled, domains_of}
+use Rattle.spec_state.specs.Groups.{all_spilled, bag_creator, bag_task, bag_tasks, bag_spilled, bags_spilled}
+use Rattle.spec_state.specs.Groups.{domains_of}
 use Rattle.spec_state.specs.Changes.{Commits}
 use Rattle.spec_law.specs.Sound.{Sound, SoundTasks, StandsAs, IsMadeBy}
 use Rattle.spec_law.proofs.Tasks.Next.{in_spilled}
 use Rattle.spec_law.proofs.Commits.Domains.{child_domains, count_domains}
 use Rattle.spec_law.proofs.Commits.Order.{one_longer}
-use Rattle.spec_law.proofs.Commits.Taken.{with_creator, left, stays, was_there, each_left, live_before, committed_before}
+use Rattle.spec_law.proofs.Commits.Taken.{with_creator, left, stays, was_there, each_left, live_before}
+use Rattle.spec_law.proofs.Commits.Taken.{committed_before}
 use Rattle.spec_law.proofs.Commits.Turn.{names, front, state, have, is_heir, is_next, matches_now, keeps_domains}
 use Rattle.spec_law.proofs.Tasks.Places.{contains_get}
 
 -- what a task has done is the same whoever made it
-stands_still : (image : ImageValue) (version budget : ℕ) (c : Creator) (t : Task) (status : Status) → StandsAs image version budget t status → StandsAs image version budget (with_creator t c) status
+stands_still : (image : ImageValue) (version budget : ℕ) (c : Creator) (t : Task) (status : Status)
+    → StandsAs image version budget t status → StandsAs image version budget (with_creator t c) status
 stands_still image version budget c t Idle is = ap (λ u. with_creator u c) is
 stands_still image version budget c t (Running core) is = is
 stands_still image version budget c t (Trapped core cause) is =
@@ -39,7 +43,8 @@ stands_still image version budget c t Finished is =
 
 module _ (image : ImageValue) (old new : View) (sound : Sound image old) (commit : Commits old new) where
   -- each spilled task is one for the bags
-  for_bags : (s : Spilled) → Contains (all_spilled old) s → IsSpilled (bags_spilled old) s.desc.depth (bag_spilled s).task
+  for_bags : (s : Spilled) → Contains (all_spilled old) s
+      → IsSpilled (bags_spilled old) s.desc.depth (bag_spilled s).task
   for_bags s has = let at = contains_get (all_spilled old) s has in in_spilled old at.0 s at.1
 
   -- the creator of each spilled task has committed once the heir has
@@ -61,7 +66,8 @@ module _ (image : ImageValue) (old new : View) (sound : Sound image old) (commit
       (keeps_domains image old new sound commit).others (domains_of kinds domain) (omega (arith, low, size))
 
   -- the domains of its children are there
-  child_fits : (index : ℕ) (d : Descriptor) → IsMadeBy old commit.id index d → FitsBags (domains_of d.kinds d.domain) stack
+  child_fits : (index : ℕ) (d : Descriptor) → IsMadeBy old commit.id index d
+      → FitsBags (domains_of d.kinds d.domain) stack
   child_fits index d made =
       let both : Some made.creator ≡ Some commit.task = sym made.there ∙ commit.least.queued_at.there in
       let same : made.creator ≡ commit.task = cc in
@@ -74,7 +80,8 @@ module _ (image : ImageValue) (old new : View) (sound : Sound image old) (commit
       (fits.inside index made.spawn at) (fits.outside index made.spawn at)))
 
   -- the domains of each task of a committed creator
-  domains_now : (id : ℕ) (task : Task) → task_at new id ≡ Some task → (turn index : ℕ) → task.creator ≡ Committed turn index
+  domains_now : (id : ℕ) (task : Task) → task_at new id ≡ Some task → (turn index : ℕ)
+      → task.creator ≡ Committed turn index
       → FitsBags (domains_of task.kinds task.key.domain) stack
   domains_now id task at turn index made =
       let was = was_there old new commit id task at in
@@ -114,7 +121,8 @@ module _ (image : ImageValue) (old new : View) (sound : Sound image old) (commit
   ]
 
   -- each child of an uncommitted creator is as that one made it
-  children_now : (id : ℕ) (task : Task) → task_at new id ≡ Some task → (creator : TaskId) (index : ℕ) → task.creator ≡ Live creator index
+  children_now : (id : ℕ) (task : Task) → task_at new id ≡ Some task → (creator : TaskId) (index : ℕ)
+      → task.creator ≡ Live creator index
       → IsMadeBy new creator.0 index (descriptor_of task)
   children_now id task at creator index made =
       let was = was_there old new commit id task at in
@@ -167,5 +175,6 @@ module _ (image : ImageValue) (old new : View) (sound : Sound image old) (commit
               (subst (λ s. StandsAs image new.version s.budget t t.status) (sym settings)
               (subst (λ n. StandsAs image n old.settings.budget t t.status) (sym (ap (λ (v : View). v.version) commit.frame)) (sound.tasks.stands k t there))));
           children = λ id task creator index at. children_now id task at creator index;
-          spilled_children = λ s has next. (let low = firm s (before s has) in absurd (omega (arith, low, next, longer)));
+          spilled_children =
+              λ s has next. (let low = firm s (before s has) in absurd (omega (arith, low, next, longer)));
         }

@@ -1,5 +1,6 @@
 -- The commit of a finished least task of a sound view is the serial machine's next turn.
-use Rattle.std.proofs.Common.{◌≡◌, ◌+◌, ◌++◌, ℕ, true, [], length, Option, Some, None, refl, sym, ap, subst, ◌∙◌, option_map, is_some, unwrap_or, slice_get}
+use Rattle.std.proofs.Common.{◌≡◌, ◌+◌, ◌++◌, ℕ, true, [], length, Option, Some, None, refl, sym, ap, subst, ◌∙◌}
+use Rattle.std.proofs.Common.{option_map, is_some, unwrap_or, slice_get}
 use Rattle.std.specs.Prelude.{IsSome}
 use Rattle.std.proofs.lemmas.List.{length-map}
 use Rattle.fractal_vt.specs.Keys.{levels}
@@ -18,7 +19,8 @@ use Rattle.task_law.specs.Domains.{FitsBags, KeepsDomains}
 use Rattle.task_law.specs.Logged.{LoggedRun, FinishesWithLog}
 use Rattle.task_law.specs.Sound.{AreSound}
 use Rattle.task_law.specs.Tasks.{pending}
-use Rattle.task_law.proofs.Proved.{commit_is_turn, contexts_fit, end_on, finished, have_domains, least_has_turn, logged_on, logged_run_is_turn, turns_keep_domains}
+use Rattle.task_law.proofs.Proved.{commit_is_turn, contexts_fit, end_on, finished, have_domains, least_has_turn}
+use Rattle.task_law.proofs.Proved.{logged_on, logged_run_is_turn, turns_keep_domains}
 use Rattle.spec_state.specs.declared.task.Task.{Task}
 use Rattle.spec_state.specs.View.{View, queue_at}
 use Rattle.spec_state.specs.Tasks.{depth_of, start_context, is_dispatched}
@@ -41,7 +43,8 @@ number_of None is = absurd (cc (is))
 number_of (Some n) is = (n, refl)
 
 -- the least task, where it is dispatched, is the heir
-least_is_heir : (view : View) (heir : Option ℕ) → IsHeir view heir → (id : ℕ) (task : Task) → IsLeastTask view id task → is_dispatched task ≡ true → heir ≡ Some id
+least_is_heir : (view : View) (heir : Option ℕ) → IsHeir view heir → (id : ℕ) (task : Task) → IsLeastTask view id task
+    → is_dispatched task ≡ true → heir ≡ Some id
 least_is_heir view None none id task least runs = absurd (none id task least runs)
 least_is_heir view (Some h) is id task least runs =
     let spots : Queued is.0.tile is.1.place ≡ Queued task.tile least.place =
@@ -54,7 +57,8 @@ least_is_heir view (Some h) is id task least runs =
 module _ (image : ImageValue) (old new : View) (sound : Sound image old) (commit : Commits old new) where
   -- the task has come to its end
   ended : IsSome commit.task.key.tb × HasEnded image old.version old.settings.budget commit.task
-  ended = subst (StandsAs image old.version old.settings.budget commit.task) commit.finished_is (sound.tasks.stands commit.id commit.task commit.least.queued_at.there)
+  ended =
+      subst (StandsAs image old.version old.settings.budget commit.task) commit.finished_is (sound.tasks.stands commit.id commit.task commit.least.queued_at.there)
 
   -- its dispatch number
   pub numbered : (n : ℕ) × (commit.task.key.tb ≡ Some n)
@@ -74,7 +78,8 @@ module _ (image : ImageValue) (old new : View) (sound : Sound image old) (commit
 
   -- names are apart with this task as the heir
   pub names : AreSound (length old.history) commit.id true (bag_tasks old) (bags_spilled old)
-  names = subst (λ heir. AreSound (length old.history) (unwrap_or heir 0) (is_some heir) (bag_tasks old) (bags_spilled old)) is_heir sound.tasks.names
+  names =
+      subst (λ heir. AreSound (length old.history) (unwrap_or heir 0) (is_some heir) (bag_tasks old) (bags_spilled old)) is_heir sound.tasks.names
 
   -- the depths of the serial machine's bags fall by one
   is_stack : IsStack sound.serial.stack
@@ -112,7 +117,8 @@ module _ (image : ImageValue) (old new : View) (sound : Sound image old) (commit
 
   -- the log replays on the serial machine's memory
   replays : Replays sound.serial.memory commit.task.log
-  replays = log_replays old new commit sound.sizes sound.heir sound.order numbered.0 numbered.1 sound.serial sound.memory
+  replays =
+      log_replays old new commit sound.sizes sound.heir sound.order numbered.0 numbered.1 sound.serial sound.memory
 
   -- the domains of the task are those of the bags, and its calls depend on them
   in_bags : FitsBags (domains_of commit.task.kinds commit.task.key.domain) sound.serial.stack
@@ -141,18 +147,21 @@ module _ (image : ImageValue) (old new : View) (sound : Sound image old) (commit
       subst (λ ctx. FinishesWithLog image old.settings.budget (length sound.serial.memory) ctx p commit.task.log after) (sym same_context)
       (record {
         before = end.before;
-        run = subst (λ v. LoggedRun image old.settings.budget (length sound.serial.memory) (start_context old.version commit.task)
+        run =
+            subst (λ v. LoggedRun image old.settings.budget (length sound.serial.memory) (start_context old.version commit.task)
             (task_at_start v commit.task.entry commit.task.key.ts commit.task.args []) commit.task.log end.before)
             sound.version
             (logged_on image old.settings.budget image.data_size (start_context old.version commit.task) start sound.serial.memory end.ran replays);
-        ends = end_on image old.settings.budget image.data_size (start_context old.version commit.task) start sound.serial.memory end.ends;
+        ends =
+            end_on image old.settings.budget image.data_size (start_context old.version commit.task) start sound.serial.memory end.ends;
         leaves = end.leaves;
       })
 
   -- the serial machine's state after the turn
   abbrev pub state : SerialState
   state = record {
-    stack = stack_after next.bag next.outer p.name (sound.serial.count + 1) commit.task.key.ts commit.task.spawns commit.task.sub;
+    stack =
+        stack_after next.bag next.outer p.name (sound.serial.count + 1) commit.task.key.ts commit.task.spawns commit.task.sub;
     memory = after_accesses sound.serial.memory commit.task.log;
     output = sound.serial.output ++ commit.task.bytes;
     count = sound.serial.count + 1;

@@ -20,7 +20,8 @@ number_of None is = absurd (cc)
 number_of (Some n) is = (n, refl)
 
 -- in an order of all tasks, a task with a dispatched one's number is that one
-pub same_number : (view : View) (heir : Option ℕ) → SoundOrder view heir → (a b : ℕ) (x y : Task) → task_at view a ≡ Some x → task_at view b ≡ Some y
+pub same_number : (view : View) (heir : Option ℕ) → SoundOrder view heir → (a b : ℕ) (x y : Task)
+    → task_at view a ≡ Some x → task_at view b ≡ Some y
     → is_dispatched x ≡ true → x.key.tb ≡ y.key.tb → a ≡ b
 same_number view heir sound a b x y there there' runs same =
     let number = number_of x.key.tb runs in
@@ -28,7 +29,8 @@ same_number view heir sound a b x y there there' runs same =
     number.1 (sym same ∙ number.1)
 
 -- a dispatched task ties with no other
-pub no_tie : (view : View) (heir : Option ℕ) → SoundOrder view heir → (a b : ℕ) (x y : Task) → task_at view a ≡ Some x → task_at view b ≡ Some y
+pub no_tie : (view : View) (heir : Option ℕ) → SoundOrder view heir → (a b : ℕ) (x y : Task) → task_at view a ≡ Some x
+    → task_at view b ≡ Some y
     → is_dispatched x ≡ true → b ≢ a → key_cmp x.key y.key ≢ Equal
 no_tie view heir sound a b x y there there' runs other tie =
     other (sym (same_number view heir sound a b x y there there' runs (ap (λ key. key.tb) ((equal_keys_tie x.key y.key).0 tie))))
@@ -41,12 +43,14 @@ module _ (view : View) (id : ℕ) (x : Task) (least : IsLeastTask view id x) whe
       (first_not_greater (key_cmp least.least.key key) (spot_cmp (Queued x.tile least.place) spot) (least.least.least spot key has))
 
   -- so it is above no spilled task
-  pub upto_spilled : (tile place : ℕ) (s : Spilled) → slice_get (block_at view tile) place ≡ Some s → key_cmp x.key (open_key s) ≢ Greater
+  pub upto_spilled : (tile place : ℕ) (s : Spilled) → slice_get (block_at view tile) place ≡ Some s
+      → key_cmp x.key (open_key s) ≢ Greater
   upto_spilled tile place s at = upto_key (Spilled_at tile place) (open_key s) (s, at, refl)
 
   -- and above no queued one
   pub upto_queued : SoundSizes view → (k : ℕ) (t : Task) → task_at view k ≡ Some t → key_cmp x.key t.key ≢ Greater
-  upto_queued sizes k t there = let at = queued_at view sizes k t there in upto_key (Queued t.tile at.0) t.key (k, t, at.1, refl)
+  upto_queued sizes k t there =
+      let at = queued_at view sizes k t there in upto_key (Queued t.tile at.0) t.key (k, t, at.1, refl)
 
   -- a dispatched one is below each other queued task
   pub below_others : (heir : Option ℕ) → SoundOrder view heir → SoundSizes view → is_dispatched x ≡ true

@@ -1,5 +1,6 @@
 -- The heir after a dispatch: the one of before, where there was one, and else the dispatched task, where it is the least one then.
-use Rattle.std.proofs.Common.{◌≡◌, ◌≢◌, ◌⊎◌, ◌<◌, ◌+◌, ◌∷◌, ◌++◌, ℕ, true, [], length, Option, Some, None, refl, sym, ap, subst, ◌∙◌, inl, inr, arith, map, is_some}
+use Rattle.std.proofs.Common.{◌≡◌, ◌≢◌, ◌⊎◌, ◌<◌, ◌+◌, ◌∷◌, ◌++◌, ℕ, true, [], length, Option, Some, None, refl, sym}
+use Rattle.std.proofs.Common.{ap, subst, ◌∙◌, inl, inr, arith, map, is_some}
 use Rattle.std.proofs.lemmas.Bool.{cases_eq}
 use Rattle.std.proofs.lemmas.Cmp.{upto}
 use Rattle.std.proofs.lemmas.List.{length-map}
@@ -28,7 +29,8 @@ use Rattle.spec_law.proofs.Dispatches.One.{after, now, was, was_this}
 use Rattle.spec_law.proofs.Tasks.Places.{place_in_all, place_in_one}
 
 -- the levels of a task that was dispatched have numbers of before
-levels_below : (view : View) (heir : Option ℕ) → SoundOrder view heir → (k : ℕ) (t : Task) → task_at view k ≡ Some t → is_dispatched t ≡ true
+levels_below : (view : View) (heir : Option ℕ) → SoundOrder view heir → (k : ℕ) (t : Task) → task_at view k ≡ Some t
+    → is_dispatched t ≡ true
     → LevelsBelow view.next (levels_of (keyed_task t))
 levels_below view heir sound k t there runs =
     let number = number_of t.key.tb runs in
@@ -39,7 +41,8 @@ levels_below view heir sound k t there runs =
 
 module _ (old new : View) (heir : Option ℕ) (tile : ℕ) (d : Dispatches tile old new) (open' : d.task.key.tb ≡ None) (order : SoundOrder old heir) (sizes : SoundSizes old) (sizes' : SoundSizes (after old new tile d)) (order' : SoundOrder (after old new tile d) heir) where
   -- a dispatched task of before compares with the dispatched one as it did
-  alike : (k : ℕ) (t : Task) → task_at old k ≡ Some t → is_dispatched t ≡ true → key_cmp t.key d.task.key ≡ key_cmp t.key (now old new tile d).key
+  alike : (k : ℕ) (t : Task) → task_at old k ≡ Some t → is_dispatched t ≡ true
+      → key_cmp t.key d.task.key ≡ key_cmp t.key (now old new tile d).key
   alike k t there runs =
       ap (λ tie. levels_cmp (levels_of (keyed_task t)) (map closed_level d.task.key.domain ++ record { ts = d.task.key.ts; tb = tie } ∷ [])) open'
       ∙ cmp_alike level_cmp (record { ts = d.task.key.ts; tb = None }) (record { ts = d.task.key.ts; tb = Some old.next })
@@ -76,8 +79,10 @@ module _ (old new : View) (heir : Option ℕ) (tile : ℕ) (d : Dispatches tile 
     heir_other = runs_other h is.0 is.1.queued_at.there is.2
 
   -- where there was no heir, no other task is one
-  none_other : IsHeir old None → (k : ℕ) (t : Task) → IsLeastTask (after old new tile d) k t → is_dispatched t ≡ true → k ≢ d.id → ⊥
-  none_other none k t least runs other = none k t (makes_least old sizes k t there below (upto_spilled (after old new tile d) k t least)) runs
+  none_other : IsHeir old None → (k : ℕ) (t : Task) → IsLeastTask (after old new tile d) k t → is_dispatched t ≡ true
+      → k ≢ d.id → ⊥
+  none_other none k t least runs other =
+      none k t (makes_least old sizes k t there below (upto_spilled (after old new tile d) k t least)) runs
     where
       there : task_at old k ≡ Some t
       there = sym (d.changes.others k other) ∙ least.queued_at.there
@@ -86,7 +91,8 @@ module _ (old new : View) (heir : Option ℕ) (tile : ℕ) (d : Dispatches tile 
       below j x differs at = elim (cases_eq j d.id) [
         | inl same ↦
             let changed : task_at new j ≡ Some (now old new tile d) = ap (task_at new) same ∙ d.changes.changed in
-            ap (λ y. key_cmp t.key y.key) (was_this old new tile d j x same at) ∙ alike k t (sym (d.changes.others k other) ∙ least.queued_at.there) runs
+            ap (λ y. key_cmp t.key y.key) (was_this old new tile d j x same at)
+            ∙ alike k t (sym (d.changes.others k other) ∙ least.queued_at.there) runs
             ∙ below_others (after old new tile d) k t least heir order' sizes' runs j (now old new tile d) differs changed
         | inr same_task ↦ below_others (after old new tile d) k t least heir order' sizes' runs j x differs (d.changes.others j same_task ∙ at)
       ]
@@ -114,7 +120,8 @@ module _ (old new : View) (heir : Option ℕ) (tile : ℕ) (d : Dispatches tile 
   stands = queued_stands (after old new tile d) heir d.id (now old new tile d) d.changes.changed
 
   -- where the lowest task is not below it, it is the least
-  is_least : (low : IsLowest (all_keyed (after old new tile d) heir) bound) → levels_cmp (levels_of (keyed_task (now old new tile d))) (levels_of low.task) ≢ Greater → IsLeastThen
+  is_least : (low : IsLowest (all_keyed (after old new tile d) heir) bound)
+      → levels_cmp (levels_of (keyed_task (now old new tile d))) (levels_of low.task) ≢ Greater → IsLeastThen
   is_least low upto_low = makes_least (after old new tile d) sizes' d.id (now old new tile d) d.changes.changed
       (λ k t other there.
       less_of (key_cmp (now old new tile d).key t.key)
@@ -126,14 +133,16 @@ module _ (old new : View) (heir : Option ℕ) (tile : ℕ) (d : Dispatches tile 
       upto_each entry.0 (keyed_spilled (length old.history) heir s) entry.1
       ))
     where
-      upto_each : (k : ℕ) (x : Keyed) → all_keyed (after old new tile d) heir k ≡ Some x → levels_cmp (levels_of (keyed_task (now old new tile d))) (levels_of x) ≢ Greater
+      upto_each : (k : ℕ) (x : Keyed) → all_keyed (after old new tile d) heir k ≡ Some x
+          → levels_cmp (levels_of (keyed_task (now old new tile d))) (levels_of x) ≢ Greater
       upto_each k x at =
           greater_not (levels_cmp (levels_of (keyed_task (now old new tile d))) (levels_of x))
           (upto levels_cmp_total (levels_of (keyed_task (now old new tile d))) (levels_of low.task) (levels_of x)
           (not_greater (levels_cmp (levels_of (keyed_task (now old new tile d))) (levels_of low.task)) upto_low) (low.low k x (below_bound k x at) at))
 
   -- where it is below it, it isn't
-  is_not_least : (low : IsLowest (all_keyed (after old new tile d) heir) bound) → levels_cmp (levels_of (keyed_task (now old new tile d))) (levels_of low.task) ≡ Greater
+  is_not_least : (low : IsLowest (all_keyed (after old new tile d) heir) bound)
+      → levels_cmp (levels_of (keyed_task (now old new tile d))) (levels_of low.task) ≡ Greater
       → IsLeastThen → ⊥
   is_not_least low greater least = elim (which (after old new tile d) heir low.id low.task low.there) [
     | inl q ↦
@@ -153,7 +162,8 @@ module _ (old new : View) (heir : Option ℕ) (tile : ℕ) (d : Dispatches tile 
   ]
     where
       by_order : (low : IsLowest (all_keyed (after old new tile d) heir) bound) (o : Ordering)
-          → levels_cmp (levels_of (keyed_task (now old new tile d))) (levels_of low.task) ≡ o → IsLeastThen ⊎ (IsLeastThen → ⊥)
+          → levels_cmp (levels_of (keyed_task (now old new tile d))) (levels_of low.task) ≡ o
+          → IsLeastThen ⊎ (IsLeastThen → ⊥)
       by_order low Less is = inl (is_least low (λ e. absurd (cc (sym is ∙ e))))
       by_order low Equal is = inl (is_least low (λ e. absurd (cc (sym is ∙ e))))
       by_order low Greater is = inr (is_not_least low is)

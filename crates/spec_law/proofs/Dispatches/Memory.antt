@@ -1,5 +1,6 @@
 -- A dispatch keeps the group of memory.
-use Rattle.std.proofs.Common.{◌≡◌, ◌≢◌, ◌⊎◌, ◌<◌, ℕ, true, Option, Some, refl, sym, ap, subst, ◌∙◌, inl, inr, arith, option_map}
+use Rattle.std.proofs.Common.{◌≡◌, ◌≢◌, ◌⊎◌, ◌<◌, ℕ, true, Option, Some, refl, sym, ap, subst, ◌∙◌, inl, inr, arith}
+use Rattle.std.proofs.Common.{option_map}
 use Rattle.std.specs.Ordering.{ordering_reverse}
 use Rattle.std.specs.declared.cmp.Ordering.{Ordering}
 use Rattle.std.specs.declared.cmp.Ordering.TheVariants.{Less, Equal, Greater}
@@ -32,7 +33,8 @@ module _ (old new : View) (heir : Option ℕ) (tile : ℕ) (d : Dispatches tile 
       omega (arith, below)
 
   -- so each other dispatched task is before it or behind it
-  earlier : (k : ℕ) (x : Logged) → k ≢ d.id → logged_tasks old k ≡ Some x → x.dispatched ≡ true → Earlier x started_log ⊎ Earlier started_log x
+  earlier : (k : ℕ) (x : Logged) → k ≢ d.id → logged_tasks old k ≡ Some x → x.dispatched ≡ true
+      → Earlier x started_log ⊎ Earlier started_log x
   earlier k x other at runs =
       let read = mapped_some logged_task (task_at old k) x at in
       subst (λ y. Earlier y started_log ⊎ Earlier started_log y) (sym read.2) (by_order read.0 read.1 (key_cmp read.0.key (now old new tile d).key) refl)
@@ -63,7 +65,8 @@ module _ (old new : View) (heir : Option ℕ) (tile : ℕ) (d : Dispatches tile 
   pub dispatched_memory : (serial : SerialState) → SoundMemory old serial → SoundMemory (after old new tile d) serial
   dispatched_memory serial sound =
       record {
-        chained = dispatch_keeps_chain old.settings.line (logged_tasks old) (logged_tasks new) d.id started_log serial.memory old.memory dispatches sound.chained;
+        chained =
+            dispatch_keeps_chain old.settings.line (logged_tasks old) (logged_tasks new) d.id started_log serial.memory old.memory dispatches sound.chained;
         noted = each_after old new tile d (λ k t. HasNotes t.lines (notes_of old.settings.line t.log))
             (sound.noted d.id d.task (was old new tile d)) (λ k t other there. sound.noted k t there);
       }

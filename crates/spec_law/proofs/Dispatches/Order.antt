@@ -1,5 +1,6 @@
 -- A dispatch keeps the group of order.
-use Rattle.std.proofs.Common.{◌≡◌, ◌<◌, ◌+◌, ◌-◌, ℕ, List, length, Option, Some, None, ap, arith, map, option_map, slice_get, nat_lt, if◌then◌else◌}
+use Rattle.std.proofs.Common.{◌≡◌, ◌<◌, ◌+◌, ◌-◌, ℕ, List, length, Option, Some, None, ap, arith, map, option_map}
+use Rattle.std.proofs.Common.{slice_get, nat_lt, if◌then◌else◌}
 use Rattle.fractal_vt.specs.Levels.{closed_level}
 use Rattle.order_law.specs.Events as order
 use Rattle.order_law.specs.Events.{beside}
@@ -39,7 +40,8 @@ module _ (old new : View) (heir : Option ℕ) (tile : ℕ) (d : Dispatches tile 
         changes = record {
           changed = beside_task (length old.tasks) (keyed_tasks new) spilled_list d.id
               (keyed_task (now old new tile d)) low (ap (option_map keyed_task) d.changes.changed);
-          others = λ k other. ap (λ o. if nat_lt k (length old.tasks) then o else slice_get spilled_list (k - length old.tasks))
+          others =
+              λ k other. ap (λ o. if nat_lt k (length old.tasks) then o else slice_get spilled_list (k - length old.tasks))
               (ap (option_map keyed_task) (d.changes.others k other));
         };
       }

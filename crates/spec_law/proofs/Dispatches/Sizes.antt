@@ -1,5 +1,6 @@
 -- A dispatch keeps the group of sizes.
-use Rattle.std.proofs.Common.{◌≡◌, ◌≢◌, ◌<◌, ◌≤◌, ◌^◌, ℕ, length, Some, None, refl, sym, ap, subst, ◌∙◌, inl, inr, slice_get}
+use Rattle.std.proofs.Common.{◌≡◌, ◌≢◌, ◌<◌, ◌≤◌, ◌^◌, ℕ, length, Some, None, refl, sym, ap, subst, ◌∙◌, inl, inr}
+use Rattle.std.proofs.Common.{slice_get}
 use Rattle.std.proofs.lemmas.Bool.{cases_eq}
 use Rattle.std.proofs.lemmas.List.{length-set}
 use Rattle.spec_state.specs.declared.emitted.TheConstants.{MAX_EMITTED}
@@ -21,21 +22,25 @@ module _ (old new : View) (tile : ℕ) (d : Dispatches tile old new) (sizes : So
       sym (ap (λ t. t.tile) (was_this old new tile d d.id has.0 refl has.1)) ∙ has.2
 
   -- a task whose status is none of an idle one is another one, and stays
-  busy_stays : (kind : Status → Type 0) → (kind Idle → ⊥) → (at k : ℕ) → HasTask old at k kind → (k ≢ d.id) × HasTask (after old new tile d) at k kind
+  busy_stays : (kind : Status → Type 0) → (kind Idle → ⊥) → (at k : ℕ) → HasTask old at k kind
+      → (k ≢ d.id) × HasTask (after old new tile d) at k kind
   busy_stays kind none at k has = (other, (has.0, d.changes.others k other ∙ has.1, has.2, has.3))
     where
       other : k ≢ d.id
-      other same = none (subst kind (ap (λ t. t.status) (was_this old new tile d k has.0 same has.1) ∙ d.least.idle.idle) has.3)
+      other same =
+          none (subst kind (ap (λ t. t.status) (was_this old new tile d k has.0 same has.1) ∙ d.least.idle.idle) has.3)
 
   -- a task whose status is none of a running one was there
-  not_started : (kind : Status → Type 0) → (kind (Running d.core) → ⊥) → (at k : ℕ) → HasTask (after old new tile d) at k kind → HasTask old at k kind
+  not_started : (kind : Status → Type 0) → (kind (Running d.core) → ⊥) → (at k : ℕ)
+      → HasTask (after old new tile d) at k kind → HasTask old at k kind
   not_started kind none at k has = elim (which old new tile d k has.0 has.1) [
     | inl here ↦ absurd (none (subst kind (ap (λ t. t.status) here.1) has.3))
     | inr there ↦ (has.0, there.1, has.2, has.3)
   ]
 
   -- each task is in its tile still
-  queued_forth : (at k : ℕ) → HasTask old at k (λ status. Unit {0}) → HasTask (after old new tile d) at k (λ status. Unit {0})
+  queued_forth : (at k : ℕ) → HasTask old at k (λ status. Unit {0})
+      → HasTask (after old new tile d) at k (λ status. Unit {0})
   queued_forth at k has = elim (cases_eq k d.id) [
     | inl same ↦
         (now old new tile d, ap (task_at new) same ∙ d.changes.changed, sym (ap (λ t. t.tile) (was_this old new tile d k has.0 same has.1)) ∙ has.2, tt)
@@ -43,18 +48,21 @@ module _ (old new : View) (tile : ℕ) (d : Dispatches tile old new) (sizes : So
   ]
 
   -- and was so before
-  queued_back : (at k : ℕ) → HasTask (after old new tile d) at k (λ status. Unit {0}) → HasTask old at k (λ status. Unit {0})
+  queued_back : (at k : ℕ) → HasTask (after old new tile d) at k (λ status. Unit {0})
+      → HasTask old at k (λ status. Unit {0})
   queued_back at k has = elim (which old new tile d k has.0 has.1) [
     | inl here ↦ (d.task, ap (task_at old) here.0 ∙ was old new tile d, sym (ap (λ t. t.tile) here.1) ∙ has.2, tt)
     | inr there ↦ (has.0, there.1, has.2, tt)
   ]
 
   -- each core that is held is held by its task
-  held_forth : (at c k : ℕ) → slice_get (cores_at (after old new tile d) at) c ≡ Some (Some k) → HasTask (after old new tile d) at k (λ status. HasCore status c)
+  held_forth : (at c k : ℕ) → slice_get (cores_at (after old new tile d) at) c ≡ Some (Some k)
+      → HasTask (after old new tile d) at k (λ status. HasCore status c)
   held_forth at c k held = elim (this_or_other at tile c d.core) [
     | inl this ↦
         let both : Some (Some k) ≡ Some (Some d.id) =
-        sym held ∙ (λ i. slice_get (cores_at (after old new tile d) (this.0 i)) (this.1 i)) ∙ holder_now old tile d.core None (Some d.id) d.free.free
+        sym held ∙ (λ i. slice_get (cores_at (after old new tile d) (this.0 i)) (this.1 i))
+        ∙ holder_now old tile d.core None (Some d.id) d.free.free
         in
         let same : k ≡ d.id = cc in
         (now old new tile d, ap (task_at new) same ∙ d.changes.changed, own_tile ∙ sym this.0, sym this.1)
@@ -64,12 +72,14 @@ module _ (old new : View) (tile : ℕ) (d : Dispatches tile old new) (sizes : So
   ]
 
   -- and each task that has a core holds it
-  held_back : (at c k : ℕ) → HasTask (after old new tile d) at k (λ status. HasCore status c) → slice_get (cores_at (after old new tile d) at) c ≡ Some (Some k)
+  held_back : (at c k : ℕ) → HasTask (after old new tile d) at k (λ status. HasCore status c)
+      → slice_get (cores_at (after old new tile d) at) c ≡ Some (Some k)
   held_back at c k has = elim (which old new tile d k has.0 has.1) [
     | inl here ↦
         let here_tile : tile ≡ at = sym own_tile ∙ sym (ap (λ t. t.tile) here.1) ∙ has.2 in
         let here_core : d.core ≡ c = subst (λ t. HasCore t.status c) here.1 has.3 in
-        sym (λ i. slice_get (cores_at (after old new tile d) (here_tile i)) (here_core i)) ∙ holder_now old tile d.core None (Some d.id) d.free.free
+        sym (λ i. slice_get (cores_at (after old new tile d) (here_tile i)) (here_core i))
+        ∙ holder_now old tile d.core None (Some d.id) d.free.free
         ∙ ap (λ j. Some (Some j)) (sym here.0)
     | inr there ↦
         let held = (sizes.held_are at c k).1 (has.0, there.1, has.2, has.3) in
@@ -90,13 +100,16 @@ module _ (old new : View) (tile : ℕ) (d : Dispatches tile old new) (sizes : So
         task_queues = sizes.task_queues;
         commit_queues = sizes.commit_queues;
         core_counts = counts_now old tile d.core None (Some d.id) d.free.free old.settings.cores sizes.core_counts;
-        queued_are = λ at k. (λ has. queued_forth at k ((sizes.queued_are at k).0 has), λ has. (sizes.queued_are at k).1 (queued_back at k has));
+        queued_are =
+            λ at k. (λ has. queued_forth at k ((sizes.queued_are at k).0 has), λ has. (sizes.queued_are at k).1 (queued_back at k has));
         finished_are = λ at k. (
           λ has. (busy_stays (λ status. status ≡ Finished) (λ is. absurd (cc (is))) at k ((sizes.finished_are at k).0 has)).1,
           λ has. (sizes.finished_are at k).1 (not_started (λ status. status ≡ Finished) (λ is. absurd (cc (is))) at k has),
         );
         held_are = λ at c k. (held_forth at c k, held_back at c k);
-        kinds = each_after old new tile d (λ k t. t.kinds < 2 ^ depth_of t) (sizes.kinds d.id d.task (was old new tile d)) (λ k t other there. sizes.kinds k t there);
-        bytes = each_after old new tile d (λ k t. length t.bytes ≤ MAX_EMITTED) (sizes.bytes d.id d.task (was old new tile d)) (λ k t other there. sizes.bytes k t there);
+        kinds =
+            each_after old new tile d (λ k t. t.kinds < 2 ^ depth_of t) (sizes.kinds d.id d.task (was old new tile d)) (λ k t other there. sizes.kinds k t there);
+        bytes =
+            each_after old new tile d (λ k t. length t.bytes ≤ MAX_EMITTED) (sizes.bytes d.id d.task (was old new tile d)) (λ k t other there. sizes.bytes k t there);
         spilled = sizes.spilled;
       }

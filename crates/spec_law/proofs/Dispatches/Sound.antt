@@ -1,5 +1,6 @@
 -- A dispatch keeps a view sound.
-use Rattle.std.proofs.Common.{◌≡◌, ◌<◌, ◌≤◌, ◌∷◌, ℕ, true, nat_le, List, [], length, map, Option, Some, None, refl, sym, ap, subst, ◌∙◌, inl, inr, arith, suc}
+use Rattle.std.proofs.Common.{◌≡◌, ◌<◌, ◌≤◌, ◌∷◌, ℕ, true, nat_le, List, [], length, map, Option, Some, None, refl, sym}
+use Rattle.std.proofs.Common.{ap, subst, ◌∙◌, inl, inr, arith, suc}
 use Rattle.std.specs.Prelude.{Contains}
 use Rattle.std.proofs.lemmas.Bool.{le-leb}
 use Rattle.guest_image.specs.ImageValue.{ImageValue}
@@ -22,7 +23,8 @@ use Rattle.spec_law.proofs.Dispatches.Sizes.{dispatched_sizes}
 use Rattle.spec_law.proofs.Dispatches.Heir.{heir_stays, heir_other, heir_after}
 
 -- spilled tasks with committed creators are read the same, whatever the heir
-read_alike : (count : ℕ) (one other : Option ℕ) (spilled_list : List Spilled) → ((s : Spilled) → Contains spilled_list s → s.desc.name.creator ≤ count)
+read_alike : (count : ℕ) (one other : Option ℕ) (spilled_list : List Spilled)
+    → ((s : Spilled) → Contains spilled_list s → s.desc.name.creator ≤ count)
     → map (keyed_spilled count one) spilled_list ≡ map (keyed_spilled count other) spilled_list
 read_alike count one other [] low = refl
 read_alike count one other (s ∷ spilled_list) low =
@@ -34,17 +36,20 @@ read_alike count one other (s ∷ spilled_list) low =
     λ i. record (keyed_spilled count one s) { creator = none i } ∷ rest i
 
 -- so the order of all tasks does not read the heir then
-order_alike : (view : View) (one other : Option ℕ) → ((s : Spilled) → Contains (all_spilled view) s → s.desc.name.creator ≤ length view.history)
+order_alike : (view : View) (one other : Option ℕ)
+    → ((s : Spilled) → Contains (all_spilled view) s → s.desc.name.creator ≤ length view.history)
     → SoundOrder view one → SoundOrder view other
 order_alike view one other low sound = record {
-  order = subst (λ spilled_list. IsOrdered (beside (length view.tasks) (keyed_tasks view) spilled_list) (map closed_level view.path) view.next)
+  order =
+      subst (λ spilled_list. IsOrdered (beside (length view.tasks) (keyed_tasks view) spilled_list) (map closed_level view.path) view.next)
       (read_alike (length view.history) one other (all_spilled view) low) sound.order;
   numbers = sound.numbers;
 }
 
 module _ (image : ImageValue) (old new : View) (sound : Sound image old) (tile : ℕ) (left : old.next < DISPATCH_NUMBERS) (d : Dispatches tile old new) where
   -- sound with this heir
-  with_heir : (heir : Option ℕ) → IsHeir (after old new tile d) heir → SoundTasks image (after old new tile d) heir sound.serial
+  with_heir : (heir : Option ℕ) → IsHeir (after old new tile d) heir
+      → SoundTasks image (after old new tile d) heir sound.serial
       → SoundOrder (after old new tile d) heir → StaysSound image old sound (after old new tile d)
   with_heir heir is_heir tasks order = (
     record {
@@ -54,7 +59,8 @@ module _ (image : ImageValue) (old new : View) (sound : Sound image old) (tile :
       heir = heir;
       is_heir = is_heir;
       tasks = tasks;
-      memory = dispatched_memory old new sound.heir tile d (was_idle old new tile d image sound.heir sound.serial sound.tasks) sound.order sound.serial sound.memory;
+      memory =
+          dispatched_memory old new sound.heir tile d (was_idle old new tile d image sound.heir sound.serial sound.tasks) sound.order sound.serial sound.memory;
       order = order;
       sizes = dispatched_sizes old new tile d sound.sizes;
     },
@@ -62,7 +68,8 @@ module _ (image : ImageValue) (old new : View) (sound : Sound image old) (tile :
   )
 
   -- the heir of before stays, or there was none
-  by_heir : (heir : Option ℕ) → IsHeir old heir → SoundTasks image old heir sound.serial → SoundOrder old heir → StaysSound image old sound (after old new tile d)
+  by_heir : (heir : Option ℕ) → IsHeir old heir → SoundTasks image old heir sound.serial → SoundOrder old heir
+      → StaysSound image old sound (after old new tile d)
   by_heir (Some h) is_heir tasks order =
       let idle = was_idle old new tile d image (Some h) sound.serial tasks in
       let open' = ap (λ t. t.key.tb) idle in

@@ -1,5 +1,6 @@
 -- A dispatch keeps the group of tasks, whether the heir stays or the dispatched task is the heir from then on.
-use Rattle.std.proofs.Common.{◌≡◌, ◌≢◌, ◌+◌, ◌≤◌, ℕ, true, false, length, Option, Some, None, refl, sym, ap, subst, ◌∙◌, inl, inr, arith, option_map, slice_get, is_some, unwrap_or}
+use Rattle.std.proofs.Common.{◌≡◌, ◌≢◌, ◌+◌, ◌≤◌, ℕ, true, false, length, Option, Some, None, refl, sym, ap, subst, ◌∙◌}
+use Rattle.std.proofs.Common.{inl, inr, arith, option_map, slice_get, is_some, unwrap_or}
 use Rattle.std.specs.Prelude.{Contains}
 use Rattle.guest_image.specs.ImageValue.{ImageValue}
 use Rattle.serial_machine.specs.State.{SerialState}
@@ -16,7 +17,8 @@ use Rattle.spec_state.specs.declared.task.Status.TheVariants.{Running}
 use Rattle.spec_state.specs.declared.task.Task.{Task}
 use Rattle.spec_state.specs.View.{View, task_at}
 use Rattle.spec_state.specs.Tasks.{Descriptor, descriptor_of, idle_again, is_dispatched, spilled_descriptor}
-use Rattle.spec_state.specs.Groups.{all_spilled, bag_creator, bag_spilled, bag_task, bag_tasks, bags_spilled, domains_of, keyed_task, live_creator}
+use Rattle.spec_state.specs.Groups.{all_spilled, bag_creator, bag_spilled, bag_task, bag_tasks, bags_spilled}
+use Rattle.spec_state.specs.Groups.{domains_of, keyed_task, live_creator}
 use Rattle.spec_state.specs.Changes.{Dispatches}
 use Rattle.spec_law.specs.Sound.{StandsAs, IsMadeBy, SoundOrder, SoundTasks}
 use Rattle.spec_law.proofs.Tasks.Places.{contained_in_map}
@@ -31,7 +33,8 @@ live_of (Committed turn i) k index is = absurd (cc (is))
 live_of (Live task i) k index is = let same : task.0 ≡ k = cc in ap Some same
 
 -- a task that had done nothing stands as running once it is dispatched
-starts_running : (image : ImageValue) (version budget next core : ℕ) (t : Task) → t ≡ idle_again version t → StandsAs image version budget (started version next core t) (Running core)
+starts_running : (image : ImageValue) (version budget next core : ℕ) (t : Task) → t ≡ idle_again version t
+    → StandsAs image version budget (started version next core t) (Running core)
 starts_running image version budget next core t idle =
     subst (λ x. StandsAs image version budget (started version next core x) (Running core)) (sym idle) (refl, none)
 
@@ -62,7 +65,8 @@ module _ (image : ImageValue) (old new : View) (heir : Option ℕ) (serial : Ser
 
   -- with this heir names are apart and families whole
   abbrev NamesAfter : Option ℕ → Type 0
-  NamesAfter now_heir = AreSound (length old.history) (unwrap_or now_heir 0) (is_some now_heir) (bag_tasks new) (bags_spilled old)
+  NamesAfter now_heir =
+      AreSound (length old.history) (unwrap_or now_heir 0) (is_some now_heir) (bag_tasks new) (bags_spilled old)
 
   -- the free tasks are the same ones
   same_free : SameFree (length old.history) (bag_tasks old) (bags_spilled old) (bag_tasks new) (bags_spilled old)
@@ -87,7 +91,8 @@ module _ (image : ImageValue) (old new : View) (heir : Option ℕ) (serial : Ser
 
   -- a spilled child of this heir
   abbrev IsHeirs : Option ℕ → Spilled → Type 0
-  IsHeirs now_heir s = (id : ℕ) × (now_heir ≡ Some id) × IsMadeBy (after old new tile d) id s.desc.name.index (spilled_descriptor s)
+  IsHeirs now_heir s =
+      (id : ℕ) × (now_heir ≡ Some id) × IsMadeBy (after old new tile d) id s.desc.name.index (spilled_descriptor s)
 
   -- the group of tasks with any heir that fits names and spilled children
   with_heir : (now_heir : Option ℕ) → NamesAfter now_heir
@@ -98,13 +103,16 @@ module _ (image : ImageValue) (old new : View) (heir : Option ℕ) (serial : Ser
         few = sound.few;
         output = sound.output;
         names = names;
-        matches = matches_still (length old.history) (bag_tasks old) (bag_tasks new) (bags_spilled old) (bags_spilled old) serial.stack same_free sound.matches;
-        domains = λ id t turn index at. each_after old new tile d (λ k x. x.creator ≡ Committed turn index → FitsBags (domains_of x.kinds x.key.domain) serial.stack)
+        matches =
+            matches_still (length old.history) (bag_tasks old) (bag_tasks new) (bags_spilled old) (bags_spilled old) serial.stack same_free sound.matches;
+        domains =
+            λ id t turn index at. each_after old new tile d (λ k x. x.creator ≡ Committed turn index → FitsBags (domains_of x.kinds x.key.domain) serial.stack)
             (λ made. sound.domains d.id d.task turn index (was old new tile d) made) (λ k x other there made. sound.domains k x turn index there made) id t at;
         spilled_domains = sound.spilled_domains;
         stands = each_after old new tile d (λ k x. StandsAs image old.version old.settings.budget x x.status)
             (starts_running image old.version old.settings.budget old.next d.core d.task idle) (λ k x other there. sound.stands k x there);
-        children = λ id t creator index at. each_after old new tile d (λ k x. x.creator ≡ Live creator index → IsMadeBy (after old new tile d) creator.0 index (descriptor_of x))
+        children =
+            λ id t creator index at. each_after old new tile d (λ k x. x.creator ≡ Live creator index → IsMadeBy (after old new tile d) creator.0 index (descriptor_of x))
             (λ made. made_still creator.0 index (descriptor_of d.task) (sound.children d.id d.task creator index (was old new tile d) made))
             (λ k x other there made. made_still creator.0 index (descriptor_of x) (sound.children k x creator index there made)) id t at;
         spilled_children = heirs;

@@ -1,5 +1,6 @@
 -- What an enqueue makes of the task that makes it, and of the child: its depth, and that its kinds fit it.
-use Rattle.std.proofs.Common.{◌≡◌, ◌<◌, ◌+◌, ◌-◌, ◌*◌, ◌^◌, ◌∷◌, ◌++◌, ℕ, zero, suc, List, [], length, take, Option, Some, None, ◌∙◌, arith, is_some}
+use Rattle.std.proofs.Common.{◌≡◌, ◌<◌, ◌+◌, ◌-◌, ◌*◌, ◌^◌, ◌∷◌, ◌++◌, ℕ, zero, suc, List, [], length, take, Option}
+use Rattle.std.proofs.Common.{Some, None, ◌∙◌, arith, is_some}
 use Rattle.std.proofs.Common.{refl, sym, ap, subst}
 use Rattle.std.proofs.lemmas.Grind.{pow_more}
 use Rattle.std.proofs.lemmas.List.{length_push}
@@ -14,10 +15,12 @@ use Rattle.task_law.specs.Tasks.{IsChildDepth}
 use Rattle.spec_state.specs.declared.task.Task.{Task}
 use Rattle.rv_core.specs.LegValue.{LegValue}
 use Rattle.spec_state.specs.Changes.{task_past_leg}
-use Rattle.spec_state.specs.Tasks.{depth_of, outer_kind, own_level, child_domain, child_kinds, child_descriptor, sub_bit}
+use Rattle.spec_state.specs.Tasks.{depth_of, outer_kind, own_level, child_domain, child_kinds, child_descriptor}
+use Rattle.spec_state.specs.Tasks.{sub_bit}
 
 -- the descriptor of a child is that which its creator would have given it before it went on
-pub descriptor_same : (task : Task) (leg : LegValue) (spawn other : Spawn) → child_descriptor (record (task_past_leg task leg) { spawns = task.spawns ++ other ∷ [] }) spawn ≡ child_descriptor task spawn
+pub descriptor_same : (task : Task) (leg : LegValue) (spawn other : Spawn)
+    → child_descriptor (record (task_past_leg task leg) { spawns = task.spawns ++ other ∷ [] }) spawn ≡ child_descriptor task spawn
 descriptor_same task leg spawn other = refl
 
 -- of some levels, all but the last are one fewer
@@ -39,7 +42,8 @@ super_length task some = by_size (length task.key.domain) refl
     by_size (suc n) is = let front = front_length task.key.domain n is in omega (arith, front, is)
 
 -- the depth of a child
-pub child_depth : (task : Task) (sub : Option Kind) (place : Place) → HasDomain (outer_kind (length task.key.domain) task.kinds) sub place
+pub child_depth : (task : Task) (sub : Option Kind) (place : Place)
+    → HasDomain (outer_kind (length task.key.domain) task.kinds) sub place
     → IsChildDepth (depth_of task) place (length (child_domain task place) + 1)
 child_depth task sub Same has = refl
 child_depth task sub Sub has = ap (λ n. n + 1) (length_push task.key.domain (own_level task))
@@ -63,7 +67,8 @@ some_power (suc n) =
     subst (λ k. 0 < 2 ^ k) (sym next) (omega (arith, less, same))
 
 -- the kinds of a child fit its depth
-pub child_fits : (task : Task) (sub : Option Kind) (place : Place) → HasDomain (outer_kind (length task.key.domain) task.kinds) sub place → task.kinds < 2 ^ depth_of task
+pub child_fits : (task : Task) (sub : Option Kind) (place : Place)
+    → HasDomain (outer_kind (length task.key.domain) task.kinds) sub place → task.kinds < 2 ^ depth_of task
     → child_kinds task place < 2 ^ (length (child_domain task place) + 1)
 child_fits task sub Same has low = low
 child_fits task sub Sub has low =

@@ -1,5 +1,6 @@
 -- An enqueue, as a step of the task that makes it and then a child that comes to be, keeps the groups of a sound view.
-use Rattle.std.proofs.Common.{◌≡◌, ◌<◌, ◌≤◌, ◌^◌, ℕ, List, length, Option, Some, refl, sym, ap, subst, ◌∙◌, slice_get, is_some, unwrap_or}
+use Rattle.std.proofs.Common.{◌≡◌, ◌<◌, ◌≤◌, ◌^◌, ℕ, List, length, Option, Some, refl, sym, ap, subst, ◌∙◌, slice_get}
+use Rattle.std.proofs.Common.{is_some, unwrap_or}
 use Rattle.std.specs.Ordering.{ordering_reverse}
 use Rattle.std.specs.declared.cmp.Ordering.{Ordering}
 use Rattle.std.specs.declared.cmp.Ordering.TheVariants.{Less, Equal, Greater}
@@ -21,7 +22,8 @@ use Rattle.spec_state.specs.declared.task.Creator.TheVariants.{Committed, Live}
 use Rattle.spec_state.specs.declared.task.Task.{Task}
 use Rattle.spec_state.specs.declared.task.TaskId.{TaskId}
 use Rattle.spec_state.specs.View.{View, task_at}
-use Rattle.spec_state.specs.Tasks.{Descriptor, child_descriptor, depth_of, descriptor_of, idle_again, spilled_descriptor}
+use Rattle.spec_state.specs.Tasks.{Descriptor, child_descriptor, depth_of, descriptor_of, idle_again}
+use Rattle.spec_state.specs.Tasks.{spilled_descriptor}
 use Rattle.spec_state.specs.Groups.{bag_task, bag_tasks, bags_spilled, domains_of, keyed_task, live_creator}
 use Rattle.spec_state.specs.Least.{IsHeir}
 use Rattle.spec_state.specs.Opening.{Adds}
@@ -86,7 +88,8 @@ module _ (image : ImageValue) (old new : View) (tasks : List (Option Task)) (id 
       add_keeps_sizes mid new c child makes.adds (step_keeps_sizes old mid id task behind makes.step sizes makes.lists makes.bytes) makes.within makes.free makes.idle makes.kinds
 
   -- the heir is below the child, since it is not above the task that makes it
-  heir_below : SoundSizes old → (heir : Option ℕ) → IsHeir old heir → (h : ℕ) (x : Task) → heir ≡ Some h → task_at mid h ≡ Some x → key_cmp x.key child.key ≡ Less
+  heir_below : SoundSizes old → (heir : Option ℕ) → IsHeir old heir → (h : ℕ) (x : Task) → heir ≡ Some h
+      → task_at mid h ≡ Some x → key_cmp x.key child.key ≡ Less
   heir_below sizes heir is_heir h x is at =
       let least = heir_is_least old heir h is_heir is in
       let upto = not_below_least old sizes h id least.0 task least.1 makes.step.there in
@@ -120,12 +123,19 @@ module _ (image : ImageValue) (old new : View) (tasks : List (Option Task)) (id 
         enqueues_keep (bag_tasks old) (bag_tasks new) (bags_spilled old) (length old.history) (unwrap_or heir 0) id c (bag_task task) spawn (depth_of child) (is_some heir) makes.bags
 
     matches : Matches (length old.history) (bag_tasks new) (bags_spilled old) serial.stack
-    matches depth p = (λ free. (sound.matches depth p).0 ((same_free.0 depth p).1 free), λ stands. (same_free.0 depth p).0 ((sound.matches depth p).1 stands))
+    matches depth p =
+        (λ free. (sound.matches depth p).0 ((same_free.0 depth p).1 free), λ stands. (same_free.0 depth p).0 ((sound.matches depth p).1 stands))
 
     -- what a task made it has made still
     made_now : (k index : ℕ) (d : Descriptor) → IsMadeBy mid k index d → IsMadeBy (added_to mid new) k index d
     made_now k index d made =
-        record { creator = made.creator; there = still_there mid new c child makes.adds k made.creator made.there; spawn = made.spawn; made = made.made; descriptor_is = made.descriptor_is }
+        record {
+          creator = made.creator;
+          there = still_there mid new c child makes.adds k made.creator made.there;
+          spawn = made.spawn;
+          made = made.made;
+          descriptor_is = made.descriptor_is;
+        }
 
     -- the child is as the task made it
     child_made : IsMadeBy (added_to mid new) id (length task.spawns) (descriptor_of child)
@@ -139,10 +149,12 @@ module _ (image : ImageValue) (old new : View) (tasks : List (Option Task)) (id 
         }
 
     abbrev InBags : ℕ → Task → Type 0
-    InBags k t = (turn index : ℕ) → t.creator ≡ Committed turn index → FitsBags (domains_of t.kinds t.key.domain) serial.stack
+    InBags k t =
+        (turn index : ℕ) → t.creator ≡ Committed turn index → FitsBags (domains_of t.kinds t.key.domain) serial.stack
 
     abbrev IsMade : ℕ → Task → Type 0
-    IsMade k t = (creator : TaskId) (index : ℕ) → t.creator ≡ Live creator index → IsMadeBy (added_to mid new) creator.0 index (descriptor_of t)
+    IsMade k t =
+        (creator : TaskId) (index : ℕ) → t.creator ≡ Live creator index → IsMadeBy (added_to mid new) creator.0 index (descriptor_of t)
 
     child_is_made : IsMade c child
     child_is_made creator index made =
@@ -163,7 +175,8 @@ module _ (image : ImageValue) (old new : View) (tasks : List (Option Task)) (id 
               (λ j x other there turn index made. domains_still old mid id task behind makes.step makes.all_children image heir serial sound j x turn index there made)
               (λ turn index made. absurd (cc (makes.creator, made))) k t at turn index;
           spilled_domains = sound.spilled_domains;
-          stands = each_stepped mid new c child makes.adds.changes (λ k t. StandsAs image old.version old.settings.budget t t.status) (λ k t other there. stand_mid k t there)
+          stands =
+              each_stepped mid new c child makes.adds.changes (λ k t. StandsAs image old.version old.settings.budget t t.status) (λ k t other there. stand_mid k t there)
               (subst (StandsAs image old.version old.settings.budget child) (sym (ap (λ t. t.status) makes.idle)) makes.idle);
           children = λ k t creator index at. each_stepped mid new c child makes.adds.changes IsMade
               (λ j x other there creator index made. made_now creator.0 index (descriptor_of x)

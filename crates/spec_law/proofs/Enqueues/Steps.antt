@@ -1,5 +1,6 @@
 -- An enqueue is a step of the task that makes it, and then a task that comes to be.
-use Rattle.std.proofs.Common.{◌≡◌, ◌≢◌, ◌<◌, ◌∷◌, ◌++◌, ℕ, [], length, Some, None, refl, sym, ap, subst, ◌∙◌, inl, inr, option_map, slice_get, slice_set}
+use Rattle.std.proofs.Common.{◌≡◌, ◌≢◌, ◌<◌, ◌∷◌, ◌++◌, ℕ, [], length, Some, None, refl, sym, ap, subst, ◌∙◌, inl, inr}
+use Rattle.std.proofs.Common.{option_map, slice_get, slice_set}
 use Rattle.std.proofs.lemmas.Bool.{cases_eq}
 use Rattle.std.proofs.lemmas.List.{get_or-set_same, get_or-set_other}
 use Rattle.guest_image.specs.ImageValue.{ImageValue}
@@ -129,10 +130,12 @@ module _ (image : ImageValue) (old new : View) (sound : Sound image old) (tile c
 
   -- the lists of commit queues and cores stay
   lists : FitsLists mid
-  lists = lists_stay old mid id task behind steps_one sound.sizes refl refl (λ is. is, λ is. is) (λ held. (λ is. is, λ is. is))
+  lists =
+      lists_stay old mid id task behind steps_one sound.sizes refl refl (λ is. is, λ is. is) (λ held. (λ is. is, λ is. is))
 
   -- it makes a child
-  makes : target < old.settings.tiles → QueueHasRoom old target → MakesChild image old new (slice_set new.tasks does.child None) id does.child task behind child spawn
+  makes : target < old.settings.tiles → QueueHasRoom old target
+      → MakesChild image old new (slice_set new.tasks does.child None) id does.child task behind child spawn
   makes within free =
       let number = there_is task.key.tb (stood image old sound tile core id leg task taken).0 in
       let above = child_is_above image old tile core id target leg task spawn sound taken.takes at.asks in
@@ -143,7 +146,8 @@ module _ (image : ImageValue) (old new : View) (sound : Sound image old) (tile c
         all_children = all_children;
         stands = stands_on;
         lists = lists;
-        bytes = (left image old sound tile core id leg task (Enqueue spawn) after at tt refl).1 (sound.sizes.bytes id task there);
+        bytes =
+            (left image old sound tile core id leg task (Enqueue spawn) after at tt refl).1 (sound.sizes.bytes id task there);
         number = number.0;
         numbered = number.1;
         adds = adds;

@@ -26,7 +26,8 @@ use Rattle.spec_law.proofs.Moves.Added.{AddsEach, added_mapped, pushed_in_one}
 use Rattle.spec_law.proofs.Tasks.Ranked.{ranked_turned}
 
 -- a queued task does not come before itself
-not_before_itself : (view : View) (tile id : ℕ) (task : Task) → Contains (queue_at view tile) id → task_at view id ≡ Some task → Precedes view tile id id → ⊥
+not_before_itself : (view : View) (tile id : ℕ) (task : Task) → Contains (queue_at view tile) id
+    → task_at view id ≡ Some task → Precedes view tile id id → ⊥
 not_before_itself view tile id task c there precedes =
     let queued : slice_get (queue_at view tile) c.0 ≡ Some id = slice_get-get_or (queue_at view tile) c.0 id c.1 ∙ ap Some c.2 in
     let at : IsQueuedAt view tile c.0 id task = record { queued = queued; there = there } in
@@ -44,10 +45,12 @@ module _ (count least : ℕ) (runs : Bool) (tile : ℕ) (old new : View) (c : Co
 
   -- each of them moves
   all_movable : AllByRecursion (IsMovable old tile) c.ids
-  all_movable = recursion_from_All (IsMovable old tile) c.ids (λ k d below. c.chosen.movable (slice_index_or c.ids k d) (Contains-get_or c.ids k d below))
+  all_movable =
+      recursion_from_All (IsMovable old tile) c.ids (λ k d below. c.chosen.movable (slice_index_or c.ids k d) (Contains-get_or c.ids k d below))
 
   -- one of them
-  moves_one : (id : ℕ) (s : Spilled) → IsMovable old tile id → IsSpilledAs old id s → MovesOne count least runs (bag_tasks old) id (bag_spilled s)
+  moves_one : (id : ℕ) (s : Spilled) → IsMovable old tile id → IsSpilledAs old id s
+      → MovesOne count least runs (bag_tasks old) id (bag_spilled s)
   moves_one id s movable as_is =
       let both : Some movable.0 ≡ Some as_is.task = sym movable.1.idle.there ∙ as_is.there in
       let same : movable.0 ≡ as_is.task = cc in
@@ -62,7 +65,8 @@ module _ (count least : ℕ) (runs : Bool) (tile : ℕ) (old new : View) (c : Co
       }
 
   -- all of them
-  move_all : (ids : List ℕ) (moved : List Spilled) → AllByRecursion (IsMovable old tile) ids → AllZip (IsSpilledAs old) ids moved
+  move_all : (ids : List ℕ) (moved : List Spilled) → AllByRecursion (IsMovable old tile) ids
+      → AllZip (IsSpilledAs old) ids moved
       → AllZip (MovesOne count least runs (bag_tasks old)) ids (map bag_spilled moved)
   move_all [] [] movable zip = tt
   move_all [] (s ∷ moved) movable zip = absurd zip
@@ -82,4 +86,5 @@ module _ (count least : ℕ) (runs : Bool) (tile : ℕ) (old new : View) (c : Co
   -- so the free tasks stay, and names are apart, families whole and spilled tasks firm as before
   pub coalesced_bags : SameFree count (bag_tasks old) (bags_spilled old) (bag_tasks new) (bags_spilled new)
       × (AreSound count least runs (bag_tasks old) (bags_spilled old) → AreSound count least runs (bag_tasks new) (bags_spilled new))
-  coalesced_bags = coalesces_keep c.ids (bag_tasks old) (bag_tasks new) (bags_spilled old) (bags_spilled new) count least runs bags_coalesce
+  coalesced_bags =
+      coalesces_keep c.ids (bag_tasks old) (bag_tasks new) (bags_spilled old) (bags_spilled new) count least runs bags_coalesce

@@ -1,5 +1,6 @@
 -- A coalescing moves idle firm tasks of a tile into its block.
-use Rattle.std.proofs.Common.{◌≡◌, ◌⊎◌, ◌<◌, ◌∷◌, ℕ, zero, suc, false, List, [], length, Option, Some, refl, sym, ap, subst, ◌∙◌, inl, inr, arith, is_some}
+use Rattle.std.proofs.Common.{◌≡◌, ◌⊎◌, ◌<◌, ◌∷◌, ℕ, zero, suc, false, List, [], length, Option, Some, refl, sym, ap}
+use Rattle.std.proofs.Common.{subst, ◌∙◌, inl, inr, arith, is_some}
 use Rattle.std.specs.Prelude.{Contains, flat_map}
 use Rattle.std.specs.List.{AllZip}
 use Rattle.guest_image.specs.ImageValue.{ImageValue}
@@ -18,7 +19,8 @@ use Rattle.spec_law.proofs.Moves.Moving.{IsSpillOf, IsSpilledIn, IsQueuedIn, Mov
 use Rattle.spec_law.proofs.Moves.Added.{AddsEach, pushed_in_one, added_now, added_was, added_is}
 
 -- of two lists of which each pair is so, each element of the one has one in the other
-zipped_left : (R : ℕ → Spilled → Type 0) (ids : List ℕ) (ss : List Spilled) → AllZip R ids ss → (id : ℕ) → Contains ids id → (s : Spilled) × Contains ss s × R id s
+zipped_left : (R : ℕ → Spilled → Type 0) (ids : List ℕ) (ss : List Spilled) → AllZip R ids ss → (id : ℕ)
+    → Contains ids id → (s : Spilled) × Contains ss s × R id s
 zipped_left R [] ss zip id has = absurd (omega (arith, has.1))
 zipped_left R (k ∷ ids) [] zip id has = absurd zip
 zipped_left R (k ∷ ids) (s ∷ ss) zip id (zero, below, at) = (s, (0, omega arith, refl), subst (λ j. R j s) at zip.0)
@@ -27,7 +29,8 @@ zipped_left R (k ∷ ids) (s ∷ ss) zip id (suc i, below, at) =
     (rest.0, (suc rest.1.0, (let under = rest.1.1 in omega (arith, under)), rest.1.2), rest.2)
 
 -- and the other way round
-zipped_right : (R : ℕ → Spilled → Type 0) (ids : List ℕ) (ss : List Spilled) → AllZip R ids ss → (s : Spilled) → Contains ss s → (id : ℕ) × Contains ids id × R id s
+zipped_right : (R : ℕ → Spilled → Type 0) (ids : List ℕ) (ss : List Spilled) → AllZip R ids ss → (s : Spilled)
+    → Contains ss s → (id : ℕ) × Contains ids id × R id s
 zipped_right R ids [] zip s has = absurd (omega (arith, has.1))
 zipped_right R [] (e ∷ ss) zip s has = absurd zip
 zipped_right R (k ∷ ids) (e ∷ ss) zip s (zero, below, at) = (k, (0, omega arith, refl), subst (λ x. R k x) at zip.0)
@@ -64,7 +67,13 @@ module _ (image : ImageValue) (old new : View) (heir : Option ℕ) (serial : Ser
 
   -- what is spilled under such an id is its task
   spill_of : (id : ℕ) (s : Spilled) → Contains c.ids id → (as_is : IsSpilledAs old id s) → IsSpillOf old as_is.task s
-  spill_of id s has as_is = record { idle = moved_idle id as_is.task has as_is.there; name = as_is.name; named = as_is.named; is = as_is.spilled_is }
+  spill_of id s has as_is =
+      record {
+        idle = moved_idle id as_is.task has as_is.there;
+        name = as_is.name;
+        named = as_is.named;
+        is = as_is.spilled_is;
+      }
 
   -- what moved is added to the spilled tasks
   pub spilled_added : AddsEach c.moved (all_spilled old) (all_spilled new)

@@ -1,5 +1,6 @@
 -- A coalescing of several tasks is one of one task after another.
-use Rattle.std.proofs.Common.{ℕ, suc, ◌≡◌, ◌≢◌, ◌⊎◌, inl, inr, Bool, true, false, List, [], ◌∷◌, ◌++◌, Option, Some, None, refl, sym, ap, subst, ◌∙◌, arith}
+use Rattle.std.proofs.Common.{ℕ, suc, ◌≡◌, ◌≢◌, ◌⊎◌, inl, inr, Bool, true, false, List, [], ◌∷◌, ◌++◌, Option, Some}
+use Rattle.std.proofs.Common.{None, refl, sym, ap, subst, ◌∙◌, arith}
 use Rattle.std.specs.Prelude.{Contains}
 use Rattle.std.specs.List.{AllZip, AllByRecursion, AllPairs}
 use Rattle.std.proofs.lemmas.Bool.{cases_eq}
@@ -16,7 +17,8 @@ AreApart [] = Unit {0}
 AreApart (k ∷ ks) = AllByRecursion (λ j. j ≢ k) ks × AreApart ks
 
 -- so it is where a relation holds of each id and those behind it which it has to no id itself
-pub apart_from : (R : ℕ → ℕ → Type 0) (ids : List ℕ) → AllPairs R ids → ((k : ℕ) → Contains ids k → R k k → ⊥) → AreApart ids
+pub apart_from : (R : ℕ → ℕ → Type 0) (ids : List ℕ) → AllPairs R ids → ((k : ℕ) → Contains ids k → R k k → ⊥)
+    → AreApart ids
 apart_from R [] pairs none = tt
 apart_from R (k ∷ ks) pairs none = (
   recursion_from_All (λ j. j ≢ k) ks (λ i d below same. none k (0, omega arith, refl)
@@ -26,7 +28,8 @@ apart_from R (k ∷ ks) pairs none = (
 
 -- what is neither the first one nor behind it is none of them
 not_first_of : (id : ℕ) (ids : List ℕ) (k : ℕ) → (k ≡ id → ⊥) → (Contains ids k → ⊥) → Contains (id ∷ ids) k → ⊥
-not_first_of id ids k other not_behind c = elim (head_or_tail id ids k c) [ inl same ↦ other (sym same) | inr behind ↦ not_behind behind ]
+not_first_of id ids k other not_behind c =
+    elim (head_or_tail id ids k c) [ inl same ↦ other (sym same) | inr behind ↦ not_behind behind ]
 
 -- nothing where the id is this one
 abbrev gone_if : {A B : Type 0} → A ⊎ B → Option BagTask → Option BagTask
@@ -59,7 +62,8 @@ module _ (count least : ℕ) (runs : Bool) where
     pub is : e ≡ spilled_of name task
 
   -- the others are spilled so without the first one too
-  behind_moves : (id : ℕ) (tasks : ℕ → Option BagTask) (ids : List ℕ) (es : List SpilledBagTask) → AllByRecursion (λ k. k ≢ id) ids → AllZip (MovesOne tasks) ids es
+  behind_moves : (id : ℕ) (tasks : ℕ → Option BagTask) (ids : List ℕ) (es : List SpilledBagTask)
+      → AllByRecursion (λ k. k ≢ id) ids → AllZip (MovesOne tasks) ids es
       → AllZip (MovesOne (but id tasks)) ids es
   behind_moves id tasks [] [] apart zip = tt
   behind_moves id tasks [] (e ∷ es) apart zip = absurd zip
@@ -81,7 +85,8 @@ module _ (count least : ℕ) (runs : Bool) where
   -- several tasks that are spilled, each at some place, are spilled one after another
   pub one_by_one : (ids : List ℕ) (es : List SpilledBagTask) (old new : ℕ → Option BagTask)
       (before after : List SpilledBagTask)
-      → AreApart ids → AllZip (MovesOne old) ids es → ((k : ℕ) → Contains ids k → new k ≡ None) → ((k : ℕ) → (Contains ids k → ⊥) → new k ≡ old k)
+      → AreApart ids → AllZip (MovesOne old) ids es → ((k : ℕ) → Contains ids k → new k ≡ None)
+      → ((k : ℕ) → (Contains ids k → ⊥) → new k ≡ old k)
       → AddsEach es before after → CoalescesInBags count least runs ids old before new after
   one_by_one [] [] old new before after apart zip gone others same = (λ k. others k (λ c. omega (arith, c.1)), same)
   one_by_one [] (e ∷ es) old new before after apart zip gone others adds = absurd zip
@@ -113,4 +118,5 @@ module _ (count least : ℕ) (runs : Bool) where
         where
           by_id : (k ≡ id) ⊎ (k ≡ id → ⊥) → new k ≡ but id old k
           by_id (inl same) = gone k (0, omega arith, sym same) ∙ sym (gone_at (cases_eq k id) (old k) same)
-          by_id (inr other) = others k (λ c. not_first_of id ids k other not_behind c) ∙ sym (gone_not (cases_eq k id) (old k) other)
+          by_id (inr other) =
+              others k (λ c. not_first_of id ids k other not_behind c) ∙ sym (gone_not (cases_eq k id) (old k) other)

@@ -1,5 +1,6 @@
 -- A coalescing leaves task queues bounded, and holding the queued tasks.
-use Rattle.std.proofs.Common.{◌≡◌, ◌≤◌, ℕ, Bool, true, [], length, Option, Some, None, refl, sym, ap, subst, ◌∙◌, map, option_map, is_some, slice_index_or}
+use Rattle.std.proofs.Common.{◌≡◌, ◌≤◌, ℕ, Bool, true, [], length, Option, Some, None, refl, sym, ap, subst, ◌∙◌, map}
+use Rattle.std.proofs.Common.{option_map, is_some, slice_index_or}
 use Rattle.std.specs.Prelude.{Contains, filter, All}
 use Rattle.std.proofs.lemmas.List.{length-map, length-set}
 use Rattle.guest_image.specs.ImageValue.{ImageValue}
@@ -32,7 +33,8 @@ module _ (image : ImageValue) (old new : View) (heir : Option ℕ) (serial : Ser
   queue_is at = ap (λ queues. slice_index_or queues at []) queues_are ∙ list_mapped (filter here) refl old.queues at
 
   -- a task that is there stands so
-  is_here : (id : ℕ) (o : Option Task) → task_at new id ≡ o → here id ≡ true → (now : Task) × (task_at new id ≡ Some now)
+  is_here : (id : ℕ) (o : Option Task) → task_at new id ≡ o → here id ≡ true
+      → (now : Task) × (task_at new id ≡ Some now)
   is_here id None none is = absurd (cc (sym (ap (λ o. is_some (option_map room_task o)) none) ∙ is))
   is_here id (Some now) at is = (now, at)
 

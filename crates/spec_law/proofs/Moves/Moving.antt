@@ -1,5 +1,6 @@
 -- Tasks that move between the queues and the blocks, either way: what such a change is, and what it leaves.
-use Rattle.std.proofs.Common.{◌≡◌, ◌⊎◌, ◌≤◌, nat_le, ℕ, true, length, Option, Some, sym, ap, subst, ◌∙◌, inl, inr, is_some}
+use Rattle.std.proofs.Common.{◌≡◌, ◌⊎◌, ◌≤◌, nat_le, ℕ, true, length, Option, Some, sym, ap, subst, ◌∙◌, inl, inr}
+use Rattle.std.proofs.Common.{is_some}
 use Rattle.std.specs.Prelude.{Contains}
 use Rattle.std.proofs.lemmas.Bool.{le-leb}
 use Rattle.task_desc.specs.declared.desc.Name.{Name}
@@ -45,14 +46,16 @@ pub idle_off : (version : ℕ) (t : Task) → t ≡ idle_again version t → is_
 idle_off version t idle runs = absurd (cc (sym (ap (λ x. is_some x.key.tb) idle) ∙ runs))
 
 -- a dispatched task stays under its id
-pub runs_still : (old new : View) → Moves old new → (k : ℕ) (t : Task) → task_at old k ≡ Some t → is_dispatched t ≡ true → task_at new k ≡ Some t
+pub runs_still : (old new : View) → Moves old new → (k : ℕ) (t : Task) → task_at old k ≡ Some t → is_dispatched t ≡ true
+    → task_at new k ≡ Some t
 runs_still old new moves k t there runs = elim (moves.queued_still k t there) [
   | inl stays ↦ stays
   | inr spilled ↦ absurd (idle_off old.version t spilled.2.idle runs)
 ]
 
 -- and was there before
-pub runs_was : (old new : View) → Moves old new → (k : ℕ) (t : Task) → task_at new k ≡ Some t → is_dispatched t ≡ true → task_at old k ≡ Some t
+pub runs_was : (old new : View) → Moves old new → (k : ℕ) (t : Task) → task_at new k ≡ Some t → is_dispatched t ≡ true
+    → task_at old k ≡ Some t
 runs_was old new moves k t there runs = elim (moves.queued k t there) [
   | inl was ↦ was
   | inr spilled ↦ absurd (idle_off old.version t spilled.2.idle runs)
@@ -61,7 +64,8 @@ runs_was old new moves k t there runs = elim (moves.queued k t there) [
 -- the spilled task has the queued one's key
 pub spill_key : (view : View) (t : Task) (s : Spilled) → IsSpillOf view t s → open_key s ≡ t.key
 spill_key view t s spill =
-    ap open_key spill.is ∙ (λ i. record { domain = t.key.domain; ts = t.key.ts; tb = ap (λ x. x.key.tb) (sym spill.idle) i })
+    ap open_key spill.is
+    ∙ (λ i. record { domain = t.key.domain; ts = t.key.ts; tb = ap (λ x. x.key.tb) (sym spill.idle) i })
 
 -- by its name a firm task has the creator that the order of tasks reads
 named_creator : (view : View) (heir : Option ℕ) (c : Creator) (name : Name) → IsHeir view heir → HasName view c name

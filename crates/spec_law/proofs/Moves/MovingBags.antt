@@ -15,12 +15,15 @@ use Rattle.spec_law.proofs.Rooms.Fit.{heirs_are_one}
 
 module _ (view : View) (heir : Option ℕ) (is_heir : IsHeir view heir) where
   -- a firm task's name is one for the bags
-  pub names_of : (c : Creator) (name : Name) → HasName view c name → Names (length view.history) (unwrap_or heir 0) (bag_creator c) name
+  pub names_of : (c : Creator) (name : Name) → HasName view c name
+      → Names (length view.history) (unwrap_or heir 0) (bag_creator c) name
   names_of (Committed turn index) name named = (named.1, named.0)
-  names_of (Live task index) name named = (sym (ap (λ o. unwrap_or o 0) (heirs_are_one view heir task.0 is_heir named.0)), named.1)
+  names_of (Live task index) name named =
+      (sym (ap (λ o. unwrap_or o 0) (heirs_are_one view heir task.0 is_heir named.0)), named.1)
 
   -- where its creator is uncommitted, there is an heir
-  pub heirs_of : (c : Creator) (name : Name) → HasName view c name → (k index : ℕ) → bag_creator c ≡ bags.Live k index → is_some heir ≡ true
+  pub heirs_of : (c : Creator) (name : Name) → HasName view c name → (k index : ℕ) → bag_creator c ≡ bags.Live k index
+      → is_some heir ≡ true
   heirs_of (Committed turn index) name named k i is = absurd (cc (is))
   heirs_of (Live task index) name named k i is = ap is_some (heirs_are_one view heir task.0 is_heir named.0)
 

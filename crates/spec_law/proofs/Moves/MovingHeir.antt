@@ -75,7 +75,8 @@ least_still one other heir order sizes stays was spots id x least runs =
         ))
 
 -- so the heir stays, and where there was none there is none
-pub moved_heir : (old new : View) (heir : Option ℕ) → Moves old new → SoundOrder old heir → SoundSizes old → SoundSizes (moved_to old new)
+pub moved_heir : (old new : View) (heir : Option ℕ) → Moves old new → SoundOrder old heir → SoundSizes old
+    → SoundSizes (moved_to old new)
     → IsHeir old heir → IsHeir (moved_to old new) heir
 moved_heir old new (Some id) moves order sizes now heir = (
   heir.0,

@@ -19,18 +19,21 @@ use Rattle.spec_law.proofs.Moves.Moving.{Moves, moved_to, runs_still, runs_was}
 use Rattle.fractal_vt.proofs.Proved.{mapped_some}
 
 -- a task that stands so and is not dispatched is idle, and has done nothing
-pub stands_idle : (image : ImageValue) (version budget : ℕ) (t : Task) (s : Status) → StandsAs image version budget t s → is_dispatched t ≡ false → t ≡ idle_again version t
+pub stands_idle : (image : ImageValue) (version budget : ℕ) (t : Task) (s : Status) → StandsAs image version budget t s
+    → is_dispatched t ≡ false → t ≡ idle_again version t
 stands_idle image version budget t Idle stands off = stands
 stands_idle image version budget t (Running core) stands off = absurd (cc (stands.0, off))
 stands_idle image version budget t (Trapped core cause) stands off = absurd (cc (stands.0, off))
 stands_idle image version budget t Finished stands off = absurd (cc (stands.0, off))
 
 -- what memory reads of dispatched tasks stays, where these do
-logs_stay : (one other : View) → ((k : ℕ) (t : Task) → task_at one k ≡ Some t → is_dispatched t ≡ true → task_at other k ≡ Some t)
+logs_stay : (one other : View)
+    → ((k : ℕ) (t : Task) → task_at one k ≡ Some t → is_dispatched t ≡ true → task_at other k ≡ Some t)
     → (id : ℕ) (x : Logged) → x.dispatched ≡ true → logged_tasks one id ≡ Some x → logged_tasks other id ≡ Some x
 logs_stay one other stays id x runs at =
     let read = mapped_some logged_task (task_at one id) x at in
-    ap (option_map logged_task) (stays id read.0 read.1 (sym (ap (λ y. y.dispatched) read.2) ∙ runs)) ∙ ap Some (sym read.2)
+    ap (option_map logged_task) (stays id read.0 read.1 (sym (ap (λ y. y.dispatched) read.2) ∙ runs))
+    ∙ ap Some (sym read.2)
 
 module _ (image : ImageValue) (old new : View) (heir : Option ℕ) (serial : SerialState) (moves : Moves old new) (tasks : SoundTasks image old heir serial) where
   -- an idle task has an empty log
@@ -47,7 +50,8 @@ module _ (image : ImageValue) (old new : View) (heir : Option ℕ) (serial : Ser
   keeps : KeepsDispatched (logged_tasks old) (logged_tasks new)
   keeps =
       record {
-        stay = λ id x runs. (logs_stay old new (runs_still old new moves) id x runs, logs_stay new old (runs_was old new moves) id x runs);
+        stay =
+            λ id x runs. (logs_stay old new (runs_still old new moves) id x runs, logs_stay new old (runs_was old new moves) id x runs);
         idle = log_idle;
       }
 
@@ -55,7 +59,8 @@ module _ (image : ImageValue) (old new : View) (heir : Option ℕ) (serial : Ser
   pub moved_memory : SoundMemory old serial → SoundMemory (moved_to old new) serial
   moved_memory sound =
       record {
-        chained = idle_tasks_keep_chain old.settings.line (logged_tasks old) (logged_tasks new) serial.memory old.memory keeps sound.chained;
+        chained =
+            idle_tasks_keep_chain old.settings.line (logged_tasks old) (logged_tasks new) serial.memory old.memory keeps sound.chained;
         noted = λ id t at. elim (moves.queued id t at) [
           | inl was ↦ sound.noted id t was
           | inr spilled ↦

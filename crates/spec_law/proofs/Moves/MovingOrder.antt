@@ -14,7 +14,8 @@ use Rattle.spec_law.proofs.Moves.Moving.{Moves, moved_to, runs_still, runs_was, 
 use Rattle.spec_law.proofs.Tasks.Places.{contains_get, get_contains}
 
 -- a task with a number stands in the other view, where that has each dispatched task
-numbered : (one other : View) (heir : Option ℕ) → ((k : ℕ) (t : Task) → task_at one k ≡ Some t → is_dispatched t ≡ true → task_at other k ≡ Some t)
+numbered : (one other : View) (heir : Option ℕ)
+    → ((k : ℕ) (t : Task) → task_at one k ≡ Some t → is_dispatched t ≡ true → task_at other k ≡ Some t)
     → (k n : ℕ) (x : Keyed) → all_keyed one heir k ≡ Some x → HasNumber x n → all_keyed other heir k ≡ Some x
 numbered one other heir stays k n x at number = elim (which one heir k x at) [
   | inl q ↦
@@ -53,6 +54,7 @@ module _ (old new : View) (heir : Option ℕ) (moves : Moves old new) (is_heir :
   pub moved_order : SoundOrder old heir → SoundOrder (moved_to old new) heir
   moved_order sound =
       record {
-        order = rename_keeps_order (all_keyed old heir) (all_keyed (moved_to old new) heir) (map closed_level old.path) old.next moved_renames sound.order;
+        order =
+            rename_keeps_order (all_keyed old heir) (all_keyed (moved_to old new) heir) (map closed_level old.path) old.next moved_renames sound.order;
         numbers = sound.numbers;
       }

@@ -1,5 +1,6 @@
 -- Tasks that move between queues and blocks keep the group of sizes, where task queues stay bounded and hold the queued tasks.
-use Rattle.std.proofs.Common.{◌≡◌, ◌⊎◌, ◌+◌, ◌≤◌, ◌<◌, ◌^◌, ℕ, length, Option, Some, refl, sym, ap, subst, inl, inr, arith, map}
+use Rattle.std.proofs.Common.{◌≡◌, ◌⊎◌, ◌+◌, ◌≤◌, ◌<◌, ◌^◌, ℕ, length, Option, Some, refl, sym, ap, subst, inl, inr}
+use Rattle.std.proofs.Common.{arith, map}
 use Rattle.std.specs.Prelude.{All, Contains, ◌↔◌}
 use Rattle.std.proofs.lemmas.List.{length-map}
 use Rattle.fractal_vt.specs.Levels.{closed_level}
@@ -32,11 +33,13 @@ still_has one other kind none stays tile id has = elim (stays id has.0 has.1) [
 module _ (old new : View) (heir : Option ℕ) (moves : Moves old new) (order : SoundOrder old heir) (sizes : SoundSizes old) where
   -- each task stays or is idle
   stays : (k : ℕ) (t : Task) → task_at old k ≡ Some t → (task_at new k ≡ Some t) ⊎ (t.status ≡ Idle)
-  stays k t there = elim (moves.queued_still k t there) [ inl still ↦ inl still | inr spilled ↦ inr (ap (λ x. x.status) spilled.2.idle) ]
+  stays k t there =
+      elim (moves.queued_still k t there) [ inl still ↦ inl still | inr spilled ↦ inr (ap (λ x. x.status) spilled.2.idle) ]
 
   -- each task was there or is idle
   was_or_idle : (k : ℕ) (t : Task) → task_at new k ≡ Some t → (task_at old k ≡ Some t) ⊎ (t.status ≡ Idle)
-  was_or_idle k t there = elim (moves.queued k t there) [ inl was ↦ inl was | inr spilled ↦ inr (ap (λ x. x.status) spilled.2.idle) ]
+  was_or_idle k t there =
+      elim (moves.queued k t there) [ inl was ↦ inl was | inr spilled ↦ inr (ap (λ x. x.status) spilled.2.idle) ]
 
   -- what holds of a spilled task's descriptor
   abbrev IsSpilledDesc : Spilled → Type 0

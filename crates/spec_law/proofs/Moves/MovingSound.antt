@@ -13,7 +13,8 @@ use Rattle.spec_law.proofs.Moves.MovingTasks.{moved_tasks}
 use Rattle.spec_law.proofs.Moves.MovingBags.{matches_still}
 
 -- where sizes are kept, and the bags of pending tasks find the same free tasks and whole families
-pub moved_sound : (image : ImageValue) (old new : View) (sound : Sound image old) → Moves old new → new ≡ moved_to old new → SoundSizes (moved_to old new)
+pub moved_sound : (image : ImageValue) (old new : View) (sound : Sound image old) → Moves old new
+    → new ≡ moved_to old new → SoundSizes (moved_to old new)
     → SameFree (length old.history) (bag_tasks old) (bags_spilled old) (bag_tasks new) (bags_spilled new)
     × (AreSound (length old.history) (unwrap_or sound.heir 0) (is_some sound.heir) (bag_tasks old) (bags_spilled old)
     → AreSound (length old.history) (unwrap_or sound.heir 0) (is_some sound.heir) (bag_tasks new) (bags_spilled new))

@@ -1,5 +1,6 @@
 -- Tasks that move between queues and blocks keep the group of tasks, where the bags of pending tasks find the same tasks.
-use Rattle.std.proofs.Common.{◌≡◌, ◌+◌, ◌≤◌, ℕ, length, Option, Some, None, refl, sym, ap, subst, ◌∙◌, inl, inr, arith, slice_get, is_some, unwrap_or}
+use Rattle.std.proofs.Common.{◌≡◌, ◌+◌, ◌≤◌, ℕ, length, Option, Some, None, refl, sym, ap, subst, ◌∙◌, inl, inr, arith}
+use Rattle.std.proofs.Common.{slice_get, is_some, unwrap_or}
 use Rattle.std.specs.Prelude.{Contains}
 use Rattle.guest_image.specs.ImageValue.{ImageValue}
 use Rattle.serial_machine.specs.State.{SerialState}
@@ -53,13 +54,15 @@ module _ (image : ImageValue) (old new : View) (heir : Option ℕ) (serial : Ser
   ]
 
   -- so are those of each spilled one
-  spilled_domains : (s : Spilled) → Contains (all_spilled new) s → s.desc.name.creator ≤ length old.history → FitsSpilled s
+  spilled_domains : (s : Spilled) → Contains (all_spilled new) s → s.desc.name.creator ≤ length old.history
+      → FitsSpilled s
   spilled_domains s has low = elim (moves.spilled s has) [
     | inl was ↦ sound.spilled_domains s was low
     | inr queued ↦ subst FitsSpilled (sym queued.3.is) (by_creator queued.0 queued.1 queued.2 queued.3 queued.1.creator refl queued.3.named)
   ]
     where
-      by_creator : (k : ℕ) (t : Task) (there : task_at old k ≡ Some t) (spill : IsSpillOf old t s) (c : Creator) → t.creator ≡ c → HasName old c spill.name
+      by_creator : (k : ℕ) (t : Task) (there : task_at old k ≡ Some t) (spill : IsSpillOf old t s) (c : Creator)
+          → t.creator ≡ c → HasName old c spill.name
           → FitsBags (domains_of t.kinds t.key.domain) serial.stack
       by_creator k t there spill (Committed turn index) made named = sound.domains k t turn index there made
       by_creator k t there spill (Live task index) made named =
@@ -74,7 +77,8 @@ module _ (image : ImageValue) (old new : View) (heir : Option ℕ) (serial : Ser
   ]
 
   -- each queued child is as its creator made it
-  children : (id : ℕ) (t : Task) (creator : TaskId) (index : ℕ) → task_at new id ≡ Some t → t.creator ≡ Live creator index
+  children : (id : ℕ) (t : Task) (creator : TaskId) (index : ℕ) → task_at new id ≡ Some t
+      → t.creator ≡ Live creator index
       → IsMadeBy (moved_to old new) creator.0 index (descriptor_of t)
   children id t creator index at made = made_still creator.0 index (descriptor_of t) (elim (moves.queued id t at) [
     | inl was ↦ sound.children id t creator index was made
@@ -96,13 +100,15 @@ module _ (image : ImageValue) (old new : View) (heir : Option ℕ) (serial : Ser
   IsHeirs s = (id : ℕ) × (heir ≡ Some id) × IsMadeBy (moved_to old new) id s.desc.name.index (spilled_descriptor s)
 
   -- so is each spilled one
-  spilled_children : (s : Spilled) → Contains (all_spilled new) s → s.desc.name.creator ≡ length old.history + 1 → IsHeirs s
+  spilled_children : (s : Spilled) → Contains (all_spilled new) s → s.desc.name.creator ≡ length old.history + 1
+      → IsHeirs s
   spilled_children s has next = elim (moves.spilled s has) [
     | inl was ↦ let from = sound.spilled_children s was next in (from.0, from.1, made_still from.0 s.desc.name.index (spilled_descriptor s) from.2)
     | inr queued ↦ by_creator queued.0 queued.1 queued.2 queued.3 queued.1.creator refl queued.3.named
   ]
     where
-      by_creator : (k : ℕ) (t : Task) (there : task_at old k ≡ Some t) (spill : IsSpillOf old t s) (c : Creator) → t.creator ≡ c → HasName old c spill.name → IsHeirs s
+      by_creator : (k : ℕ) (t : Task) (there : task_at old k ≡ Some t) (spill : IsSpillOf old t s) (c : Creator)
+          → t.creator ≡ c → HasName old c spill.name → IsHeirs s
       by_creator k t there spill (Committed turn index) made named =
           let name : s.desc.name.creator ≡ turn = ap (λ s. s.desc.name.creator) spill.is ∙ ap (λ n. n.creator) named.1 in
           absurd (omega (arith, name, next, named.0))
@@ -118,7 +124,8 @@ module _ (image : ImageValue) (old new : View) (heir : Option ℕ) (serial : Ser
 
   -- the group of tasks, where the bags have names and matches
   pub moved_tasks : AreSound (length old.history) (unwrap_or heir 0) (is_some heir) (bag_tasks new) (bags_spilled new)
-      → Matches (length old.history) (bag_tasks new) (bags_spilled new) serial.stack → SoundTasks image (moved_to old new) heir serial
+      → Matches (length old.history) (bag_tasks new) (bags_spilled new) serial.stack
+      → SoundTasks image (moved_to old new) heir serial
   moved_tasks names matches =
       record {
         few = sound.few;

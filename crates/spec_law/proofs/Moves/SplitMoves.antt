@@ -1,5 +1,6 @@
 -- A split moves one spilled task of a tile back into a queue.
-use Rattle.std.proofs.Common.{◌≡◌, ◌⊎◌, ◌∷◌, ◌++◌, ℕ, List, [], length, map, Option, Some, refl, sym, ap, subst, ◌∙◌, inl, inr, option_map, is_some, unwrap_or}
+use Rattle.std.proofs.Common.{◌≡◌, ◌⊎◌, ◌∷◌, ◌++◌, ℕ, List, [], length, map, Option, Some, refl, sym, ap, subst, ◌∙◌}
+use Rattle.std.proofs.Common.{inl, inr, option_map, is_some, unwrap_or}
 use Rattle.std.specs.Prelude.{Contains, flat_map, slice_set}
 use Rattle.std.proofs.lemmas.Bool.{cases_eq}
 use Rattle.std.proofs.lemmas.List.{map-append}
@@ -46,7 +47,9 @@ module _ (old new : View) (tile : ℕ) (sizes : SoundSizes old) (c : Splits tile
 
   -- the spilled task is the one that comes back, spilled under its name
   spilled_is : c.spilled ≡ spilled_as c.spilled.desc.name (descriptor_of back_task)
-  spilled_is = let deep = (sizes.spilled c.spilled was_there).1 in λ i. record { desc = record c.spilled.desc { depth = sym deep i }; domain = c.spilled.domain }
+  spilled_is =
+      let deep = (sizes.spilled c.spilled was_there).1 in
+      λ i. record { desc = record c.spilled.desc { depth = sym deep i }; domain = c.spilled.domain }
 
   -- it is the same task as the spilled one, under its name
   spill : IsSpillOf old back_task c.spilled
@@ -72,21 +75,23 @@ module _ (old new : View) (tile : ℕ) (sizes : SoundSizes old) (c : Splits tile
 
   -- each spilled task was spilled
   spilled_was : (s : Spilled) → Contains (all_spilled new) s → Contains (all_spilled old) s
-  spilled_was s has = subst (λ xs. Contains xs s) (sym parts.2) (elim (Contains-append_cases parts.0 parts.1 s (subst (λ xs. Contains xs s) parts.3 has)) [
-    | inl front ↦ Contains-append_left parts.0 (c.spilled ∷ parts.1) s front
-    | inr back
-        ↦ Contains-append_right parts.0 (c.spilled ∷ parts.1) s (Contains-append_right (c.spilled ∷ []) parts.1 s back)
-  ])
+  spilled_was s has =
+      subst (λ xs. Contains xs s) (sym parts.2) (elim (Contains-append_cases parts.0 parts.1 s (subst (λ xs. Contains xs s) parts.3 has)) [
+        | inl front ↦ Contains-append_left parts.0 (c.spilled ∷ parts.1) s front
+        | inr back
+            ↦ Contains-append_right parts.0 (c.spilled ∷ parts.1) s (Contains-append_right (c.spilled ∷ []) parts.1 s back)
+      ])
 
   -- each that was spilled is so still, or has come back
   spilled_still : (s : Spilled) → Contains (all_spilled old) s → Contains (all_spilled new) s ⊎ IsQueuedIn old new s
-  spilled_still s has = elim (Contains-append_cases parts.0 (c.spilled ∷ parts.1) s (subst (λ xs. Contains xs s) parts.2 has)) [
-    | inl front ↦ inl (subst (λ xs. Contains xs s) (sym parts.3) (Contains-append_left parts.0 parts.1 s front))
-    | inr rest ↦ elim (head_or_tail c.spilled parts.1 s rest) [
-      | inl same ↦ inr (c.id, back_task, c.changes.changed, subst (IsSpillOf old back_task) same spill)
-      | inr back ↦ inl (subst (λ xs. Contains xs s) (sym parts.3) (Contains-append_right parts.0 parts.1 s back))
-    ]
-  ]
+  spilled_still s has =
+      elim (Contains-append_cases parts.0 (c.spilled ∷ parts.1) s (subst (λ xs. Contains xs s) parts.2 has)) [
+        | inl front ↦ inl (subst (λ xs. Contains xs s) (sym parts.3) (Contains-append_left parts.0 parts.1 s front))
+        | inr rest ↦ elim (head_or_tail c.spilled parts.1 s rest) [
+          | inl same ↦ inr (c.id, back_task, c.changes.changed, subst (IsSpillOf old back_task) same spill)
+          | inr back ↦ inl (subst (λ xs. Contains xs s) (sym parts.3) (Contains-append_right parts.0 parts.1 s back))
+        ]
+      ]
 
   -- so tasks move between queues and blocks
   pub split_moves : Moves old new
@@ -121,4 +126,5 @@ module _ (old new : View) (tile : ℕ) (sizes : SoundSizes old) (c : Splits tile
     pub split_bags : SameFree (length old.history) (bag_tasks old) (bags_spilled old) (bag_tasks new) (bags_spilled new)
         × (AreSound (length old.history) (unwrap_or heir 0) (is_some heir) (bag_tasks old) (bags_spilled old)
         → AreSound (length old.history) (unwrap_or heir 0) (is_some heir) (bag_tasks new) (bags_spilled new))
-    split_bags = splits_keep c.id (bag_tasks old) (bag_tasks new) (bags_spilled old) (bags_spilled new) (length old.history) (unwrap_or heir 0) (is_some heir) bags_split
+    split_bags =
+        splits_keep c.id (bag_tasks old) (bag_tasks new) (bags_spilled old) (bags_spilled new) (length old.history) (unwrap_or heir 0) (is_some heir) bags_split

@@ -1,9 +1,11 @@
 -- A split leaves task queues bounded, and holding the queued tasks, where the tile's had a free place.
-use Rattle.std.proofs.Common.{◌≡◌, ◌≢◌, ◌⊎◌, ◌+◌, ◌<◌, ◌≤◌, ◌∷◌, ◌++◌, ℕ, [], length, Option, Some, sym, ap, subst, ◌∙◌, inl, inr, arith, slice_index_or, length-append, get_or-set_other, get_or-set_same}
+use Rattle.std.proofs.Common.{◌≡◌, ◌≢◌, ◌⊎◌, ◌+◌, ◌<◌, ◌≤◌, ◌∷◌, ◌++◌, ℕ, [], length, Option, Some, sym, ap, subst, ◌∙◌}
+use Rattle.std.proofs.Common.{inl, inr, arith, slice_index_or, length-append, get_or-set_other, get_or-set_same}
 use Rattle.std.specs.Prelude.{Contains, All}
 use Rattle.std.proofs.lemmas.Bool.{cases_eq}
 use Rattle.std.proofs.lemmas.List.{length-set}
-use Rattle.std.proofs.lemmas.List.Elements.{All-set, Contains-get_or, Contains-append_left, Contains-append_right, Contains-append_cases}
+use Rattle.std.proofs.lemmas.List.Elements.{All-set, Contains-get_or, Contains-append_left, Contains-append_right}
+use Rattle.std.proofs.lemmas.List.Elements.{Contains-append_cases}
 use Rattle.std.proofs.lemmas.List.Quantifiers.{all_pairs_push}
 use Rattle.tile_queues.specs.Queue.{AreDistinct}
 use Rattle.spec_state.specs.View.{View, task_at, queue_at}
@@ -24,11 +26,15 @@ module _ (old new : View) (heir : Option ℕ) (tile : ℕ) (order : SoundOrder o
 
   -- the tile's queue has one more
   queue_here : slice_index_or new.queues tile [] ≡ queue_at old tile ++ c.id ∷ []
-  queue_here = ap (λ queues. slice_index_or queues tile []) c.queues ∙ get_or-set_same old.queues tile (queue_at old tile ++ c.id ∷ []) [] below
+  queue_here =
+      ap (λ queues. slice_index_or queues tile []) c.queues
+      ∙ get_or-set_same old.queues tile (queue_at old tile ++ c.id ∷ []) [] below
 
   -- each other queue stays
   queue_other : (at : ℕ) → at ≢ tile → slice_index_or new.queues at [] ≡ queue_at old at
-  queue_other at other = ap (λ queues. slice_index_or queues at []) c.queues ∙ get_or-set_other old.queues tile at (queue_at old tile ++ c.id ∷ []) [] other
+  queue_other at other =
+      ap (λ queues. slice_index_or queues at []) c.queues
+      ∙ get_or-set_other old.queues tile at (queue_at old tile ++ c.id ∷ []) [] other
 
   -- what a queue held it holds
   holds_still : (at k : ℕ) → Contains (queue_at old at) k → Contains (slice_index_or new.queues at []) k
@@ -42,7 +48,8 @@ module _ (old new : View) (heir : Option ℕ) (tile : ℕ) (order : SoundOrder o
   ]
 
   -- what it holds it held, or it is the task that came back
-  held_or_back : (at k : ℕ) → Contains (slice_index_or new.queues at []) k → Contains (queue_at old at) k ⊎ ((at ≡ tile) × (c.id ≡ k))
+  held_or_back : (at k : ℕ) → Contains (slice_index_or new.queues at []) k
+      → Contains (queue_at old at) k ⊎ ((at ≡ tile) × (c.id ≡ k))
   held_or_back at k has = elim (cases_eq at tile) [
     | inl same ↦
         let here : slice_index_or new.queues at [] ≡ queue_at old at ++ c.id ∷ [] =

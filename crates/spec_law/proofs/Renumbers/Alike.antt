@@ -1,6 +1,7 @@
 -- Views whose queued tasks differ in their keys alone, and whose keys compare alike: what each says of its least task,
 -- of conflicts and of cascades the other says too.
-use Rattle.std.proofs.Common.{◌≡◌, ◌≢◌, ◌≤◌, ℕ, Bool, true, false, List, length, Option, Some, None, refl, sym, ap, subst, ◌∙◌, inl, inr, slice_get}
+use Rattle.std.proofs.Common.{◌≡◌, ◌≢◌, ◌≤◌, ℕ, Bool, true, false, List, length, Option, Some, None, refl, sym, ap}
+use Rattle.std.proofs.Common.{subst, ◌∙◌, inl, inr, slice_get}
 use Rattle.std.specs.Ordering.{ordering_then}
 use Rattle.std.specs.declared.cmp.Ordering.TheVariants.{Greater}
 use Rattle.fractal_vt.specs.declared.key.Key.{Key}
@@ -22,16 +23,20 @@ pub record IsSameBut (x y : Task) : Type 0 where
 
 -- the keys of one task in both views
 pub data AreKeys (a b : View) (k l : Key) : Type 0 where
-  of_queued : (id : ℕ) (x y : Task) → task_at a id ≡ Some x → task_at b id ≡ Some y → k ≡ x.key → l ≡ y.key → AreKeys a b k l
-  of_spilled : (tile place : ℕ) (s t : Spilled) → slice_get (block_at a tile) place ≡ Some s → slice_get (block_at b tile) place ≡ Some t
+  of_queued : (id : ℕ) (x y : Task) → task_at a id ≡ Some x → task_at b id ≡ Some y → k ≡ x.key → l ≡ y.key
+      → AreKeys a b k l
+  of_spilled : (tile place : ℕ) (s t : Spilled) → slice_get (block_at a tile) place ≡ Some s
+      → slice_get (block_at b tile) place ≡ Some t
       → k ≡ open_key s → l ≡ open_key t → AreKeys a b k l
 
 -- the views have the same queued tasks but for their keys, spilled ones at the same places, and all keys compare alike
 pub record AreAlike (a b : View) : Type 0 where
   pub forth : (id : ℕ) (x : Task) → task_at a id ≡ Some x → (y : Task) × (task_at b id ≡ Some y) × IsSameBut x y
   pub back : (id : ℕ) (y : Task) → task_at b id ≡ Some y → (x : Task) × (task_at a id ≡ Some x) × IsSameBut y x
-  pub spilled_forth : (tile place : ℕ) (s : Spilled) → slice_get (block_at a tile) place ≡ Some s → (t : Spilled) × (slice_get (block_at b tile) place ≡ Some t)
-  pub spilled_back : (tile place : ℕ) (t : Spilled) → slice_get (block_at b tile) place ≡ Some t → (s : Spilled) × (slice_get (block_at a tile) place ≡ Some s)
+  pub spilled_forth : (tile place : ℕ) (s : Spilled) → slice_get (block_at a tile) place ≡ Some s
+      → (t : Spilled) × (slice_get (block_at b tile) place ≡ Some t)
+  pub spilled_back : (tile place : ℕ) (t : Spilled) → slice_get (block_at b tile) place ≡ Some t
+      → (s : Spilled) × (slice_get (block_at a tile) place ≡ Some s)
   pub queues : (tile : ℕ) → queue_at b tile ≡ queue_at a tile
   pub size : length b.tasks ≡ length a.tasks
   pub order : (k l k' l' : Key) → AreKeys a b k k' → AreKeys a b l l' → key_cmp k' l' ≡ key_cmp k l
@@ -104,10 +109,12 @@ module _ (a b : View) (alike : AreAlike a b) where
         record {
           place = least.place;
           queued_at = record {
-            queued = subst (λ t. slice_get (queue_at b t) least.place ≡ Some id) tile (ap (λ ids. slice_get ids least.place) (alike.queues x.tile) ∙ least.queued_at.queued);
+            queued =
+                subst (λ t. slice_get (queue_at b t) least.place ≡ Some id) tile (ap (λ ids. slice_get ids least.place) (alike.queues x.tile) ∙ least.queued_at.queued);
             there = other.1;
           };
-          least = subst (λ t. IsLeastSpot b (Queued t least.place)) tile (least_spot_forth (Queued x.tile least.place) least.least);
+          least =
+              subst (λ t. IsLeastSpot b (Queued t least.place)) tile (least_spot_forth (Queued x.tile least.place) least.least);
         },
         other.2,
       )
@@ -121,7 +128,9 @@ module _ (a b : View) (alike : AreAlike a b) where
         record {
           there = other.1;
           dispatched = other.2.dispatched ∙ later.dispatched;
-          later = alike.order x.key z.key y.key other.0.key (of_queued id x y there there' refl refl) (of_queued k z other.0 later.there other.1 refl refl) ∙ later.later;
+          later =
+              alike.order x.key z.key y.key other.0.key (of_queued id x y there there' refl refl) (of_queued k z other.0 later.there other.1 refl refl)
+              ∙ later.later;
         },
         other.2,
       )
@@ -135,7 +144,11 @@ module _ (a b : View) (alike : AreAlike a b) where
       → Conflicts a x line write k → Conflicts b y line write k
   conflict_forth id line k x y write there there' conflict =
       let later = later_forth id k x y conflict.other there there' conflict.later in
-      record { other = later.0; later = later.1; has_line = has_line write conflict.other later.0 line later.2 conflict.has_line }
+      record {
+        other = later.0;
+        later = later.1;
+        has_line = has_line write conflict.other later.0 line later.2 conflict.has_line;
+      }
 
   -- what is taken back with a task is taken back with it there
   pub pulls_forth : (one other : ℕ) → PullsInView a one other → PullsInView b one other
@@ -160,11 +173,13 @@ module _ (a b : View) (alike : AreAlike a b) where
 
 -- the heir is the heir there
 pub heir_forth : (a b : View) → AreAlike a b → (heir : Option ℕ) → IsHeir a heir → IsHeir b heir
-heir_forth a b alike None none = λ id y least runs. (let x = least_forth b a (turned a b alike) id y least in none id x.0 x.1 (x.2.dispatched ∙ runs))
+heir_forth a b alike None none =
+    λ id y least runs. (let x = least_forth b a (turned a b alike) id y least in none id x.0 x.1 (x.2.dispatched ∙ runs))
 heir_forth a b alike (Some id) is = (let y = least_forth a b alike id is.0 is.1 in (y.0, y.1, y.2.dispatched ∙ is.2))
 
 -- a cascade is one there
-pub cascade_forth : (a b : View) → AreAlike a b → (firsts : ℕ → Type 0) (marks : List Bool) → IsCascade a firsts marks → IsCascade b firsts marks
+pub cascade_forth : (a b : View) → AreAlike a b → (firsts : ℕ → Type 0) (marks : List Bool) → IsCascade a firsts marks
+    → IsCascade b firsts marks
 cascade_forth a b alike firsts marks cascade =
     record {
       pull = cascade.pull;

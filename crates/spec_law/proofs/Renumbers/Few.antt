@@ -1,9 +1,12 @@
 -- At most so many numbers are in use: each is one of the path or that of a queued task.
-use Rattle.std.proofs.Common.{◌≡◌, ◌≢◌, ◌⊎◌, ◌+◌, ◌*◌, ◌<◌, ◌≤◌, ◌++◌, ◌∷◌, ℕ, zero, suc, List, [], length, Option, Some, None, refl, sym, ap, subst, ◌∙◌, inl, inr, arith, map, flat_map, slice_index_or, unwrap_or}
+use Rattle.std.proofs.Common.{◌≡◌, ◌≢◌, ◌⊎◌, ◌+◌, ◌*◌, ◌<◌, ◌≤◌, ◌++◌, ◌∷◌, ℕ, zero, suc, List, [], length, Option}
+use Rattle.std.proofs.Common.{Some, None, refl, sym, ap, subst, ◌∙◌, inl, inr, arith, map, flat_map, slice_index_or}
+use Rattle.std.proofs.Common.{unwrap_or}
 use Rattle.std.specs.Prelude.{All, AllPairs, Contains}
 use Rattle.std.proofs.Math.Nat.{mul-le-mul_left}
 use Rattle.std.proofs.lemmas.List.{length-map, length-append}
-use Rattle.std.proofs.lemmas.List.Elements.{All-head, All-tail, All-weaker, Contains-append_cases, Contains-append_left, Contains-append_right}
+use Rattle.std.proofs.lemmas.List.Elements.{All-head, All-tail, All-weaker, Contains-append_cases, Contains-append_left}
+use Rattle.std.proofs.lemmas.List.Elements.{Contains-append_right}
 use Rattle.std.proofs.lemmas.List.Kept.{AllPairs-from_increasing}
 use Rattle.fractal_vt.specs.declared.level.Level.{Level}
 use Rattle.fractal_vt.specs.Levels.{closed_level}
@@ -37,7 +40,8 @@ without_one front back n m other has = elim (Contains-append_cases front (n ∷ 
 ]
 
 -- rising numbers that all stand in a list are no more than its places
-fewer : (numbers xs : List ℕ) → AllPairs (λ m n. m < n) numbers → ((n : ℕ) → Contains numbers n → Contains xs n) → length numbers ≤ length xs
+fewer : (numbers xs : List ℕ) → AllPairs (λ m n. m < n) numbers → ((n : ℕ) → Contains numbers n → Contains xs n)
+    → length numbers ≤ length xs
 fewer [] xs rising each = omega arith
 fewer (n ∷ numbers) xs rising each =
     let at = contains_get xs n (each n (0, omega arith, refl)) in
@@ -77,13 +81,17 @@ together f same bound (ids ∷ lists) each =
     grind (arith, here, rest, long, whole)
 
 -- what stands in one of the lists stands, mapped, in all of them together
-in_together : (f : ℕ → ℕ) (lists : List (List ℕ)) (k id : ℕ) → Contains (slice_index_or lists k []) id → Contains (flat_map (map f) lists) (f id)
+in_together : (f : ℕ → ℕ) (lists : List (List ℕ)) (k id : ℕ) → Contains (slice_index_or lists k []) id
+    → Contains (flat_map (map f) lists) (f id)
 in_together f [] k id has = absurd (omega (arith, has.1))
-in_together f (ids ∷ lists) zero id has = Contains-append_left (map f ids) (flat_map (map f) lists) (f id) (mapped ids has)
+in_together f (ids ∷ lists) zero id has =
+    Contains-append_left (map f ids) (flat_map (map f) lists) (f id) (mapped ids has)
   where
     mapped : (xs : List ℕ) → Contains xs id → Contains (map f xs) (f id)
-    mapped xs has = let at = contains_get xs id has in get_contains (map f xs) at.0 (f id) (get_mapped f xs at.0 id at.1)
-in_together f (ids ∷ lists) (suc k) id has = Contains-append_right (map f ids) (flat_map (map f) lists) (f id) (in_together f lists k id has)
+    mapped xs has =
+        let at = contains_get xs id has in get_contains (map f xs) at.0 (f id) (get_mapped f xs at.0 id at.1)
+in_together f (ids ∷ lists) (suc k) id has =
+    Contains-append_right (map f ids) (flat_map (map f) lists) (f id) (in_together f lists k id has)
 
 -- the own tiebreaker of a task, if there is one
 abbrev tie_in : Option Task → Option ℕ
@@ -92,7 +100,8 @@ tie_in (Some t) = t.key.tb
 
 module _ (image : ImageValue) (view : View) (sound : Sound image view) where
   -- a number of the path or of a dispatched task, as the order says it
-  of_number : (n : ℕ) → IsNumberOf n (map closed_level view.path) ⊎ ((k : ℕ) × (x : Keyed) × (all_keyed view sound.heir k ≡ Some x) × HasNumber x n)
+  of_number : (n : ℕ)
+      → IsNumberOf n (map closed_level view.path) ⊎ ((k : ℕ) × (x : Keyed) × (all_keyed view sound.heir k ≡ Some x) × HasNumber x n)
       → IsPathsOrTasks view n
   of_number n (inl on) = inl (number_is_tie view.path n on)
   of_number n (inr task) = elim (which view sound.heir task.0 task.1 task.2) [
@@ -103,11 +112,13 @@ module _ (image : ImageValue) (view : View) (sound : Sound image view) where
   -- all tasks stand below some id
   bounded : (k : ℕ) (x : Keyed) → all_keyed view sound.heir k ≡ Some x
       → k < length view.tasks + length (map (keyed_spilled (length view.history) sound.heir) (all_spilled view))
-  bounded = below_all (length view.tasks) (keyed_tasks view) (map (keyed_spilled (length view.history) sound.heir) (all_spilled view))
+  bounded =
+      below_all (length view.tasks) (keyed_tasks view) (map (keyed_spilled (length view.history) sound.heir) (all_spilled view))
       (λ j y there. (let read = mapped_some keyed_task (task_at view j) y there in id_below view j read.0 read.1))
 
   -- each number of a domain is one of them
-  of_domain : (k : ℕ) (x : Keyed) (n : ℕ) → all_keyed view sound.heir k ≡ Some x → IsNumberOf n x.domain → IsPathsOrTasks view n
+  of_domain : (k : ℕ) (x : Keyed) (n : ℕ) → all_keyed view sound.heir k ≡ Some x → IsNumberOf n x.domain
+      → IsPathsOrTasks view n
   of_domain k x n there is =
       of_number n (held_law (length view.tasks + length (map (keyed_spilled (length view.history) sound.heir) (all_spilled view)))
       (all_keyed view sound.heir) (map closed_level view.path) view.next bounded sound.order.order k x n there is)
@@ -133,7 +144,8 @@ module _ (image : ImageValue) (view : View) (sound : Sound image view) where
 
   -- each number of the path or of a dispatched task is one of them
   in_held : (n : ℕ) → IsPathsOrTasks view n → Contains held n
-  in_held n (inl on) = Contains-append_left (map (λ (l : Level). l.tb) view.path) (flat_map (map number) view.queues) n on
+  in_held n (inl on) =
+      Contains-append_left (map (λ (l : Level). l.tb) view.path) (flat_map (map number) view.queues) n on
   in_held n (inr task) =
       let t = task.1 in
       let queued = (sound.sizes.queued_are t.tile task.0).1 (t, task.2, refl, tt) in

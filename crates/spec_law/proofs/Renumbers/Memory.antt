@@ -1,5 +1,6 @@
 -- Memory reads of keys their order alone: tasks with other keys that compare alike have the same chain, and what is undone is the same.
-use Rattle.std.proofs.Common.{◌≡◌, ℕ, Bool, List, [], ◌∷◌, ◌++◌, Option, Some, None, refl, sym, ap, subst, ◌∙◌, if◌then◌else◌}
+use Rattle.std.proofs.Common.{◌≡◌, ℕ, Bool, List, [], ◌∷◌, ◌++◌, Option, Some, None, refl, sym, ap, subst, ◌∙◌}
+use Rattle.std.proofs.Common.{if◌then◌else◌}
 use Rattle.std.specs.Prelude.{slice_index, length}
 use Rattle.fractal_vt.specs.Levels.{levels_cmp}
 use Rattle.memory_law.specs.Accesses.{AllLieIn}
@@ -41,7 +42,8 @@ module _ (a b : ℕ → Option Logged) (alike : AreLoggedAlike a b) where
   -- the logs one after another are the same
   pub same_logs : (ids : List ℕ) → logs b ids ≡ logs a ids
   same_logs [] = refl
-  same_logs (id ∷ ids) = ap (λ log. log ++ logs b ids) (same_log id) ∙ ap (λ more. log_of (a id) ++ more) (same_logs ids)
+  same_logs (id ∷ ids) =
+      ap (λ log. log ++ logs b ids) (same_log id) ∙ ap (λ more. log_of (a id) ++ more) (same_logs ids)
 
   -- the memory is the same once a set is taken back
   pub same_undone : (set : ℕ → Bool) (ids memory : List ℕ) → undone_set set b ids memory ≡ undone_set set a ids memory
@@ -64,17 +66,20 @@ module _ (a b : ℕ → Option Logged) (alike : AreLoggedAlike a b) where
   pub by_key_forth : (ids : List ℕ) → IsByKey a ids → IsByKey b ids
   by_key_forth ids by_key = record {
     ascends = ascends_forth ids by_key.ascends;
-    complete = λ id task there runs. (let x = alike.back id task there in by_key.complete id x.0 x.1 (ap (λ t. t.dispatched) x.2.is ∙ runs));
+    complete =
+        λ id task there runs. (let x = alike.back id task there in by_key.complete id x.0 x.1 (ap (λ t. t.dispatched) x.2.is ∙ runs));
   }
 
   -- and so is the chain of accesses
-  pub chain_forth : (line : ℕ) (serial memory : List ℕ) → IsChained line a serial memory → IsChained line b serial memory
+  pub chain_forth : (line : ℕ) (serial memory : List ℕ) → IsChained line a serial memory
+      → IsChained line b serial memory
   chain_forth line serial memory chained = record {
     ids = chained.ids;
     by_key = by_key_forth chained.ids chained.by_key;
     inside = subst (AllLieIn (length serial)) (sym (same_logs chained.ids)) chained.inside;
     size = chained.size;
-    chain = λ k. subst (λ all. IsByteChain (slice_index serial k) (byte_accesses k all) (slice_index memory k)) (sym (same_logs chained.ids)) (chained.chain k);
+    chain =
+        λ k. subst (λ all. IsByteChain (slice_index serial k) (byte_accesses k all) (slice_index memory k)) (sym (same_logs chained.ids)) (chained.chain k);
     noted = λ id task there.
         (let x = alike.back id task there in
         let same : task ≡ record x.0 { levels = task.levels } = sym (flip x.0 task x.2) in

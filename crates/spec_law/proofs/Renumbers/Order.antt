@@ -1,5 +1,6 @@
 -- A renumbering keeps the group of order, and every number of the new view is below how many there are.
-use Rattle.std.proofs.Common.{◌≡◌, ◌-◌, ◌∷◌, ℕ, Bool, true, false, List, [], length, Option, Some, None, refl, sym, ap, subst, ◌∙◌, inl, inr, map, option_map, slice_get, nat_lt, nat_le, if◌then◌else◌}
+use Rattle.std.proofs.Common.{◌≡◌, ◌-◌, ◌∷◌, ℕ, Bool, true, false, List, [], length, Option, Some, None, refl, sym, ap}
+use Rattle.std.proofs.Common.{subst, ◌∙◌, inl, inr, map, option_map, slice_get, nat_lt, nat_le, if◌then◌else◌}
 use Rattle.std.specs.Prelude.{Contains}
 use Rattle.std.proofs.lemmas.List.{length-map}
 use Rattle.std.proofs.lemmas.List.Elements.{recursion_from_All}
@@ -29,7 +30,8 @@ use Rattle.spec_law.proofs.Tasks.Places.{get_contains}
 use Rattle.spec_law.proofs.Renumbers.One.{after, all_are, each}
 
 -- closed levels renumbered
-pub closed_levels : (table : List ℕ) (ds : List Level) → map closed_level (renumbered_levels table ds) ≡ map (with_number (place_in table)) (map closed_level ds)
+pub closed_levels : (table : List ℕ) (ds : List Level)
+    → map closed_level (renumbered_levels table ds) ≡ map (with_number (place_in table)) (map closed_level ds)
 closed_levels table [] = refl
 closed_levels table (d ∷ ds) = ap (λ xs. closed_level (renumbered_level table d) ∷ xs) (closed_levels table ds)
 
@@ -63,7 +65,8 @@ beside_mapped : (bound : ℕ) (g : Keyed → Keyed) (tasks : ℕ → Option Keye
     ≡ option_map g (beside bound tasks spilled_list k)
 beside_mapped bound g tasks spilled_list k = by_test (nat_lt k bound)
   where
-    by_test : (b : Bool) → (if b then option_map g (tasks k) else slice_get (map g spilled_list) (k - bound)) ≡ option_map g (if b then tasks k else slice_get spilled_list (k - bound))
+    by_test : (b : Bool)
+        → (if b then option_map g (tasks k) else slice_get (map g spilled_list) (k - bound)) ≡ option_map g (if b then tasks k else slice_get spilled_list (k - bound))
     by_test true = refl
     by_test false = slice_get-map g spilled_list (k - bound)
 
@@ -78,15 +81,19 @@ module _ (old new : View) (r : Renumbers old new) (heir : Option ℕ) where
   queued_keyed : (id : ℕ) → keyed_tasks (after old new r) id ≡ option_map new_keyed (keyed_tasks old id)
   queued_keyed id = ap (option_map keyed_task) (each old new r id) ∙ by_task (task_at old id)
     where
-      by_task : (o : Option Task) → option_map keyed_task (option_map (renumbered_task r.table) o) ≡ option_map new_keyed (option_map keyed_task o)
+      by_task : (o : Option Task)
+          → option_map keyed_task (option_map (renumbered_task r.table) o) ≡ option_map new_keyed (option_map keyed_task o)
       by_task None = refl
       by_task (Some t) = ap Some (task_keyed t)
 
-  spilled_keyed : (s : Spilled) → keyed_spilled (length old.history) heir (renumbered_spilled r.table s) ≡ new_keyed (keyed_spilled (length old.history) heir s)
+  spilled_keyed : (s : Spilled)
+      → keyed_spilled (length old.history) heir (renumbered_spilled r.table s) ≡ new_keyed (keyed_spilled (length old.history) heir s)
   unfolding keyed_as
-  spilled_keyed s = keyed_renumbered r.table s.desc.kinds (open_key s) (heir_unless (nat_le s.desc.name.creator (length old.history)) heir)
+  spilled_keyed s =
+      keyed_renumbered r.table s.desc.kinds (open_key s) (heir_unless (nat_le s.desc.name.creator (length old.history)) heir)
 
-  all_spilled_keyed : (ss : List Spilled) → map (keyed_spilled (length old.history) heir) (map (renumbered_spilled r.table) ss)
+  all_spilled_keyed : (ss : List Spilled)
+      → map (keyed_spilled (length old.history) heir) (map (renumbered_spilled r.table) ss)
       ≡ map new_keyed (map (keyed_spilled (length old.history) heir) ss)
   all_spilled_keyed [] = refl
   all_spilled_keyed (s ∷ ss) = λ i. spilled_keyed s i ∷ all_spilled_keyed ss i

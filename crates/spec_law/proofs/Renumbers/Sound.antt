@@ -22,7 +22,8 @@ use Rattle.spec_law.specs.Renumbering.{RenumberingStaysSound, RenumberingSaysSam
 use Rattle.spec_law.specs.Sound.{Sound}
 use Rattle.spec_law.proofs.Renumbers.One.{after, is_after, now, was, each_now, spilled_now, spilled_was}
 use Rattle.spec_law.proofs.Renumbers.One.{holds_task, holds_placed, same_order}
-use Rattle.spec_law.proofs.Renumbers.Alike.{AreAlike, AreKeys, of_queued, of_spilled, IsSameBut, turned, least_spot_forth, heir_forth, conflict_forth, cascade_forth}
+use Rattle.spec_law.proofs.Renumbers.Alike.{AreAlike, AreKeys, of_queued, of_spilled, IsSameBut, turned}
+use Rattle.spec_law.proofs.Renumbers.Alike.{least_spot_forth, heir_forth, conflict_forth, cascade_forth}
 use Rattle.spec_law.proofs.Renumbers.Memory as memory
 use Rattle.spec_law.proofs.Renumbers.Memory.{AreLoggedAlike, by_key_forth, chain_forth, same_undone}
 use Rattle.spec_law.proofs.Renumbers.Order.{renumbered_order}
@@ -36,7 +37,8 @@ module _ (old new : View) (r : Renumbers old new) where
   same_but t = record { is = refl; dispatched = is_some_mapped (place_in r.table) t.key.tb }
 
   same_back : (w t : Task) → t ≡ renumbered_task r.table w → IsSameBut t w
-  same_back w t is = subst (λ x. IsSameBut x w) (sym is) (record { is = refl; dispatched = sym (is_some_mapped (place_in r.table) w.key.tb) })
+  same_back w t is =
+      subst (λ x. IsSameBut x w) (sym is) (record { is = refl; dispatched = sym (is_some_mapped (place_in r.table) w.key.tb) })
 
   -- the key of a task in both views
   key_pair : (k l : Key) → AreKeys old (after old new r) k l → HoldsKey r.table k × (l ≡ renumbered_key r.table k)
@@ -83,14 +85,21 @@ module _ (old new : View) (r : Renumbers old new) where
     order = λ i j x y x' y' at at' there there'.
         (let one = pair i x x' at there in
         let two = pair j y y' at' there' in
-        (λ k. levels_cmp (one.3 k) (two.3 k)) ∙ same_order old new r one.0.key two.0.key one.1 two.1 ∙ (λ k. levels_cmp (sym one.2 k) (sym two.2 k)));
+        (λ k. levels_cmp (one.3 k) (two.3 k)) ∙ same_order old new r one.0.key two.0.key one.1 two.1
+        ∙ (λ k. levels_cmp (sym one.2 k) (sym two.2 k)));
   }
     where
       same_logged : (t : Task) → memory.IsSameLogged (logged_task t) (logged_task (renumbered_task r.table t))
-      same_logged t = record { is = λ i. record (logged_task (renumbered_task r.table t)) { dispatched = is_some_mapped (place_in r.table) t.key.tb i } }
+      same_logged t =
+          record {
+            is = λ i. record (logged_task (renumbered_task r.table t)) { dispatched = is_some_mapped (place_in r.table) t.key.tb i };
+          }
 
       logged_back : (t : Task) → memory.IsSameLogged (logged_task (renumbered_task r.table t)) (logged_task t)
-      logged_back t = record { is = λ i. record (logged_task t) { dispatched = sym (is_some_mapped (place_in r.table) t.key.tb) i } }
+      logged_back t =
+          record {
+            is = λ i. record (logged_task t) { dispatched = sym (is_some_mapped (place_in r.table) t.key.tb) i };
+          }
 
       pair : (id : ℕ) (x x' : Logged) → logged_tasks old id ≡ Some x → logged_tasks (after old new r) id ≡ Some x'
           → (t : Task) × HoldsKey r.table t.key × (x.levels ≡ levels t.key) × (x'.levels ≡ levels (renumbered_key r.table t.key))
@@ -101,11 +110,14 @@ module _ (old new : View) (r : Renumbers old new) where
           (read.0, holds_task old new r id read.0 read.1, ap (λ (l : Logged). l.levels) read.2, ap (λ (l : Logged). l.levels) same)
 
 -- what is undone in one view is undone in another that is alike for memory and has the same memory
-undone_forth : (a b : View) → AreLoggedAlike (logged_tasks a) (logged_tasks b) → b.memory ≡ a.memory → (set : ℕ → Bool) (left : List ℕ) → IsUndone a set left → IsUndone b set left
+undone_forth : (a b : View) → AreLoggedAlike (logged_tasks a) (logged_tasks b) → b.memory ≡ a.memory
+    → (set : ℕ → Bool) (left : List ℕ) → IsUndone a set left → IsUndone b set left
 undone_forth a b alike same set left undone = record {
   ids = undone.ids;
   by_key = by_key_forth (logged_tasks a) (logged_tasks b) alike undone.ids undone.by_key;
-  memory_is = undone.memory_is ∙ sym (same_undone (logged_tasks a) (logged_tasks b) alike set undone.ids a.memory) ∙ ap (undone_set set (logged_tasks b) undone.ids) (sym same);
+  memory_is =
+      undone.memory_is ∙ sym (same_undone (logged_tasks a) (logged_tasks b) alike set undone.ids a.memory)
+      ∙ ap (undone_set set (logged_tasks b) undone.ids) (sym same);
 }
 
 module _ (old new : View) (r : Renumbers old new) where
@@ -120,8 +132,10 @@ module _ (old new : View) (r : Renumbers old new) where
   -- each view says what the other says
   says_same : SaySame r.table old (after old new r)
   says_same = record {
-    least = λ spot. (least_spot_forth old (after old new r) (alike old new r) spot, least_spot_forth (after old new r) old back spot);
-    heir = λ heir. (heir_forth old (after old new r) (alike old new r) heir, heir_forth (after old new r) old back heir);
+    least =
+        λ spot. (least_spot_forth old (after old new r) (alike old new r) spot, least_spot_forth (after old new r) old back spot);
+    heir =
+        λ heir. (heir_forth old (after old new r) (alike old new r) heir, heir_forth (after old new r) old back heir);
     conflicts = λ id line k task write at.
         (let at' = now old new r id task at in (
           conflict_forth old (after old new r) (alike old new r) id line k task (renumbered_task r.table task) write at at',
@@ -151,8 +165,10 @@ renumbering_stays_sound image old new sound r =
         is_heir = heir_forth old (after old new r) (alike old new r) sound.heir sound.is_heir;
         tasks = renumbered_tasks image old new r sound.heir sound.serial sound.is_heir sound.order sound.tasks;
         memory = record {
-          chained = chain_forth (logged_tasks old) (logged_tasks (after old new r)) (logged_alike old new r) old.settings.line sound.serial.memory old.memory sound.memory.chained;
-          noted = each_now old new r (λ k t. HasNotes t.lines (notes_of old.settings.line t.log)) (λ k w at. sound.memory.noted k w at);
+          chained =
+              chain_forth (logged_tasks old) (logged_tasks (after old new r)) (logged_alike old new r) old.settings.line sound.serial.memory old.memory sound.memory.chained;
+          noted =
+              each_now old new r (λ k t. HasNotes t.lines (notes_of old.settings.line t.log)) (λ k w at. sound.memory.noted k w at);
         };
         order = record {
           order = renumbered_order old new r sound.heir sound.order.order;
@@ -165,7 +181,8 @@ renumbering_stays_sound image old new sound r =
     )
 
 -- and numbers are left
-pub renumbering_leaves_numbers : (image : ImageValue) (old new : View) → Sound image old → Renumbers old new → new.next < DISPATCH_NUMBERS
+pub renumbering_leaves_numbers : (image : ImageValue) (old new : View) → Sound image old → Renumbers old new
+    → new.next < DISPATCH_NUMBERS
 renumbering_leaves_numbers image old new sound r =
     let few = numbers_in_use_are_few image old sound r.table r.is_table in
     let next = r.next in

@@ -1,6 +1,7 @@
 -- A renumbering keeps the group of tasks: it reads of keys how deep they are, their timestamps, whether they are
 -- dispatched, and that a child's domain is the one that its creator's key gives, which is renumbered as that key is.
-use Rattle.std.proofs.Common.{◌≡◌, ◌+◌, ◌-◌, ◌*◌, ◌/◌, ◌%◌, ◌^◌, ◌≤◌, ◌++◌, ◌∷◌, ℕ, zero, suc, true, List, [], length, Option, Some, None, refl, sym, ap, subst, ◌∙◌, map, take, option_map, is_some, unwrap_or}
+use Rattle.std.proofs.Common.{◌≡◌, ◌+◌, ◌-◌, ◌*◌, ◌/◌, ◌%◌, ◌^◌, ◌≤◌, ◌++◌, ◌∷◌, ℕ, zero, suc, true, List, [], length}
+use Rattle.std.proofs.Common.{Option, Some, None, refl, sym, ap, subst, ◌∙◌, map, take, option_map, is_some, unwrap_or}
 use Rattle.std.specs.Prelude.{Contains}
 use Rattle.std.proofs.lemmas.List.{length-map}
 use Rattle.fractal_vt.specs.declared.level.Level.{Level}
@@ -24,8 +25,11 @@ use Rattle.spec_state.specs.declared.task.Status.TheVariants.{Idle, Running, Tra
 use Rattle.spec_state.specs.declared.task.Task.{Task}
 use Rattle.spec_state.specs.declared.task.TaskId.{TaskId}
 use Rattle.spec_state.specs.View.{View, task_at}
-use Rattle.spec_state.specs.Tasks.{Descriptor, child_descriptor, child_domain, child_kinds, descriptor_of, floor_in, is_dispatched, kind_at, outer_kind, own_level, spilled_descriptor, start_context, sub_bit}
-use Rattle.spec_state.specs.Groups.{all_spilled, bag_spilled, bag_task, bag_tasks, bags_spilled, domains_behind, domains_of, keyed_task, live_creator}
+use Rattle.spec_state.specs.Tasks.{Descriptor, child_descriptor, child_domain, child_kinds, descriptor_of, floor_in}
+use Rattle.spec_state.specs.Tasks.{is_dispatched, kind_at, outer_kind, own_level, spilled_descriptor, start_context}
+use Rattle.spec_state.specs.Tasks.{sub_bit}
+use Rattle.spec_state.specs.Groups.{all_spilled, bag_spilled, bag_task, bag_tasks, bags_spilled, domains_behind}
+use Rattle.spec_state.specs.Groups.{domains_of, keyed_task, live_creator}
 use Rattle.spec_state.specs.Least.{IsHeir}
 use Rattle.spec_state.specs.Numbers.{Renumbers, renumbered_task}
 use Rattle.spec_law.specs.Sound.{RanTo, done_so_far, AsksNext, StandsAs, IsMadeBy, SoundOrder, SoundTasks}
@@ -45,7 +49,8 @@ module _ (table : List ℕ) where
   floor_same floor (d ∷ ds) = floor_same d.ts ds
 
   -- and so are the kinds and floors of all domains on it
-  domains_same : (outer : List Domain) (floor kinds : ℕ) (ds : List Level) → domains_behind outer floor kinds (renumbered_levels table ds) ≡ domains_behind outer floor kinds ds
+  domains_same : (outer : List Domain) (floor kinds : ℕ) (ds : List Level)
+      → domains_behind outer floor kinds (renumbered_levels table ds) ≡ domains_behind outer floor kinds ds
   domains_same outer floor kinds [] = refl
   domains_same outer floor kinds (d ∷ ds) =
       domains_same (record { kind = kind_at 0 kinds; floor = floor } ∷ outer) d.ts (kinds / 2) ds
@@ -55,7 +60,8 @@ module _ (table : List ℕ) where
   taken_same (suc n) [] = refl
   taken_same (suc n) (d ∷ ds) = ap (λ xs. renumbered_level table d ∷ xs) (taken_same n ds)
 
-  joined : (xs : List Level) (y : Level) → renumbered_levels table (xs ++ y ∷ []) ≡ renumbered_levels table xs ++ renumbered_level table y ∷ []
+  joined : (xs : List Level) (y : Level)
+      → renumbered_levels table (xs ++ y ∷ []) ≡ renumbered_levels table xs ++ renumbered_level table y ∷ []
   joined [] y = refl
   joined (x ∷ xs) y = ap (λ zs. renumbered_level table x ∷ zs) (joined xs y)
 
@@ -75,7 +81,8 @@ module _ (table : List ℕ) where
 
   -- for the bags it is the same task
   bag_same : (t : Task) → bag_task (renumbered_task table t) ≡ bag_task t
-  bag_same t = λ i. record (bag_task t) { depth = deep t.key.domain i + 1; dispatched = is_some_mapped (place_in table) t.key.tb i }
+  bag_same t =
+      λ i. record (bag_task t) { depth = deep t.key.domain i + 1; dispatched = is_some_mapped (place_in table) t.key.tb i }
 
   bags_of : (ss : List Spilled) → map bag_spilled (map (renumbered_spilled table) ss) ≡ map bag_spilled ss
   bags_of [] = refl
@@ -86,17 +93,22 @@ module _ (table : List ℕ) where
   renumbered_descriptor d = record d { domain = renumbered_levels table d.domain }
 
   -- the own level of a dispatched task
-  own_same : (t : Task) (n : ℕ) → t.key.tb ≡ Some n → own_level (renumbered_task table t) ≡ renumbered_level table (own_level t)
+  own_same : (t : Task) (n : ℕ) → t.key.tb ≡ Some n
+      → own_level (renumbered_task table t) ≡ renumbered_level table (own_level t)
   own_same t n is =
       ap (λ tb. let level : Level = record { ts = t.key.ts; tb = unwrap_or (option_map (place_in table) tb) 0 } in level) is
       ∙ sym (ap (λ tb. renumbered_level table (record { ts = t.key.ts; tb = unwrap_or tb 0 })) is)
 
   -- the domain of its child
-  child_same : (t : Task) (n : ℕ) → t.key.tb ≡ Some n → (place : Place) → child_domain (renumbered_task table t) place ≡ renumbered_levels table (child_domain t place)
+  child_same : (t : Task) (n : ℕ) → t.key.tb ≡ Some n → (place : Place)
+      → child_domain (renumbered_task table t) place ≡ renumbered_levels table (child_domain t place)
   child_same t n is Same = refl
-  child_same t n is Sub = ap (λ own. renumbered_levels table t.key.domain ++ own ∷ []) (own_same t n is) ∙ sym (joined t.key.domain (own_level t))
+  child_same t n is Sub =
+      ap (λ own. renumbered_levels table t.key.domain ++ own ∷ []) (own_same t n is)
+      ∙ sym (joined t.key.domain (own_level t))
   child_same t n is Super =
-      ap (λ k. take (k - 1) (renumbered_levels table t.key.domain)) (deep t.key.domain) ∙ taken_same (length t.key.domain - 1) t.key.domain
+      ap (λ k. take (k - 1) (renumbered_levels table t.key.domain)) (deep t.key.domain)
+      ∙ taken_same (length t.key.domain - 1) t.key.domain
 
   kinds_same : (t : Task) (place : Place) → child_kinds (renumbered_task table t) place ≡ child_kinds t place
   kinds_same t Same = refl
@@ -104,7 +116,8 @@ module _ (table : List ℕ) where
   kinds_same t Super = ap (λ k. t.kinds % 2 ^ k) (deep t.key.domain)
 
   -- its child is as it made it
-  made_same : (t : Task) (n : ℕ) → t.key.tb ≡ Some n → (spawn : Spawn) → renumbered_descriptor (child_descriptor t spawn) ≡ child_descriptor (renumbered_task table t) spawn
+  made_same : (t : Task) (n : ℕ) → t.key.tb ≡ Some n → (spawn : Spawn)
+      → renumbered_descriptor (child_descriptor t spawn) ≡ child_descriptor (renumbered_task table t) spawn
   made_same t n is spawn = λ i. record {
     entry = spawn.entry;
     args = spawn.args;
@@ -115,17 +128,22 @@ module _ (table : List ℕ) where
   }
 
   module _ (image : ImageValue) (version budget : ℕ) where
-    ran : (t : Task) (p : TaskState) → RanTo image version budget t p → RanTo image version budget (renumbered_task table t) p
-    ran t p done = subst (λ ctx. LoggedRun image budget image.data_size ctx (task_at_start version t.entry t.key.ts t.args []) t.log p) (sym (context_same version t)) done
+    ran : (t : Task) (p : TaskState) → RanTo image version budget t p
+        → RanTo image version budget (renumbered_task table t) p
+    ran t p done =
+        subst (λ ctx. LoggedRun image budget image.data_size ctx (task_at_start version t.entry t.key.ts t.args []) t.log p) (sym (context_same version t)) done
 
-    asks : (t : Task) (p : TaskState) (request : Request) → AsksNext image version budget t p request → AsksNext image version budget (renumbered_task table t) p request
-    asks t p request asked = subst (λ ctx. CoreAsks image budget image.data_size ctx p request) (sym (context_same version t)) asked
+    asks : (t : Task) (p : TaskState) (request : Request) → AsksNext image version budget t p request
+        → AsksNext image version budget (renumbered_task table t) p request
+    asks t p request asked =
+        subst (λ ctx. CoreAsks image budget image.data_size ctx p request) (sym (context_same version t)) asked
 
     is_still : (t : Task) → is_dispatched t ≡ true → is_dispatched (renumbered_task table t) ≡ true
     is_still t runs = is_some_mapped (place_in table) t.key.tb ∙ runs
 
     -- it has done what its status says
-    pub stands_still : (t : Task) (s : Status) → StandsAs image version budget t s → StandsAs image version budget (renumbered_task table t) s
+    pub stands_still : (t : Task) (s : Status) → StandsAs image version budget t s
+        → StandsAs image version budget (renumbered_task table t) s
     stands_still t Idle idle = ap (renumbered_task table) idle
     stands_still t (Running core) runs = (is_still t runs.0, ran t (done_so_far image version budget t) runs.1)
     stands_still t (Trapped core cause) trapped = (
@@ -169,7 +187,8 @@ module _ (image : ImageValue) (old new : View) (r : Renumbers old new) (heir : O
         ∙ made_same r.table made.creator n is made.spawn;
   }
 
-  child_made : (id : ℕ) (t : Task) → task_at old id ≡ Some t → (creator : TaskId) (index : ℕ) → t.creator ≡ Live creator index
+  child_made : (id : ℕ) (t : Task) → task_at old id ≡ Some t → (creator : TaskId) (index : ℕ)
+      → t.creator ≡ Live creator index
       → IsMadeBy (after old new r) creator.0 index (descriptor_of (renumbered_task r.table t))
   child_made id t there creator index live =
       let made = sound.children id t creator index there live in
@@ -194,9 +213,11 @@ module _ (image : ImageValue) (old new : View) (r : Renumbers old new) (heir : O
       record {
         few = sound.few;
         output = sound.output;
-        names = subst (λ tasks. AreSound (length old.history) (unwrap_or heir 0) (is_some heir) tasks (bags_spilled (after old new r))) (sym same_bags)
+        names =
+            subst (λ tasks. AreSound (length old.history) (unwrap_or heir 0) (is_some heir) tasks (bags_spilled (after old new r))) (sym same_bags)
             (subst (AreSound (length old.history) (unwrap_or heir 0) (is_some heir) (bag_tasks old)) (sym same_spilled) sound.names);
-        matches = subst (λ tasks. Matches (length old.history) tasks (bags_spilled (after old new r)) serial.stack) (sym same_bags)
+        matches =
+            subst (λ tasks. Matches (length old.history) tasks (bags_spilled (after old new r)) serial.stack) (sym same_bags)
             (subst (λ ss. Matches (length old.history) (bag_tasks old) ss serial.stack) (sym same_spilled) sound.matches);
         domains = λ id t turn index there made.
             each_now old new r (λ k x. x.creator ≡ Committed turn index → FitsBags (domains_of x.kinds x.key.domain) serial.stack)

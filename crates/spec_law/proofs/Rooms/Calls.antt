@@ -17,14 +17,20 @@ counted_is ctx ts t allows = by_test (nat_lt ctx.children (most_children ctx.ver
     by_test false e = absurd (cc (e))
 
 -- what a domain of this kind takes from a bound on is no less than it where the domain is ordered, and 0 where it is not
-pub bounded_is : (ctx : Ctx) (ordered : Bool) (ts bound t : ℕ) → (if is_early (kind_if ordered) ts bound then Err 10 else one_more_child ctx (domain_ts (kind_if ordered) ts)) ≡ Ok t
+pub bounded_is : (ctx : Ctx) (ordered : Bool) (ts bound t : ℕ)
+    → (if is_early (kind_if ordered) ts bound then Err 10 else one_more_child ctx (domain_ts (kind_if ordered) ts)) ≡ Ok t
     → (ordered ≡ true → bound ≤ t) × (ordered ≡ false → t ≡ 0)
 bounded_is ctx true ts bound t allows = by_test (nat_lt ts bound) refl allows
   where
-    by_test : (b : Bool) → nat_lt ts bound ≡ b → (if b then Err 10 else one_more_child ctx ts) ≡ Ok t → (true ≡ true → bound ≤ t) × (true ≡ false → t ≡ 0)
+    by_test : (b : Bool) → nat_lt ts bound ≡ b → (if b then Err 10 else one_more_child ctx ts) ≡ Ok t
+        → (true ≡ true → bound ≤ t) × (true ≡ false → t ≡ 0)
     by_test true early e = absurd (cc (e))
-    by_test false early e = let same = counted_is ctx ts t e in let low : bound ≤ ts = grind (arith, nat_tests) in (λ is. omega (arith, same, low), λ is. absurd (cc (is)))
-bounded_is ctx false ts bound t allows = let same = counted_is ctx 0 t allows in (λ is. absurd (cc (is)), λ is. sym same)
+    by_test false early e =
+        let same = counted_is ctx ts t e in
+        let low : bound ≤ ts = grind (arith, nat_tests) in
+        (λ is. omega (arith, same, low), λ is. absurd (cc (is)))
+bounded_is ctx false ts bound t allows =
+    let same = counted_is ctx 0 t allows in (λ is. absurd (cc (is)), λ is. sym same)
 
 -- in a subdomain of this kind a timestamp is any, or 0 where it is unordered
 pub free_is : (ctx : Ctx) (kind : Kind) (ts t : ℕ) → one_more_child ctx (domain_ts kind ts) ≡ Ok t

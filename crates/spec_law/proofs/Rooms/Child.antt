@@ -1,5 +1,7 @@
 -- The child of an enqueue that is allowed stands where the law of order lets it, above its creator.
-use Rattle.std.proofs.Common.{◌≡◌, ◌≢◌, ℕ, zero, suc, ◌+◌, ◌-◌, ◌*◌, ◌%◌, ◌^◌, ◌==◌, ◌<◌, ◌≤◌, false, List, [], ◌∷◌, ◌++◌, length, map, take, unwrap_or, Option, Some, None, refl, sym, ap, subst, ◌∙◌, inl, inr, arith}
+use Rattle.std.proofs.Common.{◌≡◌, ◌≢◌, ℕ, zero, suc, ◌+◌, ◌-◌, ◌*◌, ◌%◌, ◌^◌, ◌==◌, ◌<◌, ◌≤◌, false, List, [], ◌∷◌}
+use Rattle.std.proofs.Common.{◌++◌, length, map, take, unwrap_or, Option, Some, None, refl, sym, ap, subst, ◌∙◌, inl}
+use Rattle.std.proofs.Common.{inr, arith}
 use Rattle.std.proofs.lemmas.List.{length-map, length_push, map-append}
 use Rattle.std.specs.Prelude.{Ok}
 use Rattle.std.specs.declared.cmp.Ordering.TheVariants.{Less}
@@ -27,7 +29,8 @@ use Rattle.task_desc.specs.declared.desc.Place.TheVariants.{Same, Sub, Super}
 use Rattle.task_desc.specs.declared.desc.Spawn.{Spawn}
 use Rattle.spec_state.specs.declared.task.Task.{Task}
 use Rattle.spec_state.specs.View.{View}
-use Rattle.spec_state.specs.Tasks.{depth_of, is_ordered_at, ordered_to, outer_kind, floor_in, start_context, context_of, progress_at, own_level, child_domain, child_kinds, sub_bit}
+use Rattle.spec_state.specs.Tasks.{depth_of, is_ordered_at, ordered_to, outer_kind, floor_in, start_context, context_of}
+use Rattle.spec_state.specs.Tasks.{progress_at, own_level, child_domain, child_kinds, sub_bit}
 use Rattle.spec_state.specs.Groups.{keyed_task}
 use Rattle.spec_state.specs.Changes.{TakesLeg}
 use Rattle.spec_law.specs.RoomLaws.{child_of, ChildIsAbove}
@@ -85,20 +88,24 @@ module _ (version : ℕ) (task : Task) (id : ℕ) (before : TaskState) where
   }
 
   -- in the creator's own domain
-  same_placed : (asked ts : ℕ) → allowed_at (context (start_context version task) before) asked Same ≡ Ok ts → IsPlaced (keyed_task task) (keyed_child Same ts)
+  same_placed : (asked ts : ℕ) → allowed_at (context (start_context version task) before) asked Same ≡ Ok ts
+      → IsPlaced (keyed_task task) (keyed_child Same ts)
   same_placed asked ts allows =
       let bounds = bounded_is (context (start_context version task) before) (is_ordered_at size task.kinds) asked task.key.ts ts allows in
       inl ((refl, refl, refl), record { late = bounds.0; timely = bounds.1 })
 
   -- in the subdomain
-  sub_placed : (number asked ts : ℕ) (kind : Kind) → task.key.tb ≡ Some number → task.kinds < 2 ^ depth_of task → size < MAX_LEVELS
+  sub_placed : (number asked ts : ℕ) (kind : Kind) → task.key.tb ≡ Some number → task.kinds < 2 ^ depth_of task
+      → size < MAX_LEVELS
       → task.sub ≡ Some kind → depth_of task ≢ MAX_DEPTH
-      → allowed_sub (context (start_context version task) before) asked (Some kind) ≡ Ok ts → IsPlaced (keyed_task task) (keyed_child Sub ts)
+      → allowed_sub (context (start_context version task) before) asked (Some kind) ≡ Ok ts
+      → IsPlaced (keyed_task task) (keyed_child Sub ts)
   sub_placed number asked ts kind numbered low fits sub shallow allows =
       let next : depth_of task ≡ suc size = omega arith in
       let long : length (child_domain task Sub) ≡ suc size = length_push task.key.domain (own_level task) ∙ next in
       let own : closed_level (own_level task) ≡ last task.key =
-      ap (λ tb. record { ts = task.key.ts; tb = Some (unwrap_or tb 0) }) numbered ∙ ap (λ tb. record { ts = task.key.ts; tb = tb }) (sym numbered) in
+      ap (λ tb. record { ts = task.key.ts; tb = Some (unwrap_or tb 0) }) numbered
+      ∙ ap (λ tb. record { ts = task.key.ts; tb = tb }) (sym numbered) in
       let bit : sub_bit task.sub < 2 = bit_low task.sub in
       let few : task.kinds < 2 ^ suc size = subst (λ n. task.kinds < 2 ^ n) next low in
       let same : child_kinds task Sub ≡ task.kinds + sub_bit task.sub * 2 ^ suc size = ap (λ n. task.kinds + sub_bit task.sub * 2 ^ n) next in
@@ -121,7 +128,8 @@ module _ (version : ℕ) (task : Task) (id : ℕ) (before : TaskState) where
       deep n less other = omega (arith, less, other)
 
   -- in the superdomain, where the task's domain has a level more than this
-  super_placed : (asked ts n : ℕ) → size ≡ suc n → allowed_super (context (start_context version task) before) asked (outer_kind (suc n) task.kinds) ≡ Ok ts
+  super_placed : (asked ts n : ℕ) → size ≡ suc n
+      → allowed_super (context (start_context version task) before) asked (outer_kind (suc n) task.kinds) ≡ Ok ts
       → IsPlaced (keyed_task task) (keyed_child Super ts)
   super_placed asked ts n is allows =
       let bounds = bounded_is (context (start_context version task) before) (is_ordered_at n task.kinds) asked (floor_in 0 task.key.domain) ts allows in
@@ -129,12 +137,14 @@ module _ (version : ℕ) (task : Task) (id : ℕ) (before : TaskState) where
       let whole = end.long in
       let long : length (child_domain task Super) ≡ n = omega (arith, is, whole) in
       let ordered : is_ordered_at (length (child_domain task Super)) (child_kinds task Super) ≡ is_ordered_at n task.kinds =
-      ap (λ k. is_ordered_at k (child_kinds task Super)) long ∙ ap (λ k. is_ordered_at n (task.kinds % 2 ^ k)) is ∙ kind_low n task.kinds in
+      ap (λ k. is_ordered_at k (child_kinds task Super)) long ∙ ap (λ k. is_ordered_at n (task.kinds % 2 ^ k)) is
+      ∙ kind_low n task.kinds in
       inr (inr (
         closed_level end.level,
         (
           ap (map closed_level) end.is ∙ map-append closed_level (take (size - 1) task.key.domain) (end.level ∷ []),
-          sym (ordered_low size task.kinds) ∙ ap (λ k. ordered_to k (child_kinds task Super)) is ∙ ordered_more n (child_kinds task Super)
+          sym (ordered_low size task.kinds) ∙ ap (λ k. ordered_to k (child_kinds task Super)) is
+              ∙ ordered_more n (child_kinds task Super)
               ∙ ap (λ k. ordered_to k (child_kinds task Super) ++ is_ordered_at k (child_kinds task Super) ∷ []) (sym long),
         ),
         record {
@@ -144,19 +154,23 @@ module _ (version : ℕ) (task : Task) (id : ℕ) (before : TaskState) where
       ))
 
   -- for each domain of a child
-  placed : (number : ℕ) → task.key.tb ≡ Some number → task.kinds < 2 ^ depth_of task → size < MAX_LEVELS → SubFits (depth_of task) task.sub → before.sub ≡ task.sub
-      → (place : Place) (asked ts : ℕ) → allowed_at (context (start_context version task) before) asked place ≡ Ok ts → IsPlaced (keyed_task task) (keyed_child place ts)
+  placed : (number : ℕ) → task.key.tb ≡ Some number → task.kinds < 2 ^ depth_of task → size < MAX_LEVELS
+      → SubFits (depth_of task) task.sub → before.sub ≡ task.sub
+      → (place : Place) (asked ts : ℕ) → allowed_at (context (start_context version task) before) asked place ≡ Ok ts
+      → IsPlaced (keyed_task task) (keyed_child place ts)
   placed number numbered low fits shallow subs Same asked ts allows = same_placed asked ts allows
   placed number numbered low fits shallow subs Sub asked ts allows =
       by_sub task.sub refl shallow (subst (λ sub. allowed_sub (context (start_context version task) before) asked sub ≡ Ok ts) subs allows)
     where
-      by_sub : (sub : Option Kind) → task.sub ≡ sub → SubFits (depth_of task) sub → allowed_sub (context (start_context version task) before) asked sub ≡ Ok ts
+      by_sub : (sub : Option Kind) → task.sub ≡ sub → SubFits (depth_of task) sub
+          → allowed_sub (context (start_context version task) before) asked sub ≡ Ok ts
           → IsPlaced (keyed_task task) (keyed_child Sub ts)
       by_sub None is above refused = absurd (cc (refused))
       by_sub (Some kind) is above taken = sub_placed number asked ts kind numbered low fits is above taken
   placed number numbered low fits shallow subs Super asked ts allows = by_size size refl allows
     where
-      by_size : (n : ℕ) → size ≡ n → allowed_super (context (start_context version task) before) asked (outer_kind n task.kinds) ≡ Ok ts
+      by_size : (n : ℕ) → size ≡ n
+          → allowed_super (context (start_context version task) before) asked (outer_kind n task.kinds) ≡ Ok ts
           → IsPlaced (keyed_task task) (keyed_child Super ts)
       by_size zero is refused = absurd (cc (refused))
       by_size (suc n) is taken = super_placed asked ts n is taken
@@ -167,7 +181,8 @@ module _ (image : ImageValue) (view : View) (sound : Sound image view) (id : ℕ
   at_call = progress_at view.memory leg.to task
 
   -- the child that is asked for, where it is allowed, stands where the law of order lets it
-  asked_placed : (tile core to : ℕ) (spawn : Spawn) → TakesLeg view tile core leg id task → AllowedBy (context_of view.version task) (Enqueue spawn)
+  asked_placed : (tile core to : ℕ) (spawn : Spawn) → TakesLeg view tile core leg id task
+      → AllowedBy (context_of view.version task) (Enqueue spawn)
       → IsPlaced (keyed_task task) (keyed_task (child_of view.version id task spawn to))
   asked_placed tile core to spawn takes (asked, allows, is) =
       let there = takes.runs.on.there in
@@ -181,7 +196,8 @@ module _ (image : ImageValue) (view : View) (sound : Sound image view) (id : ℕ
       (placed view.version task id at_call number.0 number.1 (sound.sizes.kinds id task there) fits shallow refl asked.place asked.ts spawn.ts allows)
 
   -- and it is above its creator
-  placed_above : (tile core to : ℕ) (spawn : Spawn) → TakesLeg view tile core leg id task → IsPlaced (keyed_task task) (keyed_task (child_of view.version id task spawn to))
+  placed_above : (tile core to : ℕ) (spawn : Spawn) → TakesLeg view tile core leg id task
+      → IsPlaced (keyed_task task) (keyed_task (child_of view.version id task spawn to))
       → key_cmp task.key (child_of view.version id task spawn to).key ≡ Less
   placed_above tile core to spawn takes is_placed =
       let there = takes.runs.on.there in

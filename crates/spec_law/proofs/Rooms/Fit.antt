@@ -1,5 +1,6 @@
 -- The view's firm tasks, movable tasks and victims are those of the laws of room.
-use Rattle.std.proofs.Common.{◌≡◌, ◌⊎◌, ℕ, zero, suc, ◌<◌, false, List, [], ◌∷◌, length, Contains, Option, Some, None, option_map, refl, sym, ap, subst, ◌∙◌, inl, inr, arith, slice_get, slice_index_or}
+use Rattle.std.proofs.Common.{◌≡◌, ◌⊎◌, ℕ, zero, suc, ◌<◌, false, List, [], ◌∷◌, length, Contains, Option, Some, None}
+use Rattle.std.proofs.Common.{option_map, refl, sym, ap, subst, ◌∙◌, inl, inr, arith, slice_get, slice_index_or}
 use Rattle.std.proofs.lemmas.Bool.{cases_eq}
 use Rattle.std.proofs.lemmas.Cmp.{tied_itself}
 use Rattle.std.proofs.lemmas.Option.{slice_get_read}
@@ -38,10 +39,13 @@ contains_in xs x at = in_list xs x at.0 at.1 at.2
 pub in_contains : {X : Type 0} (xs : List X) (x : X) → In x xs → Contains xs x
 in_contains [] x at = absurd at
 in_contains (y ∷ xs) x (inl here) = (zero, omega arith, sym here)
-in_contains (y ∷ xs) x (inr later) = let more = in_contains xs x later in (suc more.0, (let low : more.0 < length xs = more.1 in omega (arith, low)), more.2)
+in_contains (y ∷ xs) x (inr later) =
+    let more = in_contains xs x later in
+    (suc more.0, (let low : more.0 < length xs = more.1 in omega (arith, low)), more.2)
 
 -- the task that spots of one queue place hold is one
-queued_is : (view : View) (tile place other_tile other_place id other : ℕ) (task x : Task) → Queued tile place ≡ Queued other_tile other_place
+queued_is : (view : View) (tile place other_tile other_place id other : ℕ) (task x : Task)
+    → Queued tile place ≡ Queued other_tile other_place
     → IsQueuedAt view tile place id task → IsQueuedAt view other_tile other_place other x → id ≡ other
 queued_is view tile place other_tile other_place id other task x same one two =
     let tiles : tile ≡ other_tile = cc in
@@ -59,14 +63,18 @@ heirs_are_one view (Some other) id one is =
     is.1.queued_at)
 
 -- a firm task is one for the laws of room, and the other way round
-firm_to : (view : View) (heir : Option ℕ) → IsHeir view heir → (task : Task) → IsFirm view task → room.IsFirmInQueue heir (room_task task)
+firm_to : (view : View) (heir : Option ℕ) → IsHeir view heir → (task : Task) → IsFirm view task
+    → room.IsFirmInQueue heir (room_task task)
 firm_to view heir is task (inl committed) = inl (ap live_creator committed.2)
-firm_to view heir is task (inr child) = inr (child.0, ap live_creator child.2, heirs_are_one view heir child.0 is child.3)
+firm_to view heir is task (inr child) =
+    inr (child.0, ap live_creator child.2, heirs_are_one view heir child.0 is child.3)
 
-firm_from : (view : View) (heir : Option ℕ) → IsHeir view heir → (task : Task) → room.IsFirmInQueue heir (room_task task) → IsFirm view task
+firm_from : (view : View) (heir : Option ℕ) → IsHeir view heir → (task : Task)
+    → room.IsFirmInQueue heir (room_task task) → IsFirm view task
 firm_from view heir is task firm = by_creator task.creator refl firm
   where
-    by_creator : (c : Creator) → task.creator ≡ c → (live_creator c ≡ None) ⊎ ((l : ℕ) × (live_creator c ≡ Some l) × (heir ≡ Some l)) → IsFirm view task
+    by_creator : (c : Creator) → task.creator ≡ c
+        → (live_creator c ≡ None) ⊎ ((l : ℕ) × (live_creator c ≡ Some l) × (heir ≡ Some l)) → IsFirm view task
     by_creator (Committed turn index) e firm' = inl (turn, index, e)
     by_creator (Live made_by index) e (inl none) = absurd (cc (none))
     by_creator (Live made_by index) e (inr child) =
@@ -74,14 +82,19 @@ firm_from view heir is task firm = by_creator task.creator refl firm
         inr (made_by.0, index, e, subst (IsHeir view) (child.2 ∙ sym both) is)
 
 pub firm_is_firm : FirmIsFirm
-firm_is_firm image view sound task = (firm_to view sound.heir sound.is_heir task, firm_from view sound.heir sound.is_heir task)
+firm_is_firm image view sound task =
+    (firm_to view sound.heir sound.is_heir task, firm_from view sound.heir sound.is_heir task)
 
 -- an idle task of a sound view has no dispatch number
-idle_is_open : (image : ImageValue) (view : View) (task : Task) → StandsAs image view.version view.settings.budget task task.status → task.status ≡ Idle → is_dispatched task ≡ false
-idle_is_open image view task stands idle = let is = subst (StandsAs image view.version view.settings.budget task) idle stands in ap is_dispatched is
+idle_is_open : (image : ImageValue) (view : View) (task : Task)
+    → StandsAs image view.version view.settings.budget task task.status → task.status ≡ Idle
+    → is_dispatched task ≡ false
+idle_is_open image view task stands idle =
+    let is = subst (StandsAs image view.version view.settings.budget task) idle stands in ap is_dispatched is
 
 -- a task of a sound view without a dispatch number is idle
-open_is_idle : (image : ImageValue) (view : View) (task : Task) (status : Status) → StandsAs image view.version view.settings.budget task status → is_dispatched task ≡ false → status ≡ Idle
+open_is_idle : (image : ImageValue) (view : View) (task : Task) (status : Status)
+    → StandsAs image view.version view.settings.budget task status → is_dispatched task ≡ false → status ≡ Idle
 open_is_idle image view task Idle stands open' = refl
 open_is_idle image view task (Running core) stands open' = absurd (cc (stands.0, open'))
 open_is_idle image view task (Trapped core cause) stands open' = absurd (cc (stands.0, open'))
@@ -103,7 +116,8 @@ movable_is_movable image view sound tile id = (
           idle = record {
             queued = in_contains (queue_at view tile) id moves.0;
             there = from.1;
-            idle = open_is_idle image view from.0 from.0.status (sound.tasks.stands id from.0 from.1) (sym (ap (λ w. w.dispatched) from.2) ∙ moves.3);
+            idle =
+                open_is_idle image view from.0 from.0.status (sound.tasks.stands id from.0 from.1) (sym (ap (λ w. w.dispatched) from.2) ∙ moves.3);
           };
           firm = firm_from view sound.heir sound.is_heir from.0 (subst (room.IsFirmInQueue sound.heir) from.2 moves.4);
         },
@@ -111,7 +125,8 @@ movable_is_movable image view sound tile id = (
 )
 
 -- an id of a tile's queue stands at some place of it
-queued_place : (view : View) (tile id : ℕ) (task : Task) → IsQueued view tile id → task_at view id ≡ Some task → (place : ℕ) × IsQueuedAt view tile place id task
+queued_place : (view : View) (tile id : ℕ) (task : Task) → IsQueued view tile id → task_at view id ≡ Some task
+    → (place : ℕ) × IsQueuedAt view tile place id task
 queued_place view tile id task queued there = (
   queued.0,
   record { queued = slice_get_read (queue_at view tile) (length (queue_at view tile)) queued.0 id refl queued.1 (sym queued.2); there = there },

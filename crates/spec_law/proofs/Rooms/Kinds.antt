@@ -1,5 +1,6 @@
 -- The kinds of a child's domains as bits: a bit more behind those of its creator, or one fewer.
-use Rattle.std.proofs.Common.{◌≡◌, ℕ, zero, suc, ◌+◌, ◌*◌, ◌/◌, ◌%◌, ◌^◌, ◌<◌, ◌==◌, [], ◌∷◌, ◌++◌, refl, sym, ap, ◌∙◌, arith}
+use Rattle.std.proofs.Common.{◌≡◌, ℕ, zero, suc, ◌+◌, ◌*◌, ◌/◌, ◌%◌, ◌^◌, ◌<◌, ◌==◌, [], ◌∷◌, ◌++◌, refl, sym, ap, ◌∙◌}
+use Rattle.std.proofs.Common.{arith}
 use Rattle.std.proofs.lemmas.Grind.{pow_more}
 use Rattle.std.proofs.lemmas.Nat.{div-add-mod'}
 use Rattle.spec_state.specs.Tasks.{is_ordered_at, ordered_to}
@@ -41,7 +42,8 @@ ordered_below (suc n) k b =
 
 -- so do they leave the kind at each place before it
 pub kind_below : (n k b : ℕ) → is_ordered_at n (k + b * 2 ^ suc n) ≡ is_ordered_at n k
-kind_below zero k b = ap (λ p. is_ordered_at 0 (k + p)) (times_next b zero) ∙ ap (λ low. low == 1) (low_bit k (b * 2 ^ zero))
+kind_below zero k b =
+    ap (λ p. is_ordered_at 0 (k + p)) (times_next b zero) ∙ ap (λ low. low == 1) (low_bit k (b * 2 ^ zero))
 kind_below (suc n) k b =
     ap (λ p. is_ordered_at (suc n) (k + p)) (times_next b (suc n))
     ∙ ap (is_ordered_at n) (half_of k (b * 2 ^ suc n))

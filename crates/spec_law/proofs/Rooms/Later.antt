@@ -1,5 +1,6 @@
 -- What is taken back for a victim is later than the least task.
-use Rattle.std.proofs.Common.{◌≡◌, ◌≢◌, ℕ, true, map, Option, Some, None, is_some, option_map, refl, sym, ap, subst, ◌∙◌, inl, inr}
+use Rattle.std.proofs.Common.{◌≡◌, ◌≢◌, ℕ, true, map, Option, Some, None, is_some, option_map, refl, sym, ap, subst}
+use Rattle.std.proofs.Common.{◌∙◌, inl, inr}
 use Rattle.std.specs.declared.cmp.Ordering.TheVariants.{Less}
 use Rattle.fractal_vt.specs.declared.key.Key.{Key}
 use Rattle.fractal_vt.specs.Keys.{levels}
@@ -32,7 +33,8 @@ there_is None is = absurd (cc (is))
 there_is (Some x) is = (x, refl)
 
 -- where the least task is spilled, there is no heir
-no_heir : (view : View) (tile place : ℕ) (heir : Option ℕ) → IsLeastSpot view (Spilled_at tile place) → IsHeir view heir → heir ≡ None
+no_heir : (view : View) (tile place : ℕ) (heir : Option ℕ) → IsLeastSpot view (Spilled_at tile place) → IsHeir view heir
+    → heir ≡ None
 no_heir view tile place None least is = refl
 no_heir view tile place (Some id) least is =
     let same : Queued is.0.tile is.1.place ≡ Spilled_at tile place = least_is_one view _ _ is.1.least least in
@@ -51,15 +53,18 @@ module _ (image : ImageValue) (view : View) (sound : Sound image view) where
       ]
 
   -- what stands at the least spot is the least in the order of tasks
-  pub least_stands : (spot : Spot) (least : IsLeastSpot view spot) (k : ℕ) (x : Keyed) → all_keyed view sound.heir k ≡ Some x → order.levels_of x ≡ levels least.key
+  pub least_stands : (spot : Spot) (least : IsLeastSpot view spot) (k : ℕ) (x : Keyed)
+      → all_keyed view sound.heir k ≡ Some x → order.levels_of x ≡ levels least.key
       → events.IsLeastInKeys (all_keyed view sound.heir) k x
   least_stands spot least k x at same = record {
     there = at;
-    least = λ j y there e. none_below view sound.sizes sound.heir spot least j y there (ap (λ ls. levels_cmp ls (order.levels_of y)) (sym same) ∙ e);
+    least =
+        λ j y there e. none_below view sound.sizes sound.heir spot least j y there (ap (λ ls. levels_cmp ls (order.levels_of y)) (sym same) ∙ e);
   }
 
   -- each dispatched task but the least is above it
-  others_above : (id k : ℕ) (least : Keyed) (x : Task) → events.IsLeastInKeys (all_keyed view sound.heir) id least → k ≢ id → task_at view k ≡ Some x → is_dispatched x ≡ true
+  others_above : (id k : ℕ) (least : Keyed) (x : Task) → events.IsLeastInKeys (all_keyed view sound.heir) id least
+      → k ≢ id → task_at view k ≡ Some x → is_dispatched x ≡ true
       → levels_cmp (order.levels_of least) (levels x.key) ≡ Less
   others_above id k least x is apart at dispatched =
       let number = there_is x.key.tb dispatched in
@@ -67,7 +72,8 @@ module _ (image : ImageValue) (view : View) (sound : Sound image view) where
       (queued_stands view sound.heir k x at) number.1
 
   -- who asks as the least task does so for the laws of room
-  asks : (tile : ℕ) (asker : Asker) (low : Key) → AsksAsLeast view tile asker low → room.AsksAsLeastInQueue (room_tasks view) sound.heir (asking_task asker) (levels low)
+  asks : (tile : ℕ) (asker : Asker) (low : Key) → AsksAsLeast view tile asker low
+      → room.AsksAsLeastInQueue (room_tasks view) sound.heir (asking_task asker) (levels low)
   asks tile (Enqueuer l) low is =
       let task = is.0 in
       let key : is.1.least.key ≡ task.key = queued_key view task.tile is.1.place l task is.1.least.key is.1.queued_at is.1.least.has in
@@ -100,12 +106,14 @@ module _ (image : ImageValue) (view : View) (sound : Sound image view) where
       }
 
   -- what is taken back for the victim is so by the laws of room
-  first_to : (v first : ℕ) (task : Task) → IsTakenFor view v task first → room.IsFirst sound.heir v (room_task task) first
+  first_to : (v first : ℕ) (task : Task) → IsTakenFor view v task first
+      → room.IsFirst sound.heir v (room_task task) first
   first_to v first task (inl firm) = inl ((firm_is_firm image view sound task).0 firm.0, firm.1)
   first_to v first task (inr loose) = inr (λ firm. loose.0 ((firm_is_firm image view sound task).1 firm), loose.1)
 
   taken_later : (tile : ℕ) (asker : Asker) (low : Key) (v first : ℕ) (task : Task)
-      → AsksAsLeast view tile asker low → NoneMoves view tile → IsVictim view tile asker v task → IsTakenFor view v task first → MayBeTaken view asker low first
+      → AsksAsLeast view tile asker low → NoneMoves view tile → IsVictim view tile asker v task
+      → IsTakenFor view v task first → MayBeTaken view asker low first
   taken_later tile asker low v first task asker_is none victim taken =
       let may = victims_are_legal (room_tasks view) sound.heir (queue_at view tile) (asking_task asker) (levels low) v first (room_task task) creators_run (asks tile asker low asker_is)
       (λ k moves. none k ((movable_is_movable image view sound tile k).1 moves)) (victim_is_victim view tile asker v task victim) (first_to v first task taken) in

@@ -1,5 +1,6 @@
 -- Each rule of room leaves a free place.
-use Rattle.std.proofs.Common.{◌≡◌, ℕ, ◌<◌, ◌≤◌, Bool, true, List, [], length, Some, None, option_map, refl, sym, ap, subst, ◌∙◌, inl, inr, arith, slice_index_or, if◌then◌else◌}
+use Rattle.std.proofs.Common.{◌≡◌, ℕ, ◌<◌, ◌≤◌, Bool, true, List, [], length, Some, None, option_map, refl, sym, ap}
+use Rattle.std.proofs.Common.{subst, ◌∙◌, inl, inr, arith, slice_index_or, if◌then◌else◌}
 use Rattle.std.proofs.lemmas.Bool.{cases_lt}
 use Rattle.std.proofs.lemmas.List.{get_or_past}
 use Rattle.task_law.proofs.Proved.{shorter, shorter_or_same}
@@ -8,7 +9,8 @@ use Rattle.spec_state.specs.View.{View, task_at, queue_at}
 use Rattle.spec_state.specs.Tasks.{idle_again}
 use Rattle.spec_state.specs.Groups.{live_creator, room_task, room_tasks}
 use Rattle.spec_state.specs.Aborts.{IsCascade, Aborts, OnlyNode, is_marked, is_marked_creator, taken_back}
-use Rattle.spec_state.specs.Room.{Asker, QueueHasRoom, IsVictim, MakesRoom, queue_has_room, coalesces, aborts_victim, aborts_creator}
+use Rattle.spec_state.specs.Room.{Asker, QueueHasRoom, IsVictim, MakesRoom, queue_has_room, coalesces, aborts_victim}
+use Rattle.spec_state.specs.Room.{aborts_creator}
 use Rattle.spec_law.specs.RoomLaws.{RoomIsMade}
 use Rattle.spec_law.specs.Sound.{SoundSizes}
 use Rattle.spec_law.proofs.Tasks.Beside.{id_below}
@@ -17,7 +19,8 @@ use Rattle.spec_law.proofs.Rooms.Moved.{queue_is, coalesce_makes_room}
 use Rattle.spec_law.proofs.Aborted.Taken.{marked_below}
 
 -- a cascade takes the children of its first task
-child_marked : (view : View) (marks : List Bool) (id creator : ℕ) (task : Task) → IsCascade view (OnlyNode creator) marks → task_at view id ≡ Some task → live_creator task.creator ≡ Some creator
+child_marked : (view : View) (marks : List Bool) (id creator : ℕ) (task : Task)
+    → IsCascade view (OnlyNode creator) marks → task_at view id ≡ Some task → live_creator task.creator ≡ Some creator
     → (is_marked marks id ≡ true) × (is_marked marks creator ≡ true)
 child_marked view marks id creator task cascade there made_by =
     let first = cascade.least.holds creator refl in
@@ -29,7 +32,8 @@ child_marked view marks id creator task cascade there made_by =
     )
 
 -- a marked task whose creator is marked leaves
-taken_gone : (version : ℕ) (marks : List Bool) (id creator : ℕ) (task : Task) → is_marked marks id ≡ true → is_marked marks creator ≡ true → live_creator task.creator ≡ Some creator
+taken_gone : (version : ℕ) (marks : List Bool) (id creator : ℕ) (task : Task) → is_marked marks id ≡ true
+    → is_marked marks creator ≡ true → live_creator task.creator ≡ Some creator
     → taken_back version marks id (Some task) ≡ None
 taken_gone version marks id creator task marked creator_marked made_by =
     ap (λ b. if b then (if is_marked_creator marks (live_creator task.creator) then None else Some (idle_again version task)) else Some task) marked
@@ -44,23 +48,27 @@ bounded view sizes tile = elim (cases_lt tile (length view.queues)) [
 ]
 
 -- the queue of a tile is no longer after an abort
-aborted_queue : (firsts : ℕ → Type 0) (old new : View) (aborted tile : ℕ) → (aborts : Aborts firsts old aborted new) → length (queue_at new tile) ≤ length (queue_at old tile)
+aborted_queue : (firsts : ℕ → Type 0) (old new : View) (aborted tile : ℕ) → (aborts : Aborts firsts old aborted new)
+    → length (queue_at new tile) ≤ length (queue_at old tile)
 aborted_queue firsts old new aborted tile aborts =
     subst (λ queue. length queue ≤ length (queue_at old tile)) (sym (ap (λ queues. slice_index_or queues tile []) aborts.queues ∙ queue_is (room_tasks new) old.queues tile))
     (shorter_or_same (room_tasks new) (queue_at old tile))
 
 -- an abort of the victim's creator takes the victim out of the queue
-creator_queue : (old new : View) (aborted tile v creator : ℕ) (asker : Asker) (task : Task) → IsVictim old tile asker v task → live_creator task.creator ≡ Some creator
+creator_queue : (old new : View) (aborted tile v creator : ℕ) (asker : Asker) (task : Task)
+    → IsVictim old tile asker v task → live_creator task.creator ≡ Some creator
     → Aborts (OnlyNode creator) old aborted new → length (queue_at new tile) < length (queue_at old tile)
 creator_queue old new aborted tile v creator asker task victim made_by aborts =
     let marked = child_marked old aborts.marks v creator task aborts.cascade victim.there made_by in
     let gone : task_at new v ≡ None =
-    aborts.each v ∙ ap (taken_back old.version aborts.marks v) victim.there ∙ taken_gone old.version aborts.marks v creator task marked.0 marked.1 made_by in
+    aborts.each v ∙ ap (taken_back old.version aborts.marks v) victim.there
+    ∙ taken_gone old.version aborts.marks v creator task marked.0 marked.1 made_by in
     subst (λ queue. length queue < length (queue_at old tile)) (sym (ap (λ queues. slice_index_or queues tile []) aborts.queues ∙ queue_is (room_tasks new) old.queues tile))
     (shorter (room_tasks new) v (queue_at old tile) (ap (option_map room_task) gone) (contains_in (queue_at old tile) v victim.queued))
 
 -- a queue that is shorter than one that holds no more than it may has a free place
-has_room : (old new : View) (tile : ℕ) → SoundSizes old → new.settings ≡ old.settings → length (queue_at new tile) < length (queue_at old tile) → QueueHasRoom new tile
+has_room : (old new : View) (tile : ℕ) → SoundSizes old → new.settings ≡ old.settings
+    → length (queue_at new tile) < length (queue_at old tile) → QueueHasRoom new tile
 has_room old new tile sizes same less =
     let most = bounded old sizes tile in
     subst (λ settings. length (queue_at new tile) < settings.task_queue) (sym same) (omega (arith, less, most))

@@ -1,6 +1,7 @@
 -- A coalescing makes its tile's queue shorter and none longer; a split returns the least task, where that is in the
 -- tile's block.
-use Rattle.std.proofs.Common.{◌≡◌, ◌≢◌, ℕ, zero, suc, ◌<◌, ◌≤◌, List, [], ◌∷◌, length, map, take, Option, Some, None, option_map, refl, sym, ap, subst, ◌∙◌, inl, inr, arith, slice_get, slice_index_or}
+use Rattle.std.proofs.Common.{◌≡◌, ◌≢◌, ℕ, zero, suc, ◌<◌, ◌≤◌, List, [], ◌∷◌, length, map, take, Option, Some, None}
+use Rattle.std.proofs.Common.{option_map, refl, sym, ap, subst, ◌∙◌, inl, inr, arith, slice_get, slice_index_or}
 use Rattle.std.proofs.lemmas.Bool.{cases_lt}
 use Rattle.std.proofs.lemmas.Cmp.{nat_cmp_total, tied_itself}
 use Rattle.std.proofs.lemmas.Option.{slice_get-map}
@@ -21,7 +22,8 @@ use Rattle.spec_law.proofs.Tasks.Contained.{some_first}
 use Rattle.spec_law.proofs.Rooms.Fit.{contains_in}
 
 -- the queue of a tile, once the ids of tasks that have gone are taken out of each queue
-pub queue_is : (new : ℕ → Option RoomTask) (queues : List (List ℕ)) (tile : ℕ) → slice_index_or (map (queue_after new) queues) tile [] ≡ queue_after new (slice_index_or queues tile [])
+pub queue_is : (new : ℕ → Option RoomTask) (queues : List (List ℕ)) (tile : ℕ)
+    → slice_index_or (map (queue_after new) queues) tile [] ≡ queue_after new (slice_index_or queues tile [])
 queue_is new [] tile = refl
 queue_is new (q ∷ queues) zero = refl
 queue_is new (q ∷ queues) (suc tile) = queue_is new queues tile
@@ -37,7 +39,8 @@ coalesce_makes_room tile old new moves =
     )
 
 -- what is found at a place is found there before any later place
-get_before : {X : Type 0} (xs : List X) (k n : ℕ) (x : X) → k < n → slice_get xs k ≡ Some x → slice_get (take n xs) k ≡ Some x
+get_before : {X : Type 0} (xs : List X) (k n : ℕ) (x : X) → k < n → slice_get xs k ≡ Some x
+    → slice_get (take n xs) k ≡ Some x
 get_before [] k n x low at = absurd (cc (at))
 get_before (y ∷ xs) k zero x low at = absurd (omega (arith, low))
 get_before (y ∷ xs) zero (suc n) x low at = at
@@ -52,7 +55,8 @@ no_later tile p q upto = elim (cases_lt q p) [
 
 module _ (view : View) (tile : ℕ) (least : IsLeastSpilled view tile) (place : ℕ) (s : Spilled) (first : IsLeastInBlock (block_at view tile) place s) where
   -- the open key at a place of the block
-  key_there : (k : ℕ) (x : Spilled) → slice_get (block_at view tile) k ≡ Some x → slice_get (map open_key (block_at view tile)) k ≡ Some (open_key x)
+  key_there : (k : ℕ) (x : Spilled) → slice_get (block_at view tile) k ≡ Some x
+      → slice_get (map open_key (block_at view tile)) k ≡ Some (open_key x)
   key_there k x at = slice_get-map open_key (block_at view tile) k ∙ ap (option_map open_key) at
 
   -- the key of the spilled task that is taken is the least key of the block

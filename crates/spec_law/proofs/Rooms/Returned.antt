@@ -1,6 +1,7 @@
 -- The least task that comes back by a split is the least one still: it stands last in its tile's task queue, and no
 -- other queued task has its key.
-use Rattle.std.proofs.Common.{◌≡◌, ◌≢◌, ◌⊎◌, ℕ, zero, suc, ◌<◌, List, [], ◌∷◌, ◌++◌, length, remove, Some, refl, sym, ap, subst, ◌∙◌, inl, inr, arith, slice_get, slice_index_or}
+use Rattle.std.proofs.Common.{◌≡◌, ◌≢◌, ◌⊎◌, ℕ, zero, suc, ◌<◌, List, [], ◌∷◌, ◌++◌, length, remove, Some, refl, sym}
+use Rattle.std.proofs.Common.{ap, subst, ◌∙◌, inl, inr, arith, slice_get, slice_index_or}
 use Rattle.std.proofs.lemmas.Bool.{cases_eq}
 use Rattle.std.proofs.lemmas.Cmp.{nat_cmp_total, tied_itself}
 use Rattle.std.proofs.lemmas.List.{get_or-set_same, get_or-set_other}
@@ -22,14 +23,16 @@ use Rattle.spec_law.proofs.Tasks.Places.{get_contains}
 use Rattle.spec_law.proofs.Rooms.Moved.{split_returns_least}
 
 -- what is found in a list with one element more is that element, at the end, or was found before
-pushed : {X : Type 0} (xs : List X) (x y : X) (k : ℕ) → slice_get (xs ++ x ∷ []) k ≡ Some y → (slice_get xs k ≡ Some y) ⊎ ((k ≡ length xs) × (x ≡ y))
+pushed : {X : Type 0} (xs : List X) (x y : X) (k : ℕ) → slice_get (xs ++ x ∷ []) k ≡ Some y
+    → (slice_get xs k ≡ Some y) ⊎ ((k ≡ length xs) × (x ≡ y))
 pushed [] x y zero at = let same : x ≡ y = cc in inr (refl, same)
 pushed [] x y (suc k) at = absurd (cc (at))
 pushed (z ∷ xs) x y zero at = inl at
 pushed (z ∷ xs) x y (suc k) at = elim (pushed xs x y k at) [ inl was ↦ inl was | inr end ↦ inr (ap suc end.0, end.1) ]
 
 -- what is left once one element was taken out was there before
-was_there : {X : Type 0} (xs : List X) (i k : ℕ) (x : X) → slice_get (remove xs i) k ≡ Some x → (j : ℕ) × (slice_get xs j ≡ Some x)
+was_there : {X : Type 0} (xs : List X) (i k : ℕ) (x : X) → slice_get (remove xs i) k ≡ Some x
+    → (j : ℕ) × (slice_get xs j ≡ Some x)
 was_there [] zero k x at = absurd (cc (at))
 was_there [] (suc i) k x at = absurd (cc (at))
 was_there (y ∷ xs) zero k x at = (suc k, at)
@@ -43,7 +46,8 @@ itself_upto key spot tie e =
 
 -- a queued spot ties with itself
 queued_ties : (tile place : ℕ) → place_cmp tile place tile place ≡ Equal
-queued_ties tile place = ap (λ o. ordering_then o (nat_cmp place place)) (tied_itself nat_cmp_total tile) ∙ tied_itself nat_cmp_total place
+queued_ties tile place =
+    ap (λ o. ordering_then o (nat_cmp place place)) (tied_itself nat_cmp_total tile) ∙ tied_itself nat_cmp_total place
 
 module _ (tile : ℕ) (old new : View) (sizes : SoundSizes old) (least : IsLeastSpilled old tile) (splits : Splits tile old new) where
   -- the task that came back
@@ -61,11 +65,15 @@ module _ (tile : ℕ) (old new : View) (sizes : SoundSizes old) (least : IsLeast
 
   -- the tile's queue has it behind all others
   queue_now : queue_at new tile ≡ queue_at old tile ++ splits.id ∷ []
-  queue_now = ap (λ queues. slice_index_or queues tile []) splits.queues ∙ get_or-set_same old.queues tile (queue_at old tile ++ splits.id ∷ []) [] within
+  queue_now =
+      ap (λ queues. slice_index_or queues tile []) splits.queues
+      ∙ get_or-set_same old.queues tile (queue_at old tile ++ splits.id ∷ []) [] within
 
   -- each other queue stays
   queue_kept : (t : ℕ) → t ≢ tile → queue_at new t ≡ queue_at old t
-  queue_kept t other = ap (λ queues. slice_index_or queues t []) splits.queues ∙ get_or-set_other old.queues tile t (queue_at old tile ++ splits.id ∷ []) [] other
+  queue_kept t other =
+      ap (λ queues. slice_index_or queues t []) splits.queues
+      ∙ get_or-set_other old.queues tile t (queue_at old tile ++ splits.id ∷ []) [] other
 
   -- its key is the least one
   key_is : open_key splits.spilled ≡ least.least.key
@@ -75,7 +83,8 @@ module _ (tile : ℕ) (old new : View) (sizes : SoundSizes old) (least : IsLeast
       ap open_key same ∙ sym least.least.has.2
 
   -- what stands in a queue stood there before, or is the task that came back
-  queued_was : (t p k : ℕ) → slice_get (queue_at new t) p ≡ Some k → (slice_get (queue_at old t) p ≡ Some k) ⊎ ((t ≡ tile) × (p ≡ end) × (splits.id ≡ k))
+  queued_was : (t p k : ℕ) → slice_get (queue_at new t) p ≡ Some k
+      → (slice_get (queue_at old t) p ≡ Some k) ⊎ ((t ≡ tile) × (p ≡ end) × (splits.id ≡ k))
   queued_was t p k at = elim (cases_eq t tile) [
     | inl here ↦
         let found : slice_get (queue_at old tile ++ splits.id ∷ []) p ≡ Some k =
@@ -94,7 +103,8 @@ module _ (tile : ℕ) (old new : View) (sizes : SoundSizes old) (least : IsLeast
       absurd (cc (has.1, ap (task_at old) same, splits.vacant))
 
   -- what stands in a block stood there before, at some place
-  spilled_was : (t p : ℕ) (s : Spilled) → slice_get (block_at new t) p ≡ Some s → (j : ℕ) × (slice_get (block_at old t) j ≡ Some s)
+  spilled_was : (t p : ℕ) (s : Spilled) → slice_get (block_at new t) p ≡ Some s
+      → (j : ℕ) × (slice_get (block_at old t) j ≡ Some s)
   spilled_was t p s at = elim (cases_eq t tile) [
     | inl here ↦
         let inside : tile < length old.blocks = at_within old.blocks tile least.place least.least.has.0 least.least.has.1 in
@@ -105,12 +115,14 @@ module _ (tile : ℕ) (old new : View) (sizes : SoundSizes old) (least : IsLeast
         (was.0, ap (λ u. slice_get (block_at old u) was.0) here ∙ was.1)
     | inr other ↦
         let same : block_at new t ≡ block_at old t =
-        ap (λ blocks. slice_index_or blocks t []) splits.blocks ∙ get_or-set_other old.blocks tile t splits.block [] other in
+        ap (λ blocks. slice_index_or blocks t []) splits.blocks
+        ∙ get_or-set_other old.blocks tile t splits.block [] other in
         (p, ap (λ block. slice_get block p) (sym same) ∙ at)
   ]
 
   -- no task ranks below it
-  none_below : (other : Spot) (key : Key) → HasKey new other key → ranked_cmp (open_key splits.spilled) (Queued tile end) key other ≢ Greater
+  none_below : (other : Spot) (key : Key) → HasKey new other key
+      → ranked_cmp (open_key splits.spilled) (Queued tile end) key other ≢ Greater
   none_below (Queued t p) key has = elim (queued_was t p has.0 has.2.queued) [
     | inl was ↦
         let there : task_at old has.0 ≡ Some has.1 = sym (splits.changes.others has.0 (not_vacant t p has.0 was)) ∙ has.2.there in
@@ -137,7 +149,8 @@ split_keeps_least image tile old new sound least splits =
     let task : Task = idle_task old.version (spilled_descriptor splits.spilled) splits.creator tile in
     let place : ℕ = length (queue_at old tile) in
     let stands : slice_get (queue_at new tile) place ≡ Some splits.id =
-    ap (λ queue. slice_get queue place) (queue_now tile old new sound.sizes least splits) ∙ get_end (queue_at old tile) splits.id in (
+    ap (λ queue. slice_get queue place) (queue_now tile old new sound.sizes least splits)
+    ∙ get_end (queue_at old tile) splits.id in (
       task,
       record {
         place = place;

@@ -1,5 +1,6 @@
 -- A task that ends leaves its core for the commit queue of its tile.
-use Rattle.std.proofs.Common.{◌≡◌, ◌≢◌, ◌≤◌, ◌<◌, ◌∷◌, ◌++◌, ℕ, [], length, Some, None, refl, sym, ap, subst, ◌∙◌, inl, inr, arith, slice_get, slice_index_or, slice_set}
+use Rattle.std.proofs.Common.{◌≡◌, ◌≢◌, ◌≤◌, ◌<◌, ◌∷◌, ◌++◌, ℕ, [], length, Some, None, refl, sym, ap, subst, ◌∙◌, inl}
+use Rattle.std.proofs.Common.{inr, arith, slice_get, slice_index_or, slice_set}
 use Rattle.std.specs.Prelude.{All, Contains}
 use Rattle.std.proofs.lemmas.Bool.{cases_eq, cases_lt}
 use Rattle.std.proofs.lemmas.List.{get_or-set_other, get_or-set_same, get_or_past, length-append, length-set}
@@ -62,23 +63,27 @@ module _ (old new : View) (sizes : SoundSizes old) (tile core id : ℕ) (task : 
   -- the commit queue of the tile has one more, and those of others are as they were
   finished_here : finished_at now tile ≡ finished_at old tile ++ id ∷ []
   finished_here =
-      ap (λ lists. slice_index_or lists tile []) ends.finished ∙ get_or-set_same old.finished tile (finished_at old tile ++ id ∷ []) [] low_finished
+      ap (λ lists. slice_index_or lists tile []) ends.finished
+      ∙ get_or-set_same old.finished tile (finished_at old tile ++ id ∷ []) [] low_finished
 
   finished_beside : (other : ℕ) → other ≢ tile → finished_at now other ≡ finished_at old other
   finished_beside other is_other =
-      ap (λ lists. slice_index_or lists other []) ends.finished ∙ get_or-set_other old.finished tile other (finished_at old tile ++ id ∷ []) [] is_other
+      ap (λ lists. slice_index_or lists other []) ends.finished
+      ∙ get_or-set_other old.finished tile other (finished_at old tile ++ id ∷ []) [] is_other
 
   -- the cores of the tile are those of before, but for one
   cores_here : cores_at now tile ≡ slice_set (cores_at old tile) core None
   cores_here =
-      ap (λ lists. slice_index_or lists tile []) ends.cores ∙ get_or-set_same old.cores tile (slice_set (cores_at old tile) core None) [] low_core
+      ap (λ lists. slice_index_or lists tile []) ends.cores
+      ∙ get_or-set_same old.cores tile (slice_set (cores_at old tile) core None) [] low_core
 
   -- the core is free
   core_free : slice_get (cores_at now tile) core ≡ Some None
   core_free = ap (λ held. slice_get held core) cores_here ∙ get_put (cores_at old tile) core None (Some id) runs.on.held
 
   -- each other core holds what it held
-  cores_beside : (other c : ℕ) → (other ≡ tile → c ≡ core → ⊥) → slice_get (cores_at now other) c ≡ slice_get (cores_at old other) c
+  cores_beside : (other c : ℕ) → (other ≡ tile → c ≡ core → ⊥)
+      → slice_get (cores_at now other) c ≡ slice_get (cores_at old other) c
   cores_beside other c beside = elim (cases_eq other tile) [
     | inl same ↦
         ap (λ n. slice_get (cores_at now n) c) same ∙ ap (λ held. slice_get held c) cores_here
@@ -106,14 +111,17 @@ module _ (old new : View) (sizes : SoundSizes old) (tile core id : ℕ) (task : 
 
   -- the task stands in the commit queue of its tile
   finished_last : Contains (finished_at now tile) id
-  finished_last = subst (λ ids. Contains ids id) (sym finished_here) (Contains-append_right (finished_at old tile) (id ∷ []) id (0, omega arith, refl))
+  finished_last =
+      subst (λ ids. Contains ids id) (sym finished_here) (Contains-append_right (finished_at old tile) (id ∷ []) id (0, omega arith, refl))
 
   -- what was in a commit queue is a finished task of its tile still
   was_finished : (other k : ℕ) → Contains (finished_at old other) k → HasTask now other k (λ status. status ≡ Finished)
-  was_finished other k has = has_forth old new id task ended end_steps (λ status. status ≡ Finished) (λ is. refl) other k ((sizes.finished_are other k).0 has)
+  was_finished other k has =
+      has_forth old new id task ended end_steps (λ status. status ≡ Finished) (λ is. refl) other k ((sizes.finished_are other k).0 has)
 
   -- so with the new commit queues
-  finished_forth : (other k : ℕ) → Contains (finished_at now other) k → HasTask now other k (λ status. status ≡ Finished)
+  finished_forth : (other k : ℕ) → Contains (finished_at now other) k
+      → HasTask now other k (λ status. status ≡ Finished)
   finished_forth other k has = elim (cases_eq other tile) [
     | inl same ↦
         subst (λ n. HasTask now n k (λ status. status ≡ Finished)) (sym same)
@@ -135,7 +143,8 @@ module _ (old new : View) (sizes : SoundSizes old) (tile core id : ℕ) (task : 
       (λ in_that finished. subst (λ n. Contains (finished_at now n) id) (sym in_tile ∙ in_that) finished_last) k t at in_other is
 
   -- what a core holds is a task on it
-  held_forth : (other c k : ℕ) → slice_get (cores_at now other) c ≡ Some (Some k) → HasTask now other k (λ status. HasCore status c)
+  held_forth : (other c k : ℕ) → slice_get (cores_at now other) c ≡ Some (Some k)
+      → HasTask now other k (λ status. HasCore status c)
   held_forth other c k held =
       (was.0, ends.changes.others k not_this ∙ was.1, was.2, was.3)
     where
@@ -155,13 +164,15 @@ module _ (old new : View) (sizes : SoundSizes old) (tile core id : ℕ) (task : 
           beside (sym was.2 ∙ ap (λ t. t.tile) same ∙ in_tile) (sym at)
 
   -- each task on a core is held by it
-  held_back : (other c k : ℕ) → HasTask now other k (λ status. HasCore status c) → slice_get (cores_at now other) c ≡ Some (Some k)
+  held_back : (other c k : ℕ) → HasTask now other k (λ status. HasCore status c)
+      → slice_get (cores_at now other) c ≡ Some (Some k)
   held_back other c k (t, at, in_other, is) =
       each_stepped old new id ended ends.changes (λ j z. z.tile ≡ other → HasCore z.status c → slice_get (cores_at now other) c ≡ Some (Some j))
       (λ j z not_this there in_that holds. held_still j not_this ((sizes.held_are other c j).1 (z, there, in_that, holds)))
       (λ in_that holds. absurd holds) k t at in_other is
     where
-      held_still : (j : ℕ) → j ≢ id → slice_get (cores_at old other) c ≡ Some (Some j) → slice_get (cores_at now other) c ≡ Some (Some j)
+      held_still : (j : ℕ) → j ≢ id → slice_get (cores_at old other) c ≡ Some (Some j)
+          → slice_get (cores_at now other) c ≡ Some (Some j)
       held_still j not_this held = cores_beside other c beside ∙ held
         where
           beside : other ≡ tile → c ≡ core → ⊥
@@ -173,9 +184,12 @@ module _ (old new : View) (sizes : SoundSizes old) (tile core id : ℕ) (task : 
   pub end_fits : FitsLists now
   end_fits =
       record {
-        finished = ap length ends.finished ∙ length-set old.finished tile (finished_at old tile ++ id ∷ []) ∙ sizes.finished;
-        cores = ap length ends.cores ∙ length-set old.cores tile (slice_set (cores_at old tile) core None) ∙ sizes.cores;
-        commit_queues = subst (All (λ ids. (length ids ≤ old.settings.commit_queue) × AreDistinct ids)) (sym ends.finished)
+        finished =
+            ap length ends.finished ∙ length-set old.finished tile (finished_at old tile ++ id ∷ []) ∙ sizes.finished;
+        cores =
+            ap length ends.cores ∙ length-set old.cores tile (slice_set (cores_at old tile) core None) ∙ sizes.cores;
+        commit_queues =
+            subst (All (λ ids. (length ids ≤ old.settings.commit_queue) × AreDistinct ids)) (sym ends.finished)
             (All-set (λ ids. (length ids ≤ old.settings.commit_queue) × AreDistinct ids) old.finished tile (finished_at old tile ++ id ∷ [])
             (longer, distinct_more (finished_at old tile) id (sizes.commit_queues tile [] low_finished).1 absent) sizes.commit_queues);
         core_counts = subst (All (λ held. length held ≡ old.settings.cores)) (sym ends.cores)

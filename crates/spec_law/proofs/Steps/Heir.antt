@@ -1,5 +1,6 @@
 -- A step of one task that keeps queues and blocks keeps the least task and the heir.
-use Rattle.std.proofs.Common.{◌≡◌, ℕ, [], Option, Some, None, refl, sym, ap, subst, ◌∙◌, is_some, slice_get, slice_index_or}
+use Rattle.std.proofs.Common.{◌≡◌, ℕ, [], Option, Some, None, refl, sym, ap, subst, ◌∙◌, is_some, slice_get}
+use Rattle.std.proofs.Common.{slice_index_or}
 use Rattle.fractal_vt.specs.declared.key.Key.{Key}
 use Rattle.spec_state.specs.declared.task.Task.{Task}
 use Rattle.spec_state.specs.View.{View, task_at, queue_at}
@@ -7,9 +8,15 @@ use Rattle.spec_state.specs.Least.{Spot, Queued, Spilled_at, HasKey, IsHeir, IsL
 use Rattle.spec_law.proofs.Steps.One.{StepsOne, origin, stays_there, stepped_to, stepped_task}
 
 -- views whose spots have the same keys have the same least spots
-pub same_least : (a b : View) → ((spot : Spot) (key : Key) → HasKey a spot key → HasKey b spot key) → ((spot : Spot) (key : Key) → HasKey b spot key → HasKey a spot key)
+pub same_least : (a b : View) → ((spot : Spot) (key : Key) → HasKey a spot key → HasKey b spot key)
+    → ((spot : Spot) (key : Key) → HasKey b spot key → HasKey a spot key)
     → (spot : Spot) → IsLeastSpot a spot → IsLeastSpot b spot
-same_least a b forth back spot least = record { key = least.key; has = forth spot least.key least.has; least = λ other key has. least.least other key (back other key has) }
+same_least a b forth back spot least =
+    record {
+      key = least.key;
+      has = forth spot least.key least.has;
+      least = λ other key has. least.least other key (back other key has);
+    }
 
 -- a task that was made as another one has its key and its tile
 pub same_key : (x t : Task) → t ≡ stepped_task x t → t.key ≡ x.key
@@ -19,16 +26,21 @@ pub same_tile : (x t : Task) → t ≡ stepped_task x t → t.tile ≡ x.tile
 same_tile x t made = ap (λ z. z.tile) made
 
 -- a task that stays, in a view whose spots have the same keys, is the least one still
-pub stays_least : (a b : View) → ((spot : Spot) (key : Key) → HasKey a spot key → HasKey b spot key) → ((spot : Spot) (key : Key) → HasKey b spot key → HasKey a spot key)
-    → b.queues ≡ a.queues → (k : ℕ) (x t : Task) → task_at b k ≡ Some t → t.tile ≡ x.tile → IsLeastTask a k x → IsLeastTask b k t
+pub stays_least : (a b : View) → ((spot : Spot) (key : Key) → HasKey a spot key → HasKey b spot key)
+    → ((spot : Spot) (key : Key) → HasKey b spot key → HasKey a spot key)
+    → b.queues ≡ a.queues → (k : ℕ) (x t : Task) → task_at b k ≡ Some t → t.tile ≡ x.tile → IsLeastTask a k x
+    → IsLeastTask b k t
 stays_least a b forth back queues k x t there tile least =
     record {
       place = least.place;
       queued_at = record {
-        queued = ap (λ lists. slice_get (slice_index_or lists t.tile []) least.place) queues ∙ ap (λ n. slice_get (queue_at a n) least.place) tile ∙ least.queued_at.queued;
+        queued =
+            ap (λ lists. slice_get (slice_index_or lists t.tile []) least.place) queues
+            ∙ ap (λ n. slice_get (queue_at a n) least.place) tile ∙ least.queued_at.queued;
         there = there;
       };
-      least = subst (λ n. IsLeastSpot b (Queued n least.place)) (sym tile) (same_least a b forth back (Queued x.tile least.place) least.least);
+      least =
+          subst (λ n. IsLeastSpot b (Queued n least.place)) (sym tile) (same_least a b forth back (Queued x.tile least.place) least.least);
     }
 
 module _ (old new : View) (id : ℕ) (task behind : Task) (step : StepsOne old new id task behind) where

@@ -1,5 +1,6 @@
 -- A quantum, a trap, a call for a subdomain, a call that emits a byte and an end call keep a view sound.
-use Rattle.std.proofs.Common.{◌≡◌, ◌≢◌, ◌⊎◌, ◌≤◌, ◌∷◌, ◌++◌, ℕ, [], length, Option, Some, None, refl, sym, ap, subst, ◌∙◌, inl, inr, is_some, slice_get}
+use Rattle.std.proofs.Common.{◌≡◌, ◌≢◌, ◌⊎◌, ◌≤◌, ◌∷◌, ◌++◌, ℕ, [], length, Option, Some, None, refl, sym, ap, subst}
+use Rattle.std.proofs.Common.{◌∙◌, inl, inr, is_some, slice_get}
 use Rattle.guest_image.specs.declared.image.Kind.{Kind}
 use Rattle.guest_image.specs.ImageValue.{ImageValue}
 use Rattle.rv_core.specs.Legs.{after_other_of}
@@ -22,7 +23,8 @@ use Rattle.spec_state.specs.View.{View}
 use Rattle.spec_state.specs.Tasks.{child_domain, child_kinds, context_of, progress_at, start_context}
 use Rattle.spec_state.specs.Changes.{Keeps}
 use Rattle.spec_state.specs.Stored.{HasCore}
-use Rattle.spec_law.specs.Keeping.{AsksAt, ByteStaysSound, EndStaysSound, IsLegOf, QuantumStaysSound, SubStaysSound, TrapStaysSound}
+use Rattle.spec_law.specs.Keeping.{AsksAt, ByteStaysSound, EndStaysSound, IsLegOf, QuantumStaysSound, SubStaysSound}
+use Rattle.spec_law.specs.Keeping.{TrapStaysSound}
 use Rattle.spec_law.specs.Sound.{RanTo, Sound, StandsAs, StaysSound}
 use Rattle.spec_law.proofs.Steps.Runs.{Leaves, placed_at, request_leaves, run_placed}
 use Rattle.spec_law.proofs.Steps.Ends.{end_fits, end_steps}
@@ -46,7 +48,8 @@ trap_stays_sound image old new sound tile core id cause leg task at keeps =
       (stood image old sound tile core id leg task taken).0,
       record {
         ran = ran_leg image old sound tile core id leg task taken;
-        traps = asks_next image old sound tile core id leg task taken (request.Trap cause) at.asks (λ e. absurd (cc (e)));
+        traps =
+            asks_next image old sound tile core id leg task taken (request.Trap cause) at.asks (λ e. absurd (cc (e)));
       },
     )
     (λ is. absurd (cc (is)), λ is. absurd (cc (sym running ∙ is)))
@@ -54,12 +57,15 @@ trap_stays_sound image old new sound tile core id cause leg task at keeps =
     (sound.sizes.bytes id task taken.takes.runs.on.there)
 
 -- the kinds of a child that was made stay: a subdomain is made once
-kinds_same : (task now : Task) (outer : Option Kind) (place : Place) → now.kinds ≡ task.kinds → now.key ≡ task.key → HasDomain outer task.sub place
+kinds_same : (task now : Task) (outer : Option Kind) (place : Place) → now.kinds ≡ task.kinds → now.key ≡ task.key
+    → HasDomain outer task.sub place
     → (now.sub ≡ task.sub) ⊎ (task.sub ≡ None) → child_kinds now place ≡ child_kinds task place
 kinds_same task now outer Same kinds key has sub = kinds
-kinds_same task now outer Sub kinds key has (inl same) = λ i. child_kinds (record task { kinds = kinds i; key = key i; sub = same i }) Sub
+kinds_same task now outer Sub kinds key has (inl same) =
+    λ i. child_kinds (record task { kinds = kinds i; key = key i; sub = same i }) Sub
 kinds_same task now outer Sub kinds key has (inr none) = absurd (cc (has, ap is_some none))
-kinds_same task now outer Super kinds key has sub = λ i. child_kinds (record task { kinds = kinds i; key = key i }) Super
+kinds_same task now outer Super kinds key has sub =
+    λ i. child_kinds (record task { kinds = kinds i; key = key i }) Super
 
 -- the task at a later point of its run, its loads and stores aside
 abbrev pub progressed : Task → TaskState → Task
@@ -100,7 +106,8 @@ module _ (image : ImageValue) (old : View) (sound : Sound image old) (tile core 
       )
 
   -- so the view stays sound
-  pub call_keeps : (new : View) → after.spawns ≡ task.spawns → Keeps id (progressed task after) old new → StaysSound image old sound new
+  pub call_keeps : (new : View) → after.spawns ≡ task.spawns → Keeps id (progressed task after) old new
+      → StaysSound image old sound new
   call_keeps new spawns keeps =
       keeps_sound image old new sound id task (progressed task after) taken.takes.runs.on.there keeps refl refl spawns (children_stay spawns)
       (subst (StandsAs image old.version old.settings.budget (progressed task after)) (sym taken.takes.runs.running)

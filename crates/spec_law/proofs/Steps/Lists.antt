@@ -1,5 +1,6 @@
 -- Lists of which one element is replaced, or behind which one more is put.
-use Rattle.std.proofs.Common.{◌≡◌, ◌≢◌, ◌∷◌, ◌++◌, ℕ, zero, suc, List, [], Some, refl, sym, ap, ◌∙◌, arith, slice_get, slice_set}
+use Rattle.std.proofs.Common.{◌≡◌, ◌≢◌, ◌∷◌, ◌++◌, ℕ, zero, suc, List, [], Some, refl, sym, ap, ◌∙◌, arith, slice_get}
+use Rattle.std.proofs.Common.{slice_set}
 use Rattle.std.specs.Prelude.{Contains}
 use Rattle.std.proofs.lemmas.List.Quantifiers.{all_pairs_push}
 use Rattle.std.proofs.lemmas.Option.{slice_get-get_or}
@@ -7,7 +8,8 @@ use Rattle.tile_queues.specs.Queue.{AreDistinct}
 use Rattle.spec_law.proofs.Tasks.Places.{get_contains}
 
 -- what was put stands there
-pub get_put : {X : Type 0} (xs : List X) (k : ℕ) (x y : X) → slice_get xs k ≡ Some y → slice_get (slice_set xs k x) k ≡ Some x
+pub get_put : {X : Type 0} (xs : List X) (k : ℕ) (x y : X) → slice_get xs k ≡ Some y
+    → slice_get (slice_set xs k x) k ≡ Some x
 get_put [] k x y at = absurd (cc)
 get_put (z ∷ xs) zero x y at = refl
 get_put (z ∷ xs) (suc k) x y at = get_put xs k x y at

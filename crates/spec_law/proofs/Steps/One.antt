@@ -1,6 +1,7 @@
 -- A step of one task, after which its key, creator, tile and what it was made as are what they were: the order of
 -- tasks and room in a queue read nothing else of it.
-use Rattle.std.proofs.Common.{◌≡◌, ◌≢◌, ◌<◌, ℕ, List, length, map, Option, Some, refl, sym, ap, subst, ◌∙◌, inl, inr, option_map}
+use Rattle.std.proofs.Common.{◌≡◌, ◌≢◌, ◌<◌, ℕ, List, length, map, Option, Some, refl, sym, ap, subst, ◌∙◌, inl, inr}
+use Rattle.std.proofs.Common.{option_map}
 use Rattle.std.proofs.lemmas.Bool.{cases_eq}
 use Rattle.fractal_vt.specs.Levels.{closed_level}
 use Rattle.memory_law.specs.Chain.{IsChained}
@@ -13,7 +14,8 @@ use Rattle.serial_machine.specs.State.{SerialState}
 use Rattle.spec_state.specs.declared.task.Task.{Task}
 use Rattle.spec_state.specs.View.{View, task_at, ChangesTask}
 use Rattle.spec_state.specs.Filters.{HasNotes}
-use Rattle.spec_state.specs.Groups.{all_keyed, all_spilled, bag_task, bag_tasks, keyed_tasks, keyed_spilled, keyed_task, logged_tasks, logged_task, room_tasks, room_task}
+use Rattle.spec_state.specs.Groups.{all_keyed, all_spilled, bag_task, bag_tasks, keyed_tasks, keyed_spilled, keyed_task}
+use Rattle.spec_state.specs.Groups.{logged_tasks, logged_task, room_tasks, room_task}
 use Rattle.spec_law.specs.Sound.{SoundMemory, SoundOrder}
 use Rattle.spec_law.proofs.Tasks.Rebound.{rebound, spilled_idle}
 use Rattle.spec_law.proofs.Tasks.Beside.{id_below}
@@ -46,7 +48,8 @@ abbrev pub seen : {X : Type 0} → (Task → X) → View → ℕ → Option X
 seen see view k = option_map see (task_at view k)
 
 -- what is read of a task alike before and after a change of it is read alike of each id
-pub alike : {X : Type 0} (see : Option Task → X) (old new : View) (id : ℕ) (now : Option Task) → ChangesTask old new id now → see now ≡ see (task_at old id)
+pub alike : {X : Type 0} (see : Option Task → X) (old new : View) (id : ℕ) (now : Option Task)
+    → ChangesTask old new id now → see now ≡ see (task_at old id)
     → (k : ℕ) → see (task_at new k) ≡ see (task_at old k)
 alike see old new id now changes same k = elim (cases_eq k id) [
   | inl is ↦ ap (λ j. see (task_at new j)) is ∙ ap see changes.changed ∙ same ∙ ap (λ j. see (task_at old j)) (sym is)
@@ -54,8 +57,10 @@ alike see old new id now changes same k = elim (cases_eq k id) [
 ]
 
 -- what holds of each other task, and of the changed one as it is now, holds of all that are there
-pub each_stepped : (old new : View) (id : ℕ) (now : Task) → ChangesTask old new id (Some now) → (holds : ℕ → Task → Type 0)
-    → ((k : ℕ) (t : Task) → k ≢ id → task_at old k ≡ Some t → holds k t) → holds id now → (k : ℕ) (t : Task) → task_at new k ≡ Some t → holds k t
+pub each_stepped : (old new : View) (id : ℕ) (now : Task) → ChangesTask old new id (Some now)
+    → (holds : ℕ → Task → Type 0)
+    → ((k : ℕ) (t : Task) → k ≢ id → task_at old k ≡ Some t → holds k t) → holds id now → (k : ℕ) (t : Task)
+    → task_at new k ≡ Some t → holds k t
 each_stepped old new id now changes holds others this k t at = elim (cases_eq k id) [
   | inl is ↦
       let both : Some t ≡ Some now = sym at ∙ ap (task_at new) is ∙ changes.changed in
@@ -74,7 +79,8 @@ module _ (old new : View) (id : ℕ) (task behind : Task) (step : StepsOne old n
   -- what is read of the task before and after alike is read alike of all
   pub all_alike : {X : Type 0} (see : Task → X) → see (stepped_task task behind) ≡ see task
       → seen see new ≡ seen see old
-  all_alike see same = λ i k. alike (option_map see) old new id (Some (stepped_task task behind)) step.changes (ap Some same ∙ sym (ap (option_map see) step.there)) k i
+  all_alike see same =
+      λ i k. alike (option_map see) old new id (Some (stepped_task task behind)) step.changes (ap Some same ∙ sym (ap (option_map see) step.there)) k i
 
   -- the order of tasks reads the same
   pub keyed_same : keyed_tasks new ≡ keyed_tasks old
@@ -94,7 +100,8 @@ module _ (old new : View) (id : ℕ) (task behind : Task) (step : StepsOne old n
 
   -- the order of all uncommitted tasks
   pub step_keeps_order : (heir : Option ℕ) → SoundOrder old heir → SoundOrder new heir
-  step_keeps_order heir sound = subst (λ v. SoundOrder v heir) (sym step.rest) (record { order = kept; numbers = sound.numbers })
+  step_keeps_order heir sound =
+      subst (λ v. SoundOrder v heir) (sym step.rest) (record { order = kept; numbers = sound.numbers })
     where
       spilled_list : List Keyed
       spilled_list = map (keyed_spilled (length old.history) heir) (all_spilled old)
@@ -114,8 +121,10 @@ module _ (old new : View) (id : ℕ) (task behind : Task) (step : StepsOne old n
           sound.order
 
   -- memory, where the step does not touch it
-  pub step_keeps_memory : (serial : SerialState) → new.memory ≡ old.memory → behind.log ≡ task.log → behind.lines ≡ task.lines → SoundMemory old serial → SoundMemory new serial
-  step_keeps_memory serial memory log lines sound = subst (λ v. SoundMemory v serial) (sym step.rest) (record { chained = chained; noted = noted })
+  pub step_keeps_memory : (serial : SerialState) → new.memory ≡ old.memory → behind.log ≡ task.log
+      → behind.lines ≡ task.lines → SoundMemory old serial → SoundMemory new serial
+  step_keeps_memory serial memory log lines sound =
+      subst (λ v. SoundMemory v serial) (sym step.rest) (record { chained = chained; noted = noted })
     where
       chained : IsChained old.settings.line (logged_tasks new) serial.memory new.memory
       chained =
@@ -123,7 +132,8 @@ module _ (old new : View) (id : ℕ) (task behind : Task) (step : StepsOne old n
           (subst (λ tasks. IsChained old.settings.line tasks serial.memory old.memory) (sym (logged_same log lines)) sound.chained)
 
       noted : (k : ℕ) (t : Task) → task_at new k ≡ Some t → HasNotes t.lines (notes_of old.settings.line t.log)
-      noted = each_stepped old new id (stepped_task task behind) step.changes (λ k t. HasNotes t.lines (notes_of old.settings.line t.log))
+      noted =
+          each_stepped old new id (stepped_task task behind) step.changes (λ k t. HasNotes t.lines (notes_of old.settings.line t.log))
           (λ k t other at. sound.noted k t at) (subst (λ l. HasNotes l (notes_of old.settings.line behind.log)) (sym lines) (subst (λ l. HasNotes task.lines (notes_of old.settings.line l)) (sym log) (sound.noted id task step.there)))
 
   -- each task was there
@@ -132,7 +142,8 @@ module _ (old new : View) (id : ℕ) (task behind : Task) (step : StepsOne old n
       (λ k t other at. record { was = t; there = at; made = refl }) (record { was = task; there = step.there; made = refl })
 
   -- each task is there still
-  pub stays_there : (k : ℕ) (x : Task) → task_at old k ≡ Some x → (t : Task) × (task_at new k ≡ Some t) × (t ≡ stepped_task x t)
+  pub stays_there : (k : ℕ) (x : Task) → task_at old k ≡ Some x
+      → (t : Task) × (task_at new k ≡ Some t) × (t ≡ stepped_task x t)
   stays_there k x at = elim (cases_eq k id) [
     | inl is ↦
         let both : Some x ≡ Some task = sym at ∙ ap (task_at old) is ∙ step.there in

@@ -1,6 +1,7 @@
 -- A step of one task keeps the group of sizes, where commit queues and cores hold what they may, and the task has no
 -- more bytes than it may.
-use Rattle.std.proofs.Common.{◌≡◌, ◌≤◌, ◌<◌, ◌^◌, ℕ, [], length, Some, sym, ap, subst, ◌∙◌, inl, inr, slice_get, slice_index_or}
+use Rattle.std.proofs.Common.{◌≡◌, ◌≤◌, ◌<◌, ◌^◌, ℕ, [], length, Some, sym, ap, subst, ◌∙◌, inl, inr, slice_get}
+use Rattle.std.proofs.Common.{slice_index_or}
 use Rattle.std.specs.Prelude.{◌↔◌, All, Contains}
 use Rattle.std.proofs.lemmas.Bool.{cases_eq}
 use Rattle.tile_queues.specs.Queue.{AreDistinct}
@@ -20,12 +21,15 @@ pub record FitsLists (view : View) : Type 0 where
   pub cores : length view.cores ≡ view.settings.tiles
   pub commit_queues : All (λ ids. (length ids ≤ view.settings.commit_queue) × AreDistinct ids) view.finished
   pub core_counts : All (λ held. length held ≡ view.settings.cores) view.cores
-  pub finished_are : (tile id : ℕ) → Contains (finished_at view tile) id ↔ HasTask view tile id (λ status. status ≡ Finished)
-  pub held_are : (tile core id : ℕ) → (slice_get (cores_at view tile) core ≡ Some (Some id)) ↔ HasTask view tile id (λ status. HasCore status core)
+  pub finished_are : (tile id : ℕ)
+      → Contains (finished_at view tile) id ↔ HasTask view tile id (λ status. status ≡ Finished)
+  pub held_are : (tile core id : ℕ)
+      → (slice_get (cores_at view tile) core ≡ Some (Some id)) ↔ HasTask view tile id (λ status. HasCore status core)
 
 module _ (old new : View) (id : ℕ) (task behind : Task) (step : StepsOne old new id task behind) where
   -- a task whose status is of a kind has such a one still, where that is kept of the changed one
-  pub has_forth : (kind : Status → Type 0) → (kind task.status → kind behind.status) → (tile k : ℕ) → HasTask old tile k kind → HasTask (stepped_to old new) tile k kind
+  pub has_forth : (kind : Status → Type 0) → (kind task.status → kind behind.status) → (tile k : ℕ)
+      → HasTask old tile k kind → HasTask (stepped_to old new) tile k kind
   has_forth kind this tile k (x, at, in_tile, is) = elim (cases_eq k id) [
     | inl same_id ↦
         let both : Some x ≡ Some task = sym at ∙ ap (task_at old) same_id ∙ step.there in
@@ -35,19 +39,22 @@ module _ (old new : View) (id : ℕ) (task behind : Task) (step : StepsOne old n
   ]
 
   -- and had one
-  pub has_back : (kind : Status → Type 0) → (kind behind.status → kind task.status) → (tile k : ℕ) → HasTask (stepped_to old new) tile k kind → HasTask old tile k kind
+  pub has_back : (kind : Status → Type 0) → (kind behind.status → kind task.status) → (tile k : ℕ)
+      → HasTask (stepped_to old new) tile k kind → HasTask old tile k kind
   has_back kind this tile k (t, at, in_tile, is) =
       each_stepped old new id (stepped_task task behind) step.changes (λ j z. z.tile ≡ tile → kind z.status → HasTask old tile j kind)
       (λ j z other there in_this is_this. (z, there, in_this, is_this)) (λ in_this is_this. (task, step.there, in_this, this is_this)) k t at in_tile is
 
   -- lists that stay hold the same tasks, where the task is finished or on a core as before
-  pub lists_stay : SoundSizes old → new.finished ≡ old.finished → new.cores ≡ old.cores → (behind.status ≡ Finished) ↔ (task.status ≡ Finished)
+  pub lists_stay : SoundSizes old → new.finished ≡ old.finished → new.cores ≡ old.cores
+      → (behind.status ≡ Finished) ↔ (task.status ≡ Finished)
       → ((core : ℕ) → HasCore behind.status core ↔ HasCore task.status core) → FitsLists (stepped_to old new)
   lists_stay sizes finished cores ends holds =
       record {
         finished = ap length finished ∙ sizes.finished;
         cores = ap length cores ∙ sizes.cores;
-        commit_queues = subst (All (λ ids. (length ids ≤ old.settings.commit_queue) × AreDistinct ids)) (sym finished) sizes.commit_queues;
+        commit_queues =
+            subst (All (λ ids. (length ids ≤ old.settings.commit_queue) × AreDistinct ids)) (sym finished) sizes.commit_queues;
         core_counts = subst (All (λ held. length held ≡ old.settings.cores)) (sym cores) sizes.core_counts;
         finished_are = λ tile k. (
           λ has. has_forth (λ status. status ≡ Finished) ends.1 tile k
@@ -63,7 +70,8 @@ module _ (old new : View) (id : ℕ) (task behind : Task) (step : StepsOne old n
         );
       }
 
-  pub step_keeps_sizes : SoundSizes old → FitsLists (stepped_to old new) → length behind.bytes ≤ MAX_EMITTED → SoundSizes new
+  pub step_keeps_sizes : SoundSizes old → FitsLists (stepped_to old new) → length behind.bytes ≤ MAX_EMITTED
+      → SoundSizes new
   step_keeps_sizes sizes lists bytes = subst SoundSizes (sym step.rest)
       (record {
         settings = sizes.settings;
@@ -83,6 +91,7 @@ module _ (old new : View) (id : ℕ) (task behind : Task) (step : StepsOne old n
         kinds = λ k t at.
             (let from = origin old new id task behind step k t at in
             subst (λ z. z.kinds < 2 ^ depth_of z) (sym from.made) (sizes.kinds k from.was from.there));
-        bytes = each_stepped old new id (stepped_task task behind) step.changes (λ k t. length t.bytes ≤ MAX_EMITTED) (λ k t other at. sizes.bytes k t at) bytes;
+        bytes =
+            each_stepped old new id (stepped_task task behind) step.changes (λ k t. length t.bytes ≤ MAX_EMITTED) (λ k t other at. sizes.bytes k t at) bytes;
         spilled = sizes.spilled;
       })

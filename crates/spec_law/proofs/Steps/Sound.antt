@@ -25,9 +25,12 @@ use Rattle.spec_law.proofs.Steps.Sizes.{FitsLists, lists_stay, step_keeps_sizes}
 use Rattle.spec_law.proofs.Steps.Runs.{run_on}
 
 -- a step that leaves memory, log and children as they were, after which the task stands as its status says and the lists fit
-pub step_stays_sound : (image : ImageValue) (old new : View) (sound : Sound image old) (id : ℕ) (task behind : Task) → StepsOne old new id task behind
-    → new.memory ≡ old.memory → behind.log ≡ task.log → behind.lines ≡ task.lines → behind.spawns ≡ task.spawns → KeepsChildren task (stepped_task task behind)
-    → StandsAs image old.version old.settings.budget (stepped_task task behind) behind.status → FitsLists (stepped_to old new) → length behind.bytes ≤ MAX_EMITTED
+pub step_stays_sound : (image : ImageValue) (old new : View) (sound : Sound image old) (id : ℕ) (task behind : Task)
+    → StepsOne old new id task behind
+    → new.memory ≡ old.memory → behind.log ≡ task.log → behind.lines ≡ task.lines → behind.spawns ≡ task.spawns
+    → KeepsChildren task (stepped_task task behind)
+    → StandsAs image old.version old.settings.budget (stepped_task task behind) behind.status
+    → FitsLists (stepped_to old new) → length behind.bytes ≤ MAX_EMITTED
     → StaysSound image old sound new
 step_stays_sound image old new sound id task behind step memory log lines spawns all_children stands lists bytes = (
   record {
@@ -36,7 +39,8 @@ step_stays_sound image old new sound id task behind step memory log lines spawns
     is_run = subst (λ v. IsRun image v.settings.budget v.history sound.serial) (sym step.rest) sound.is_run;
     heir = sound.heir;
     is_heir = step_keeps_heir old new id task behind step sound.heir sound.is_heir;
-    tasks = step_keeps_tasks old new id task behind step all_children image sound.heir sound.serial sound.tasks spawns stands;
+    tasks =
+        step_keeps_tasks old new id task behind step all_children image sound.heir sound.serial sound.tasks spawns stands;
     memory = step_keeps_memory old new id task behind step sound.serial memory log lines sound.memory;
     order = step_keeps_order old new id task behind step sound.heir sound.order;
     sizes = step_keeps_sizes old new id task behind step sound.sizes lists bytes;
@@ -45,7 +49,8 @@ step_stays_sound image old new sound id task behind step memory log lines spawns
 )
 
 -- a change of one task and nothing else is a step of it
-pub keeps_steps : (old new : View) (id : ℕ) (task behind : Task) → task_at old id ≡ Some task → Keeps id (stepped_task task behind) old new → StepsOne old new id task behind
+pub keeps_steps : (old new : View) (id : ℕ) (task behind : Task) → task_at old id ≡ Some task
+    → Keeps id (stepped_task task behind) old new → StepsOne old new id task behind
 keeps_steps old new id task behind there keeps =
     record {
       there = there;
@@ -60,10 +65,14 @@ keeps_steps old new id task behind there keeps =
     }
 
 -- such a change keeps the view sound, where after it the task is finished, or on a core, just where it was before
-pub keeps_sound : (image : ImageValue) (old new : View) (sound : Sound image old) (id : ℕ) (task behind : Task) → task_at old id ≡ Some task
-    → Keeps id (stepped_task task behind) old new → behind.log ≡ task.log → behind.lines ≡ task.lines → behind.spawns ≡ task.spawns → KeepsChildren task (stepped_task task behind)
-    → StandsAs image old.version old.settings.budget (stepped_task task behind) behind.status → (behind.status ≡ Finished) ↔ (task.status ≡ Finished)
-    → ((core : ℕ) → HasCore behind.status core ↔ HasCore task.status core) → length behind.bytes ≤ MAX_EMITTED → StaysSound image old sound new
+pub keeps_sound : (image : ImageValue) (old new : View) (sound : Sound image old) (id : ℕ) (task behind : Task)
+    → task_at old id ≡ Some task
+    → Keeps id (stepped_task task behind) old new → behind.log ≡ task.log → behind.lines ≡ task.lines
+    → behind.spawns ≡ task.spawns → KeepsChildren task (stepped_task task behind)
+    → StandsAs image old.version old.settings.budget (stepped_task task behind) behind.status
+    → (behind.status ≡ Finished) ↔ (task.status ≡ Finished)
+    → ((core : ℕ) → HasCore behind.status core ↔ HasCore task.status core) → length behind.bytes ≤ MAX_EMITTED
+    → StaysSound image old sound new
 keeps_sound image old new sound id task behind there keeps log lines spawns all_children stands ends holds bytes =
     let step = keeps_steps old new id task behind there keeps in
     step_stays_sound image old new sound id task behind step (ap (λ v. v.memory) keeps.frame) log lines spawns all_children stands
@@ -72,7 +81,8 @@ keeps_sound image old new sound id task behind there keeps log lines spawns all_
 module _ (image : ImageValue) (old : View) (sound : Sound image old) (tile core id : ℕ) (leg : LegValue) (task : Task) (taken : IsLegOf image old tile core leg id task) where
   -- what a running task has done
   pub stood : StandsAs image old.version old.settings.budget task (Running core)
-  stood = subst (StandsAs image old.version old.settings.budget task) taken.takes.runs.running (sound.tasks.stands id task taken.takes.runs.on.there)
+  stood =
+      subst (StandsAs image old.version old.settings.budget task) taken.takes.runs.running (sound.tasks.stands id task taken.takes.runs.on.there)
 
   -- the leg is the run's next instructions
   pub ran_leg : RanTo image old.version old.settings.budget task (progress_at [] leg.to task)
@@ -82,7 +92,8 @@ module _ (image : ImageValue) (old : View) (sound : Sound image old) (tile core 
       (subst (λ from. PlainInstructions image image.data_size old.settings.budget leg.steps from leg.to) (sym taken.takes.from) taken.run.run)
 
   -- what it asks for at the end of the leg it asks for next in its run
-  pub asks_next : (request : Request) → request_of old task leg ≡ request → request ≢ Continue → AsksNext image old.version old.settings.budget task (progress_at [] leg.to task) request
+  pub asks_next : (request : Request) → request_of old task leg ≡ request → request ≢ Continue
+      → AsksNext image old.version old.settings.budget task (progress_at [] leg.to task) request
   asks_next request asks other = record {
     found = leg.stop;
     stands = taken.run.next (λ full. other (sym asks ∙ ap (request_at (context_of old.version task) leg.to) full));

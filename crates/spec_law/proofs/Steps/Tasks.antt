@@ -1,5 +1,6 @@
 -- A step of one task keeps the group of tasks, where the task stands as its new status says.
-use Rattle.std.proofs.Common.{◌≡◌, ℕ, length, Option, Some, sym, ap, subst, ◌∙◌, inl, inr, slice_get, is_some, unwrap_or}
+use Rattle.std.proofs.Common.{◌≡◌, ℕ, length, Option, Some, sym, ap, subst, ◌∙◌, inl, inr, slice_get, is_some}
+use Rattle.std.proofs.Common.{unwrap_or}
 use Rattle.std.proofs.lemmas.Bool.{cases_eq}
 use Rattle.guest_image.specs.ImageValue.{ImageValue}
 use Rattle.serial_machine.specs.State.{SerialState}
@@ -42,7 +43,8 @@ module _ (old new : View) (id : ℕ) (task behind : Task) (step : StepsOne old n
 
   -- the domains of a task of a committed creator
   pub domains_still : (image : ImageValue) (heir : Option ℕ) (serial : SerialState) → SoundTasks image old heir serial
-      → (k : ℕ) (t : Task) (turn index : ℕ) → task_at new k ≡ Some t → t.creator ≡ Committed turn index → FitsBags (domains_of t.kinds t.key.domain) serial.stack
+      → (k : ℕ) (t : Task) (turn index : ℕ) → task_at new k ≡ Some t → t.creator ≡ Committed turn index
+      → FitsBags (domains_of t.kinds t.key.domain) serial.stack
   domains_still image heir serial sound k t turn index at creator =
       let from = origin old new id task behind step k t at in
       subst (λ z. FitsBags (domains_of z.kinds z.key.domain) serial.stack) (sym from.made)
@@ -59,28 +61,35 @@ module _ (old new : View) (id : ℕ) (task behind : Task) (step : StepsOne old n
       (sound.children k from.was creator index from.there (sym (ap (λ z. z.creator) from.made) ∙ is)))
 
   -- all tasks stand as their statuses say, where this one does
-  pub stand_still : (image : ImageValue) (heir : Option ℕ) (serial : SerialState) → SoundTasks image old heir serial → StandsAs image old.version old.settings.budget (stepped_task task behind) behind.status
+  pub stand_still : (image : ImageValue) (heir : Option ℕ) (serial : SerialState) → SoundTasks image old heir serial
+      → StandsAs image old.version old.settings.budget (stepped_task task behind) behind.status
       → (k : ℕ) (t : Task) → task_at new k ≡ Some t → StandsAs image old.version old.settings.budget t t.status
   stand_still image heir serial sound stands =
       each_stepped old new id (stepped_task task behind) step.changes (λ k t. StandsAs image old.version old.settings.budget t t.status) (λ k t other at. sound.stands k t at) stands
 
   -- the group of the view whose other parts are the old ones
-  kept : (image : ImageValue) (heir : Option ℕ) (serial : SerialState) → SoundTasks image old heir serial → behind.spawns ≡ task.spawns
-      → StandsAs image old.version old.settings.budget (stepped_task task behind) behind.status → SoundTasks image (stepped_to old new) heir serial
+  kept : (image : ImageValue) (heir : Option ℕ) (serial : SerialState) → SoundTasks image old heir serial
+      → behind.spawns ≡ task.spawns
+      → StandsAs image old.version old.settings.budget (stepped_task task behind) behind.status
+      → SoundTasks image (stepped_to old new) heir serial
   kept image heir serial sound spawns stands =
       record {
         few = sound.few;
         output = sound.output;
-        names = subst (λ tasks. AreSound (length old.history) (unwrap_or heir 0) (is_some heir) tasks (bags_spilled old)) (sym (bags_same old new id task behind step spawns)) sound.names;
-        matches = subst (λ tasks. Matches (length old.history) tasks (bags_spilled old) serial.stack) (sym (bags_same old new id task behind step spawns)) sound.matches;
+        names =
+            subst (λ tasks. AreSound (length old.history) (unwrap_or heir 0) (is_some heir) tasks (bags_spilled old)) (sym (bags_same old new id task behind step spawns)) sound.names;
+        matches =
+            subst (λ tasks. Matches (length old.history) tasks (bags_spilled old) serial.stack) (sym (bags_same old new id task behind step spawns)) sound.matches;
         domains = domains_still image heir serial sound;
         spilled_domains = sound.spilled_domains;
         stands = stand_still image heir serial sound stands;
         children = children_still image heir serial sound;
-        spilled_children = λ s has next. (let was = sound.spilled_children s has next in (was.0, was.1, made_still was.0 s.desc.name.index (spilled_descriptor s) was.2));
+        spilled_children =
+            λ s has next. (let was = sound.spilled_children s has next in (was.0, was.1, made_still was.0 s.desc.name.index (spilled_descriptor s) was.2));
       }
 
-  pub step_keeps_tasks : (image : ImageValue) (heir : Option ℕ) (serial : SerialState) → SoundTasks image old heir serial → behind.spawns ≡ task.spawns
+  pub step_keeps_tasks : (image : ImageValue) (heir : Option ℕ) (serial : SerialState)
+      → SoundTasks image old heir serial → behind.spawns ≡ task.spawns
       → StandsAs image old.version old.settings.budget (stepped_task task behind) behind.status
       → SoundTasks image new heir serial
   step_keeps_tasks image heir serial sound spawns stands =

@@ -1,5 +1,6 @@
 -- All uncommitted tasks by id: the queued ones under their own, and each spilled one under some id behind those.
-use Rattle.std.proofs.Common.{◌≡◌, ◌⊎◌, ℕ, ◌+◌, ◌-◌, ◌<◌, Bool, true, false, length, map, Option, Some, None, option_map, sym, ap, ◌∙◌, inl, inr, arith, slice_get, if◌then◌else◌, nat_lt}
+use Rattle.std.proofs.Common.{◌≡◌, ◌⊎◌, ℕ, ◌+◌, ◌-◌, ◌<◌, Bool, true, false, length, map, Option, Some, None}
+use Rattle.std.proofs.Common.{option_map, sym, ap, ◌∙◌, inl, inr, arith, slice_get, if◌then◌else◌, nat_lt}
 use Rattle.std.proofs.lemmas.Bool.{cases_lt, lt-ltb}
 use Rattle.std.proofs.lemmas.List.{get_or_past}
 use Rattle.std.proofs.lemmas.Option.{slice_get-map}
@@ -24,13 +25,15 @@ module _ (view : View) (heir : Option ℕ) where
   spilled_in_keys = keyed_spilled (length view.history) heir
 
   -- a queued task stands under its id
-  pub queued_stands : (id : ℕ) (task : Task) → task_at view id ≡ Some task → all_keyed view heir id ≡ Some (keyed_task task)
+  pub queued_stands : (id : ℕ) (task : Task) → task_at view id ≡ Some task
+      → all_keyed view heir id ≡ Some (keyed_task task)
   queued_stands id task at =
       ap (λ b. if b then keyed_tasks view id else slice_get (map spilled_in_keys (all_spilled view)) (id - length view.tasks)) (lt-ltb id (length view.tasks) (id_below view id task at))
       ∙ ap (option_map keyed_task) at
 
   -- a spilled task stands under some id
-  pub spilled_stands : (k : ℕ) (s : Spilled) → slice_get (all_spilled view) k ≡ Some s → (id : ℕ) × (all_keyed view heir id ≡ Some (spilled_in_keys s))
+  pub spilled_stands : (k : ℕ) (s : Spilled) → slice_get (all_spilled view) k ≡ Some s
+      → (id : ℕ) × (all_keyed view heir id ≡ Some (spilled_in_keys s))
   spilled_stands k s at =
       let bound = length view.tasks in
       let same : bound + k - bound ≡ k = omega arith in (
@@ -53,7 +56,8 @@ module _ (view : View) (heir : Option ℕ) where
   pub which : (k : ℕ) (x : Keyed) → all_keyed view heir k ≡ Some x → IsQueuedThere k x ⊎ IsSpilledThere x
   which k x at = by_test (nat_lt k (length view.tasks)) at
     where
-      by_test : (b : Bool) → (if b then keyed_tasks view k else slice_get (map spilled_in_keys (all_spilled view)) (k - length view.tasks)) ≡ Some x
+      by_test : (b : Bool)
+          → (if b then keyed_tasks view k else slice_get (map spilled_in_keys (all_spilled view)) (k - length view.tasks)) ≡ Some x
           → IsQueuedThere k x ⊎ IsSpilledThere x
       by_test true e = inl (mapped_some keyed_task (task_at view k) x e)
       by_test false e =

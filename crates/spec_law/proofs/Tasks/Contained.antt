@@ -28,13 +28,15 @@ some_first [] none = absurd (none refl)
 some_first (id ∷ ids) some = (id, (0, omega arith, refl))
 
 -- a list around the element at a place
-around : {X : Type 0} (xs : List X) (place : ℕ) (x : X) → slice_get xs place ≡ Some x → xs ≡ take place xs ++ x ∷ drop (suc place) xs
+around : {X : Type 0} (xs : List X) (place : ℕ) (x : X) → slice_get xs place ≡ Some x
+    → xs ≡ take place xs ++ x ∷ drop (suc place) xs
 around [] place x at = absurd (cc)
 around (y ∷ xs) zero x at = let same : y ≡ x = cc in λ i. same i ∷ xs
 around (y ∷ xs) (suc place) x at = ap (λ ys. y ∷ ys) (around xs place x at)
 
 -- where one list of several loses an element, all of them together lose it at one place
-pub less_in_one : {X : Type 0} (lists : List (List X)) (at place : ℕ) (x : X) → slice_get (slice_index_or lists at []) place ≡ Some x
+pub less_in_one : {X : Type 0} (lists : List (List X)) (at place : ℕ) (x : X)
+    → slice_get (slice_index_or lists at []) place ≡ Some x
     → (front : List X) × (back : List X) × (flat_map (λ xs. xs) lists ≡ front ++ x ∷ back)
     × (flat_map (λ xs. xs) (slice_set lists at (remove (slice_index_or lists at []) place)) ≡ front ++ back)
 less_in_one [] at place x is = absurd (cc)

@@ -11,7 +11,8 @@ use Rattle.spec_law.proofs.Tasks.Places.{contained_in_map}
 
 -- a name with the next commit number is that of a child of the heir, where there is one
 heir_name : (view : View) (heir : Option ℕ) (name : Name)
-    → IsHeir view heir → is_some heir ≡ true → name.creator ≡ length view.history + 1 → (creator : Creator) × HasName view creator name
+    → IsHeir view heir → is_some heir ≡ true → name.creator ≡ length view.history + 1
+    → (creator : Creator) × HasName view creator name
 heir_name view None name is_heir some next = absurd (cc)
 heir_name view (Some id) name is_heir some next =
     (Live (record { 0 = id }) name.index, (is_heir, λ i. record { creator = next i; index = name.index }))

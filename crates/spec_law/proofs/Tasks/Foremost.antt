@@ -11,7 +11,8 @@ use Rattle.task_law.specs.Tasks.{IsFree, IsSpilled}
 use Rattle.spec_state.specs.declared.task.Creator.{Creator}
 use Rattle.spec_state.specs.declared.task.Creator.TheVariants.{Committed, Live}
 use Rattle.spec_state.specs.View.{View, task_at}
-use Rattle.spec_state.specs.Groups.{live_creator, keyed_task, all_keyed, all_spilled, heir_unless, bag_creator, bag_task, bag_tasks, bag_spilled, bags_spilled}
+use Rattle.spec_state.specs.Groups.{live_creator, keyed_task, all_keyed, all_spilled, heir_unless, bag_creator}
+use Rattle.spec_state.specs.Groups.{bag_task, bag_tasks, bag_spilled, bags_spilled}
 use Rattle.spec_law.specs.Sound.{SoundSizes}
 use Rattle.spec_law.proofs.Tasks.Places.{in_mapped, get_contains}
 use Rattle.spec_law.proofs.Tasks.Beside.{spilled_in_keys, queued_stands, spilled_stands}
@@ -70,7 +71,8 @@ module _ (view : View) (sizes : SoundSizes view) (heir : Option ℕ) where
     pub first : (p : PendingTask) → Free depth p → ts ≤ p.ts
 
   -- a task that stands innermost has the depth and the timestamp of a foremost one
-  pub foremost : (x : Keyed) (depth ts : ℕ) → IsInnermost (all_keyed view heir) x → length x.domain + 1 ≡ depth → x.last.ts ≡ ts → IsForemost depth ts
+  pub foremost : (x : Keyed) (depth ts : ℕ) → IsInnermost (all_keyed view heir) x → length x.domain + 1 ≡ depth
+      → x.last.ts ≡ ts → IsForemost depth ts
   foremost x depth ts inner deep timed = record {
     deepest = λ d p free.
         let f = free_is_keyed d p free in

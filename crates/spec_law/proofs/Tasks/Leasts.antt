@@ -26,7 +26,8 @@ ranked_self key tile place =
 
 module _ (view : View) (sizes : SoundSizes view) where
   -- a task stands in its own tile alone
-  own_tile : (tile place id : ℕ) (task x : Task) → IsQueuedAt view tile place id task → task_at view id ≡ Some x → x.tile ≡ tile
+  own_tile : (tile place id : ℕ) (task x : Task) → IsQueuedAt view tile place id task → task_at view id ≡ Some x
+      → x.tile ≡ tile
   own_tile tile place id task x at there =
       let has = (sizes.queued_are tile id).0 (get_contains (queue_at view tile) place id at.queued) in
       let both : Some has.0 ≡ Some x = sym has.1 ∙ there in
@@ -34,7 +35,8 @@ module _ (view : View) (sizes : SoundSizes view) where
       sym (ap (λ t. t.tile) same) ∙ has.2
 
   -- and at one place
-  own_place : (p q id : ℕ) (x t : Task) (tile : ℕ) → IsQueuedAt view x.tile p id x → IsQueuedAt view tile q id t → x.tile ≡ tile → q ≡ p
+  own_place : (p q id : ℕ) (x t : Task) (tile : ℕ) → IsQueuedAt view x.tile p id x → IsQueuedAt view tile q id t
+      → x.tile ≡ tile → q ≡ p
   own_place p q id x t tile at at' same =
       one_place (queue_at view x.tile) q p id (distinct_at view.settings.task_queue view.queues x.tile sizes.task_queues)
       (subst (λ k. slice_get (queue_at view k) q ≡ Some id) (sym same) at'.queued) at.queued
@@ -45,12 +47,17 @@ module _ (view : View) (sizes : SoundSizes view) where
       → ((tile place : ℕ) (s : Spilled) → slice_get (block_at view tile) place ≡ Some s → key_cmp x.key (open_key s) ≢ Greater)
       → IsLeastTask view id x
   makes_least id x there others spilled =
-      record { place = spot.0; queued_at = spot.1; least = record { key = x.key; has = (id, x, spot.1, refl); least = by_spot } }
+      record {
+        place = spot.0;
+        queued_at = spot.1;
+        least = record { key = x.key; has = (id, x, spot.1, refl); least = by_spot };
+      }
     where
       spot : (place : ℕ) × IsQueuedAt view x.tile place id x
       spot = queued_at view sizes id x there
 
-      by_spot : (other : Spot) (key : Key) → HasKey view other key → ranked_cmp x.key (Queued x.tile (queued_at view sizes id x there).0) key other ≢ Greater
+      by_spot : (other : Spot) (key : Key) → HasKey view other key
+          → ranked_cmp x.key (Queued x.tile (queued_at view sizes id x there).0) key other ≢ Greater
       by_spot (Queued tile place) key has = λ greater. elim (cases_eq has.0 id) [
         | inl same ↦
             let at : IsQueuedAt view tile place id has.1 = subst (λ k. IsQueuedAt view tile place k has.1) same has.2 in

@@ -1,5 +1,6 @@
 -- Of the tasks under ids below a bound, if there are any, there is one that none is below.
-use Rattle.std.proofs.Common.{◌≡◌, ◌⊎◌, ◌<◌, ℕ, zero, suc, false, Option, Some, None, refl, sym, ap, subst, ◌∙◌, inl, inr, arith}
+use Rattle.std.proofs.Common.{◌≡◌, ◌⊎◌, ◌<◌, ℕ, zero, suc, false, Option, Some, None, refl, sym, ap, subst, ◌∙◌, inl}
+use Rattle.std.proofs.Common.{inr, arith}
 use Rattle.std.proofs.lemmas.Bool.{cases_eq}
 use Rattle.std.proofs.lemmas.Cmp.{tied_itself, upto}
 use Rattle.std.specs.Ordering.{is_gt, ordering_reverse}
@@ -24,7 +25,8 @@ turned : (x z : Keyed) → levels_cmp (levels_of x) (levels_of z) ≡ Greater �
 turned x z greater = ap is_gt (levels_cmp_total.antisymm (levels_of z) (levels_of x) ∙ ap ordering_reverse greater)
 
 -- with one task more there is a lowest one still
-with_one : (tasks : ℕ → Option Keyed) (bound : ℕ) (z : Keyed) → tasks bound ≡ Some z → IsLowest tasks bound → IsLowest tasks (suc bound)
+with_one : (tasks : ℕ → Option Keyed) (bound : ℕ) (z : Keyed) → tasks bound ≡ Some z → IsLowest tasks bound
+    → IsLowest tasks (suc bound)
 with_one tasks bound z is low = by_order (levels_cmp (levels_of low.task) (levels_of z)) refl
   where
     same_task : (k : ℕ) (y : Keyed) → k ≡ bound → tasks k ≡ Some y → y ≡ z
@@ -62,7 +64,8 @@ lowest tasks (suc bound) = by_task (tasks bound) refl (lowest tasks bound)
   where
     by_task : (o : Option Keyed) → tasks bound ≡ o → ((k : ℕ) → k < bound → tasks k ≡ None) ⊎ IsLowest tasks bound
         → ((k : ℕ) → k < suc bound → tasks k ≡ None) ⊎ IsLowest tasks (suc bound)
-    by_task None is (inl none) = inl (λ k below. elim (cases_eq k bound) [ inl same ↦ ap tasks same ∙ is | inr other ↦ none k (omega (arith, other)) ])
+    by_task None is (inl none) =
+        inl (λ k below. elim (cases_eq k bound) [ inl same ↦ ap tasks same ∙ is | inr other ↦ none k (omega (arith, other)) ])
     by_task None is (inr low) = inr (record {
       id = low.id;
       task = low.task;

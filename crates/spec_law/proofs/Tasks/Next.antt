@@ -1,5 +1,6 @@
 -- In a sound view the least task may take the serial machine's next turn.
-use Rattle.std.proofs.Common.{◌≡◌, ◌≢◌, ℕ, ◌+◌, ◌≤◌, le_refl, nat_le, false, length, map, Option, Some, None, is_some, unwrap_or, option_map, refl, sym, ap, ◌∙◌, inl, inr, arith, slice_get}
+use Rattle.std.proofs.Common.{◌≡◌, ◌≢◌, ℕ, ◌+◌, ◌≤◌, le_refl, nat_le, false, length, map, Option, Some, None, is_some}
+use Rattle.std.proofs.Common.{unwrap_or, option_map, refl, sym, ap, ◌∙◌, inl, inr, arith, slice_get}
 use Rattle.std.proofs.lemmas.Bool.Decides.{nat_tests}
 use Rattle.std.proofs.lemmas.List.{length-map, get_or_past}
 use Rattle.std.proofs.lemmas.Option.{slice_get_read, slice_get-map}
@@ -21,7 +22,8 @@ use Rattle.spec_state.specs.declared.task.Creator.TheVariants.{Committed, Live}
 use Rattle.spec_state.specs.declared.task.Task.{Task}
 use Rattle.spec_state.specs.View.{View, task_at, queue_at, block_at}
 use Rattle.spec_state.specs.Tasks.{depth_of}
-use Rattle.spec_state.specs.Groups.{live_creator, heir_unless, keyed_task, all_keyed, all_spilled, bag_creator, bag_task, bag_tasks, bag_spilled, bags_spilled}
+use Rattle.spec_state.specs.Groups.{live_creator, heir_unless, keyed_task, all_keyed, all_spilled, bag_creator}
+use Rattle.spec_state.specs.Groups.{bag_task, bag_tasks, bag_spilled, bags_spilled}
 use Rattle.spec_state.specs.Least.{Spot, Queued, Spilled_at, IsQueuedAt, HasKey, spot_cmp, IsLeastSpot, IsLeastTask}
 use Rattle.spec_law.specs.Laws.{MayTakeTurn, LeastIsNext, LeastSpilledIsNext}
 use Rattle.spec_law.specs.Sound.{Sound, SoundSizes}
@@ -38,7 +40,8 @@ none_is_committed (Committed turn index) e = (turn, index, refl)
 none_is_committed (Live task index) e = absurd (cc (e))
 
 -- the key at a place of a queue is that of the task there
-pub queued_key : (view : View) (tile place id : ℕ) (task : Task) (key : Key) → IsQueuedAt view tile place id task → HasKey view (Queued tile place) key → key ≡ task.key
+pub queued_key : (view : View) (tile place id : ℕ) (task : Task) (key : Key) → IsQueuedAt view tile place id task
+    → HasKey view (Queued tile place) key → key ≡ task.key
 queued_key view tile place id task key at has =
     let ids : Some has.0 ≡ Some id = sym has.2.queued ∙ at.queued in
     let id_is : has.0 ≡ id = cc in
@@ -47,7 +50,8 @@ queued_key view tile place id task key at has =
     has.3 ∙ ap (λ t. t.key) task_is
 
 -- the key at a place of a block is that of the task there
-pub spilled_key_is : (view : View) (tile place : ℕ) (s : Spilled) (key : Key) → slice_get (block_at view tile) place ≡ Some s → HasKey view (Spilled_at tile place) key → key ≡ open_key s
+pub spilled_key_is : (view : View) (tile place : ℕ) (s : Spilled) (key : Key)
+    → slice_get (block_at view tile) place ≡ Some s → HasKey view (Spilled_at tile place) key → key ≡ open_key s
 spilled_key_is view tile place s key at has =
     let both : Some has.0 ≡ Some s = sym has.1 ∙ at in
     let same : has.0 ≡ s = cc in
@@ -58,7 +62,8 @@ pub above_test : (a b : ℕ) → a ≡ b + 1 → nat_le a b ≡ false
 above_test a b above = grind (arith, nat_tests)
 
 -- a spilled task is one for the bags
-pub in_spilled : (view : View) (k : ℕ) (s : Spilled) → slice_get (all_spilled view) k ≡ Some s → IsSpilled (bags_spilled view) s.desc.depth (bag_spilled s).task
+pub in_spilled : (view : View) (k : ℕ) (s : Spilled) → slice_get (all_spilled view) k ≡ Some s
+    → IsSpilled (bags_spilled view) s.desc.depth (bag_spilled s).task
 in_spilled view k s at = in_map bag_spilled (all_spilled view) k s at
 
 -- the spot of a task, queued or spilled, with its levels
@@ -87,11 +92,17 @@ module _ (view : View) (sizes : SoundSizes view) (heir : Option ℕ) where
         }
     | inr s ↦
         let at_tile = place_in_one view.blocks s.0 s.1 s.2 in
-        record { spot = Spilled_at at_tile.0 at_tile.1; key = open_key s.1; has = (s.1, at_tile.2, refl); same = ap order.levels_of s.3 }
+        record {
+          spot = Spilled_at at_tile.0 at_tile.1;
+          key = open_key s.1;
+          has = (s.1, at_tile.2, refl);
+          same = ap order.levels_of s.3;
+        }
   ]
 
   -- below what stands at the least spot ranks no task
-  pub none_below : (spot : Spot) (least : IsLeastSpot view spot) (k : ℕ) (x : Keyed) → all_keyed view heir k ≡ Some x → levels_cmp (levels least.key) (order.levels_of x) ≢ Greater
+  pub none_below : (spot : Spot) (least : IsLeastSpot view spot) (k : ℕ) (x : Keyed) → all_keyed view heir k ≡ Some x
+      → levels_cmp (levels least.key) (order.levels_of x) ≢ Greater
   none_below spot least k x at e =
       let one = spot_of k x at in
       first_not_greater (key_cmp least.key one.key) (spot_cmp spot one.spot) (least.least one.spot one.key one.has)
@@ -99,7 +110,8 @@ module _ (view : View) (sizes : SoundSizes view) (heir : Option ℕ) where
 
 module _ (image : ImageValue) (view : View) (sound : Sound image view) where
   -- the task at the least spot stands innermost in the order of tasks
-  pub least_is_innermost : (spot : Spot) (least : IsLeastSpot view spot) (k : ℕ) (x : Keyed) → all_keyed view sound.heir k ≡ Some x → order.levels_of x ≡ levels least.key
+  pub least_is_innermost : (spot : Spot) (least : IsLeastSpot view spot) (k : ℕ) (x : Keyed)
+      → all_keyed view sound.heir k ≡ Some x → order.levels_of x ≡ levels least.key
       → IsInnermost (all_keyed view sound.heir) x
   least_is_innermost spot least k x at same =
       innermost (all_keyed view sound.heir) (map closed_level view.path) view.next k x sound.order.order
@@ -117,25 +129,29 @@ module _ (image : ImageValue) (view : View) (sound : Sound image view) where
         turn = by.0;
         index = by.1;
         creator = by.2;
-        next = least_has_turn (length view.history) (unwrap_or sound.heir 0) id by.0 by.1 (is_some sound.heir) (bag_tasks view) (bags_spilled view)
+        next =
+            least_has_turn (length view.history) (unwrap_or sound.heir 0) id by.0 by.1 (is_some sound.heir) (bag_tasks view) (bags_spilled view)
             sound.serial.stack (bag_task task) sound.tasks.names sound.tasks.matches
             (run_stack image view.settings.budget view.history sound.serial sound.is_run)
             (record { there = ap (option_map bag_task) is.queued_at.there; creator = ap bag_creator by.2; deepest = front.deepest; first = front.first });
       }
 
   -- a spilled task without an uncommitted creator has a committed one: were it a child of the heir, the heir would be its creator
-  pub firm_is_committed : (k : ℕ) (s : Spilled) → slice_get (all_spilled view) k ≡ Some s → heir_unless (nat_le s.desc.name.creator (length view.history)) sound.heir ≡ None
+  pub firm_is_committed : (k : ℕ) (s : Spilled) → slice_get (all_spilled view) k ≡ Some s
+      → heir_unless (nat_le s.desc.name.creator (length view.history)) sound.heir ≡ None
       → s.desc.name.creator ≤ length view.history
-  firm_is_committed k s at none = elim (sound.tasks.names.firm s.desc.depth (bag_spilled s).task (in_spilled view k s at)) [
-    | inl low ↦ low
-    | inr next ↦
-        let high : nat_le s.desc.name.creator (length view.history) ≡ false = above_test s.desc.name.creator (length view.history) next.0 in
-        let no_heir : sound.heir ≡ None = sym (ap (λ b. heir_unless b sound.heir) high) ∙ none in
-        absurd (cc (ap is_some no_heir, next.1))
-  ]
+  firm_is_committed k s at none =
+      elim (sound.tasks.names.firm s.desc.depth (bag_spilled s).task (in_spilled view k s at)) [
+        | inl low ↦ low
+        | inr next ↦
+            let high : nat_le s.desc.name.creator (length view.history) ≡ false = above_test s.desc.name.creator (length view.history) next.0 in
+            let no_heir : sound.heir ≡ None = sym (ap (λ b. heir_unless b sound.heir) high) ∙ none in
+            absurd (cc (ap is_some no_heir, next.1))
+      ]
 
   -- where a spilled task is the least, it may take the next turn, once it has come back
-  spilled_may_take_turn : (tile place : ℕ) (s : Spilled) → IsLeastSpot view (Spilled_at tile place) → slice_get (block_at view tile) place ≡ Some s
+  spilled_may_take_turn : (tile place : ℕ) (s : Spilled) → IsLeastSpot view (Spilled_at tile place)
+      → slice_get (block_at view tile) place ≡ Some s
       → (s.desc.name.creator ≤ length view.history) × HasTurn sound.serial.stack s.desc.depth (bag_spilled s).task
   spilled_may_take_turn tile place s is at =
       let key : is.key ≡ open_key s = spilled_key_is view tile place s is.key at is.has in

@@ -11,7 +11,8 @@ use Rattle.spec_state.proofs.Proved.{tied_place}
 use Rattle.spec_law.specs.Laws.{LeastIsOne}
 
 -- two answers after one another, from those the other way round
-then_turned : (o p q r : Ordering) → o ≡ ordering_reverse q → p ≡ ordering_reverse r → ordering_then o p ≡ ordering_reverse (ordering_then q r)
+then_turned : (o p q r : Ordering) → o ≡ ordering_reverse q → p ≡ ordering_reverse r
+    → ordering_then o p ≡ ordering_reverse (ordering_then q r)
 then_turned o p Less r first second = ap (λ x. ordering_then x p) first
 then_turned o p Equal r first second = ap (λ x. ordering_then x p) first ∙ second
 then_turned o p Greater r first second = ap (λ x. ordering_then x p) first
@@ -24,7 +25,8 @@ not_greater_ties o Greater turned low high = absurd (high refl)
 
 -- places the other way round
 place_turned : (t p u q : ℕ) → place_cmp t p u q ≡ ordering_reverse (place_cmp u q t p)
-place_turned t p u q = then_turned (nat_cmp t u) (nat_cmp p q) (nat_cmp u t) (nat_cmp q p) (nat_cmp_total.antisymm t u) (nat_cmp_total.antisymm p q)
+place_turned t p u q =
+    then_turned (nat_cmp t u) (nat_cmp p q) (nat_cmp u t) (nat_cmp q p) (nat_cmp_total.antisymm t u) (nat_cmp_total.antisymm p q)
 
 -- spots the other way round
 pub spot_turned : (a b : Spot) → spot_cmp a b ≡ ordering_reverse (spot_cmp b a)
@@ -41,8 +43,10 @@ same_spot (Spilled_at t p) (Queued u q) e = absurd (cc)
 same_spot (Spilled_at t p) (Spilled_at u q) e = let both = tied_place t p u q e in λ i. Spilled_at (both.0 i) (both.1 i)
 
 -- ranks the other way round
-pub ranked_turned : (key : Key) (a : Spot) (other : Key) (b : Spot) → ranked_cmp key a other b ≡ ordering_reverse (ranked_cmp other b key a)
-ranked_turned key a other b = then_turned _ (spot_cmp a b) _ (spot_cmp b a) (key_cmp_total.antisymm key other) (spot_turned a b)
+pub ranked_turned : (key : Key) (a : Spot) (other : Key) (b : Spot)
+    → ranked_cmp key a other b ≡ ordering_reverse (ranked_cmp other b key a)
+ranked_turned key a other b =
+    then_turned _ (spot_cmp a b) _ (spot_cmp b a) (key_cmp_total.antisymm key other) (spot_turned a b)
 
 -- two spots of least tasks are one
 pub least_is_one : LeastIsOne

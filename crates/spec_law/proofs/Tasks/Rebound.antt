@@ -1,6 +1,8 @@
 -- Another bound for the ids of spilled tasks renames them and keeps the order of all uncommitted tasks; and so an abort that spares the heir
 -- keeps it.
-use Rattle.std.proofs.Common.{◌≡◌, ◌∷◌, [], ℕ, zero, suc, ◌+◌, ◌-◌, ◌<◌, Bool, true, false, List, length, Option, Some, None, refl, sym, ap, subst, ◌∙◌, inl, inr, arith, map, slice_get, nat_lt, nat_le, if◌then◌else◌}
+use Rattle.std.proofs.Common.{◌≡◌, ◌∷◌, [], ℕ, zero, suc, ◌+◌, ◌-◌, ◌<◌, Bool, true, false, List, length, Option, Some}
+use Rattle.std.proofs.Common.{None, refl, sym, ap, subst, ◌∙◌, inl, inr, arith, map, slice_get, nat_lt, nat_le}
+use Rattle.std.proofs.Common.{if◌then◌else◌}
 use Rattle.std.proofs.lemmas.Option.{slice_get_within}
 use Rattle.fractal_vt.specs.Levels.{closed_level}
 use Rattle.order_law.specs.Tasks.{Keyed}
@@ -30,16 +32,19 @@ module _ (bound : ℕ) (tasks : ℕ → Option Keyed) (spilled_list : List Keyed
   high_is k high = ap (λ b. if b then tasks k else slice_get spilled_list (k - bound)) high
 
   -- where tasks stand below the bound, nothing stands behind the spilled ones
-  pub below_all : ((k : ℕ) (x : Keyed) → tasks k ≡ Some x → k < bound) → (k : ℕ) (x : Keyed) → beside bound tasks spilled_list k ≡ Some x → k < bound + length spilled_list
+  pub below_all : ((k : ℕ) (x : Keyed) → tasks k ≡ Some x → k < bound) → (k : ℕ) (x : Keyed)
+      → beside bound tasks spilled_list k ≡ Some x → k < bound + length spilled_list
   below_all bounded k x at = by_test (nat_lt k bound) refl
     where
       by_test : (b : Bool) → nat_lt k bound ≡ b → k < bound + length spilled_list
       by_test true low = let here = bounded k x (sym (low_is k low) ∙ at) in omega arith
-      by_test false high = let place = slice_get_within spilled_list (k - bound) x (sym (high_is k high) ∙ at) in omega arith
+      by_test false high =
+          let place = slice_get_within spilled_list (k - bound) x (sym (high_is k high) ∙ at) in omega arith
 
 -- spilled tasks stand under other ids where the bound is another one
 pub rebound : (bound other : ℕ) (tasks : ℕ → Option Keyed) (spilled_list : List Keyed)
-    → ((k : ℕ) (x : Keyed) → tasks k ≡ Some x → (k < bound) × (k < other)) → ((x : Keyed) → IsAmongSpilled x spilled_list → x.last.tb ≡ None)
+    → ((k : ℕ) (x : Keyed) → tasks k ≡ Some x → (k < bound) × (k < other))
+    → ((x : Keyed) → IsAmongSpilled x spilled_list → x.last.tb ≡ None)
     → Renames (beside bound tasks spilled_list) (beside other tasks spilled_list)
 rebound bound other tasks spilled_list bounded idle =
     record {
@@ -59,19 +64,23 @@ rebound bound other tasks spilled_list bounded idle =
 
 -- what is read of a spilled task is idle, and has no creator that is uncommitted but the heir
 module _ (count : ℕ) (heir : Option ℕ) where
-  pub spilled_of : (spilled_list : List Spilled) (x : Keyed) (place : ℕ) → slice_get (map (keyed_spilled count heir) spilled_list) place ≡ Some x → (s : Spilled) × (x ≡ keyed_spilled count heir s)
+  pub spilled_of : (spilled_list : List Spilled) (x : Keyed) (place : ℕ)
+      → slice_get (map (keyed_spilled count heir) spilled_list) place ≡ Some x
+      → (s : Spilled) × (x ≡ keyed_spilled count heir s)
   spilled_of [] x place at = absurd (cc)
   spilled_of (s ∷ spilled_list) x zero at = let same : keyed_spilled count heir s ≡ x = cc in (s, sym same)
   spilled_of (s ∷ spilled_list) x (suc place) at = spilled_of spilled_list x place at
 
-  pub spilled_idle : (spilled_list : List Spilled) (x : Keyed) → IsAmongSpilled x (map (keyed_spilled count heir) spilled_list) → x.last.tb ≡ None
+  pub spilled_idle : (spilled_list : List Spilled) (x : Keyed)
+      → IsAmongSpilled x (map (keyed_spilled count heir) spilled_list) → x.last.tb ≡ None
   spilled_idle spilled_list x is = let read = spilled_of spilled_list x is.0 is.1 in ap (λ t. t.last.tb) read.1
 
   heir_is : (b : Bool) (c : ℕ) → heir_unless b heir ≡ Some c → heir ≡ Some c
   heir_is true c is = absurd (cc)
   heir_is false c is = is
 
-  pub spilled_creator : (spilled_list : List Spilled) (x : Keyed) (c : ℕ) → IsAmongSpilled x (map (keyed_spilled count heir) spilled_list) → x.creator ≡ Some c → heir ≡ Some c
+  pub spilled_creator : (spilled_list : List Spilled) (x : Keyed) (c : ℕ)
+      → IsAmongSpilled x (map (keyed_spilled count heir) spilled_list) → x.creator ≡ Some c → heir ≡ Some c
   spilled_creator spilled_list x c is made =
       let read = spilled_of spilled_list x is.0 is.1 in
       heir_is (nat_le read.0.desc.name.creator count) c (sym (ap (λ t. t.creator) read.1) ∙ made)
@@ -95,20 +104,27 @@ beside_aborts : (bound : ℕ) (set : ℕ → Bool) (old new : ℕ → Option Key
     → order.AbortsInKeys set old new
     → ((x : Keyed) (c : ℕ) → IsAmongSpilled x spilled_list → x.creator ≡ Some c → set c ≡ false)
     → order.AbortsInKeys (low_only bound set) (beside bound old spilled_list) (beside bound new spilled_list)
-beside_aborts bound set old new spilled_list aborts spared = record { holds_children = holds; others = others; members = members }
+beside_aborts bound set old new spilled_list aborts spared =
+    record { holds_children = holds; others = others; members = members }
   where
-    holds : (k c : ℕ) (x : Keyed) → beside bound old spilled_list k ≡ Some x → x.creator ≡ Some c → low_only bound set c ≡ true → low_only bound set k ≡ true
+    holds : (k c : ℕ) (x : Keyed) → beside bound old spilled_list k ≡ Some x → x.creator ≡ Some c
+        → low_only bound set c ≡ true → low_only bound set k ≡ true
     holds k c x at made taken = by_test (nat_lt k bound) refl
       where
         by_test : (b : Bool) → nat_lt k bound ≡ b → low_only bound set k ≡ true
-        by_test true low = low_is_set bound set k low ∙ aborts.holds_children k c x (sym (low_is bound old spilled_list k low) ∙ at) made (low_of bound set c taken).1
-        by_test false high = absurd (cc (spared x c (k - bound, sym (high_is bound old spilled_list k high) ∙ at) made, (low_of bound set c taken).1))
+        by_test true low =
+            low_is_set bound set k low
+            ∙ aborts.holds_children k c x (sym (low_is bound old spilled_list k low) ∙ at) made (low_of bound set c taken).1
+        by_test false high =
+            absurd (cc (spared x c (k - bound, sym (high_is bound old spilled_list k high) ∙ at) made, (low_of bound set c taken).1))
 
     others : (k : ℕ) → low_only bound set k ≡ false → beside bound new spilled_list k ≡ beside bound old spilled_list k
     others k out = by_test (nat_lt k bound) refl
       where
         by_test : (b : Bool) → nat_lt k bound ≡ b → beside bound new spilled_list k ≡ beside bound old spilled_list k
-        by_test true low = low_is bound new spilled_list k low ∙ aborts.others k (sym (low_is_set bound set k low) ∙ out) ∙ sym (low_is bound old spilled_list k low)
+        by_test true low =
+            low_is bound new spilled_list k low ∙ aborts.others k (sym (low_is_set bound set k low) ∙ out)
+            ∙ sym (low_is bound old spilled_list k low)
         by_test false high = high_is bound new spilled_list k high ∙ sym (high_is bound old spilled_list k high)
 
     members : (k : ℕ) (x : Keyed) → low_only bound set k ≡ true → beside bound new spilled_list k ≡ Some x
@@ -124,16 +140,20 @@ beside_aborts bound set old new spilled_list aborts spared = record { holds_chil
 
 -- the view as it was, but for what an abort changes
 abbrev pub changed_to : View → View → View
-changed_to old new = record old { tasks = new.tasks; memory = new.memory; queues = new.queues; finished = new.finished; cores = new.cores }
+changed_to old new =
+    record old { tasks = new.tasks; memory = new.memory; queues = new.queues; finished = new.finished; cores = new.cores }
 
 pub abort_keeps_order : AbortKeepsSoundOrder
-abort_keeps_order marks old new heir takes spares sound = subst (λ v. SoundOrder v heir) (sym takes.frame) (record { order = kept; numbers = sound.numbers })
+abort_keeps_order marks old new heir takes spares sound =
+    subst (λ v. SoundOrder v heir) (sym takes.frame) (record { order = kept; numbers = sound.numbers })
   where
     spilled_list : List Keyed
     spilled_list = map (keyed_spilled (length old.history) heir) (all_spilled old)
 
     bounded : (k : ℕ) (x : Keyed) → keyed_tasks new k ≡ Some x → (k < length old.tasks) × (k < length new.tasks)
-    bounded k x at = let read = mapped_some keyed_task (task_at new k) x at in (by_was (task_at old k) refl read.0 read.1, id_below new k read.0 read.1)
+    bounded k x at =
+        let read = mapped_some keyed_task (task_at new k) x at in
+        (by_was (task_at old k) refl read.0 read.1, id_below new k read.0 read.1)
       where
         by_was : (was : Option Task) → task_at old k ≡ was → (t : Task) → task_at new k ≡ Some t → k < length old.tasks
         by_was None none t there = absurd (cc (gone_stays marks old new takes k none, there))

@@ -1,6 +1,7 @@
 -- A spilled task that is free and foremost may take the serial machine's next turn: it may once it has come back to a queue, and its return
 -- changes no free task.
-use Rattle.std.proofs.Common.{◌≡◌, ◌==◌, ℕ, ◌≤◌, Bool, false, List, [], ◌∷◌, ◌++◌, Option, Some, None, refl, sym, ap, if◌then◌else◌}
+use Rattle.std.proofs.Common.{◌≡◌, ◌==◌, ℕ, ◌≤◌, Bool, false, List, [], ◌∷◌, ◌++◌, Option, Some, None, refl, sym, ap}
+use Rattle.std.proofs.Common.{if◌then◌else◌}
 use Rattle.pending_list.specs.declared.task.PendingTask.{PendingTask}
 use Rattle.serial_machine.specs.BagValue.{BagValue}
 use Rattle.serial_machine.specs.State.{IsStack}
@@ -49,7 +50,8 @@ module _ (count least id : ℕ) (runs : Bool) (tasks : ℕ → Option BagTask) (
   same_free = (splits_keep id tasks with_it spilled (front ++ back) count least runs returns).0
 
   -- the spilled task, if no free task is deeper and none of its depth is earlier, may take the next turn
-  pub spilled_has_turn : (stack : List BagValue) → AreSound count least runs tasks spilled → Matches count tasks spilled stack → IsStack stack
+  pub spilled_has_turn : (stack : List BagValue) → AreSound count least runs tasks spilled
+      → Matches count tasks spilled stack → IsStack stack
       → ((depth : ℕ) (p : PendingTask) → IsFree tasks (IsSpilled spilled) count depth p → depth ≤ e.depth)
       → ((p : PendingTask) → IsFree tasks (IsSpilled spilled) count e.depth p → e.task.ts ≤ p.ts)
       → HasTurn stack e.depth e.task

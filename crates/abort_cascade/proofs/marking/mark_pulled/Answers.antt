@@ -1,7 +1,9 @@
 use Rattle.std.proofs.Common.{arith, ◌∙◌, sym}
 use Rattle.abort_cascade.proofs.Rounds.{RoundOf-none, RoundOf-skip, RoundOf-mark}
 use Rattle.abort_cascade.proofs.marking.mark_pulled.Goals as goal
-use Rattle.abort_cascade.proofs.marking.mark_pulled.Goals.{then-not-marks-b+then-pulls, else-not-marks-b, else-not-marks-b-via-then-not-marks-b+else-pulls, else-not-marks-b-via-else-not-marks-b}
+use Rattle.abort_cascade.proofs.marking.mark_pulled.Goals.{then-not-marks-b+then-pulls, else-not-marks-b}
+use Rattle.abort_cascade.proofs.marking.mark_pulled.Goals.{else-not-marks-b-via-then-not-marks-b+else-pulls}
+use Rattle.abort_cascade.proofs.marking.mark_pulled.Goals.{else-not-marks-b-via-else-not-marks-b}
 
 pub loop-b-init : goal.loop-b-init
 loop-b-init g c = RoundOf-none _ _ _ _

@@ -1,4 +1,5 @@
-use Rattle.std.proofs.Common.{◌≡◌, ◌≢◌, ◌∙◌, ap, refl, sym, subst, inl, inr, true, false, [], ◌∷◌, ◌||◌, List, map, Err, Result}
+use Rattle.std.proofs.Common.{◌≡◌, ◌≢◌, ◌∙◌, ap, refl, sym, subst, inl, inr, true, false, [], ◌∷◌, ◌||◌, List, map, Err}
+use Rattle.std.proofs.Common.{Result}
 use Rattle.std.specs.Borrow.{Bor}
 use Rattle.std.specs.List.{list_any}
 use Rattle.clap.specs.Faults.{fault_of, is_simple_and_free}
@@ -24,7 +25,8 @@ simple_and_free : is_simple_and_free command_app ≡ true
 unfolding command_app plain_app clap_on_literals
 simple_and_free = refl
 
-any-texts : (words : List (Bor Text)) → list_any (λ w. is_stray (word_of w)) (map (λ w. w.now) words) ≡ list_any (λ w. is_stray (word_of w.now)) words
+any-texts : (words : List (Bor Text))
+    → list_any (λ w. is_stray (word_of w)) (map (λ w. w.now) words) ≡ list_any (λ w. is_stray (word_of w.now)) words
 any-texts [] = refl
 any-texts (w ∷ ws) = ap (λ b. is_stray (word_of w.now) || b) (any-texts ws)
 
@@ -51,7 +53,11 @@ returns-in-Ok-try_get_matches_from-clause-ok c =
     let rows : rows_of found ≡ matches_of command_app ws = (parse.matches (ap is_simple app ∙ simple)).0 ∙ ap (λ a. matches_of a ws) app in
     let plain : NoStray ws = no-stray ws (any-texts c.args.words.now ∙ sym c.has_stray.ensures ∙ c.if-has_stray.false) in
     let by = given-by ws plain quiet in
-    record { given = by.given; given_is = by.is; text = λ n. first_value-rows found n ∙ ap (first_of n) rows ∙ by.text n }
+    record {
+      given = by.given;
+      given_is = by.is;
+      text = λ n. first_value-rows found n ∙ ap (first_of n) rows ∙ by.text n;
+    }
 
 pub returns-in-Err-clause-usage : goal.returns-in-Err-clause-usage
 returns-in-Err-clause-usage c = λ usage.

@@ -14,7 +14,8 @@ loop-at-preserved c =
       long = exchange.long ∙ c.loop-at.invariant.long;
       heap = exchange.apart;
       capacity = c.sift_down_once-at.ensures.capacity ∙ c.loop-at.invariant.capacity;
-      permuted = IsPermutation-trans c.args.slots.now.candidates c.loop-at.slots.candidates c.sift_down_once-at.new.slots.candidates c.loop-at.invariant.permuted exchange.permuted;
+      permuted =
+          IsPermutation-trans c.args.slots.now.candidates c.loop-at.slots.candidates c.sift_down_once-at.new.slots.candidates c.loop-at.invariant.permuted exchange.permuted;
     }
 
 pub sift_up-requires-clause-heap : goal.sift_up-requires-clause-heap

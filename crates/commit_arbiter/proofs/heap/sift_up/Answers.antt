@@ -11,5 +11,6 @@ loop-at-preserved c = record {
   within = (let long = c.sift_up_once.ensures.exchange.long in omega arith);
   heap = c.sift_up_once.ensures.exchange.up c.if-not-sift_up_once.false;
   capacity = c.sift_up_once.ensures.capacity ∙ c.loop-at.invariant.capacity;
-  permuted = IsPermutation-trans c.args.slots.now.candidates c.loop-at.slots.candidates c.sift_up_once.new.slots.candidates c.loop-at.invariant.permuted c.sift_up_once.ensures.exchange.permuted;
+  permuted =
+      IsPermutation-trans c.args.slots.now.candidates c.loop-at.slots.candidates c.sift_up_once.new.slots.candidates c.loop-at.invariant.permuted c.sift_up_once.ensures.exchange.permuted;
 }

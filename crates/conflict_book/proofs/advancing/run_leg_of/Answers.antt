@@ -4,7 +4,8 @@ use Rattle.conflict_book.proofs.Leading.{runs_within}
 use Rattle.conflict_book.proofs.advancing.run_leg_of.Goals as goal
 
 pub run_again-requires-clause-budget : goal.run_again-requires-clause-budget
-run_again-requires-clause-budget g c = ap (λ (s : Settings). s.budget) c.settings-settings.ensures ∙ c.has_limits.ensures.budget
+run_again-requires-clause-budget g c =
+    ap (λ (s : Settings). s.budget) c.settings-settings.ensures ∙ c.has_limits.ensures.budget
 
 pub run_again-requires-clause-used : goal.run_again-requires-clause-used
 run_again-requires-clause-used g c =

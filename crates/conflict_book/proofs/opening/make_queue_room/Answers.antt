@@ -7,4 +7,5 @@ coalesce-requires-clause-some g c =
     fresh_moves g.N.Naming.image.data_size c.args.state.now.view c.args.tile c.is_stored.ensures c.requires.fresh c.has_loads.ensures.valid (search rules)
 
 pub returns-clause-free : goal.returns-clause-free
-returns-clause-free g c = free_moved c.args.tile c.args.state.now.view _ c.in_ok-coalesce.ensures.ok.0 c.is_short.ensures
+returns-clause-free g c =
+    free_moved c.args.tile c.args.state.now.view _ c.in_ok-coalesce.ensures.ok.0 c.is_short.ensures

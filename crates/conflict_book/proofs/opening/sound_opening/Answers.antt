@@ -5,7 +5,8 @@ use Rattle.event_law.proofs.Proved.{opening_is_sound}
 use Rattle.conflict_book.proofs.opening.sound_opening.Goals as goal
 
 pub invariant_of-result : goal.invariant_of-result
-invariant_of-result g c = opening_is_sound g.N.Naming.image c.args.settings _ [] _ c.opening.ensures.image c.requires.valid (c.in_ok-state.ensures.opening [])
+invariant_of-result g c =
+    opening_is_sound g.N.Naming.image c.args.settings _ [] _ c.opening.ensures.image c.requires.valid (c.in_ok-state.ensures.opening [])
 
 pub returns : goal.returns
 returns g c taps =

@@ -4,7 +4,10 @@ use Rattle.event_law.proofs.Proved.{running_within}
 use Rattle.conflict_book.proofs.queries.running_core.Goals as goal
 
 pub task-task-requires : goal.task-task-requires
-task-task-requires g c = record { live = held_is_there g.N.Naming.image.data_size c.args.state.now.view c.is_stored.ensures c.args.tile c.args.core c.in_ok-id.id.0 (search rules) }
+task-task-requires g c =
+    record {
+      live = held_is_there g.N.Naming.image.data_size c.args.state.now.view c.is_stored.ensures c.args.tile c.args.core c.in_ok-id.id.0 (search rules);
+    }
 
 pub returns-in-Running-clause-some : goal.returns-in-Running-clause-some
 returns-in-Running-clause-some g c = (

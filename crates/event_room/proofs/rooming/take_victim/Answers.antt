@@ -15,7 +15,8 @@ abort-requires g c =
     let v = c.victim_of-last.ensures in
     let loose = read_loose c.args.state.now.view _ v.0 c.firm.result v.1.there c.firm.ensures c.if-firm.false in
     record {
-      live = creator_there g.N.Naming.image c.args.tile _ c.args.state.now.view _ _ v.0 c.requires.sound c.requires.runs c.requires.none_moves
+      live =
+          creator_there g.N.Naming.image c.args.tile _ c.args.state.now.view _ _ v.0 c.requires.sound c.requires.runs c.requires.none_moves
           c.requires.least v.1 loose c.creator_of-creator.ensures;
     }
 

@@ -26,4 +26,5 @@ returns-in-Ok-clause-pending g c =
     (subst (λ budget. RunLeaves g.N.Naming.image budget closed.journal closed.memory closed.output pending) c.is_sound.ensures.budget c.in-Ok.ensures.frozen)
 
 pub returns-in-Err-clause-closes : goal.returns-in-Err-clause-closes
-returns-in-Err-clause-closes g c = subst (λ book. Closes book c.leave.result.closed) c.in-Err.ensures.back c.leave.ensures.closes
+returns-in-Err-clause-closes g c =
+    subst (λ book. Closes book c.leave.result.closed) c.in-Err.ensures.back c.leave.ensures.closes

@@ -28,7 +28,8 @@ returns-then-not-is_same-clause-err c = record {
     record {
       after = c.turn.new.self.state;
       found = c.in-Ok-turn.found;
-      turned = subst (λ b. turn c.args.image.now b c.loop-index.serial.state c.entry_at-entry.result.name ≡ Some (c.turn.new.self.state, c.in-Ok-turn.found)) c.loop-index.invariant.kept c.in-Ok-turn.ensures.ok;
+      turned =
+          subst (λ b. turn c.args.image.now b c.loop-index.serial.state c.entry_at-entry.result.name ≡ Some (c.turn.new.self.state, c.in-Ok-turn.found)) c.loop-index.invariant.kept c.in-Ok-turn.ensures.ok;
       other = c.if-not-is_same.ensures;
     },
   );
@@ -45,7 +46,8 @@ loop-index-preserved c =
     (subst (λ e. turn image c.loop-index.serial.budget before entry.name ≡ Some (after, e)) c.if-not-is_same.ensures c.in-Ok-turn.ensures.ok) in
     let keeps = turn-keeps image c.args.budget before after entry.name entry turned in
     record {
-      run = subst (λ js. IsRun image c.args.budget js after) (sym (take_one_more c.args.journal.now c.loop-index.index entry c.entry_at-entry.ensures))
+      run =
+          subst (λ js. IsRun image c.args.budget js after) (sym (take_one_more c.args.journal.now c.loop-index.index entry c.entry_at-entry.ensures))
           (Runs-more image c.args.budget (take c.loop-index.index c.args.journal.now) (opening image) before after entry c.loop-index.invariant.run turned);
       kept = search rules;
       count = keeps.count ∙ ap (λ k. k + 1) c.loop-index.invariant.count;

@@ -10,7 +10,8 @@ returns-then-not-is_word_at-clause-place c =
     let lt : c.loop-place.place < c.args.image.now.window_words = search rules in
     record {
       same = c.loop-place.invariant;
-      other = λ h. c.if-not-is_word_at.ensures (h ∙ (rw c.word_of.ensures (slice_get-window_of c.args.image.now c.args.memory.now c.loop-place.place lt)));
+      other =
+          λ h. c.if-not-is_word_at.ensures (h ∙ (rw c.word_of.ensures (slice_get-window_of c.args.image.now c.args.memory.now c.loop-place.place lt)));
     }
 
 pub loop-place-preserved : goal.loop-place-preserved
@@ -36,4 +37,7 @@ returns-else-window-words-clause-place c =
     let here : c.loop-place.place ≡ c.window_len-words.result = search rules in
     let end : c.window_len-words.result ≡ length (window_of image memory) = search (rules, length-window_of image memory) in
     let same : take c.window_len-words.result c.args.window.now ≡ take c.window_len-words.result (window_of image memory) = (rw here at c.loop-place.invariant) in
-    record { same = same; other = last_other c.args.window.now (window_of image memory) c.window_len-words.result end same (search rules) }
+    record {
+      same = same;
+      other = last_other c.args.window.now (window_of image memory) c.window_len-words.result end same (search rules);
+    }

@@ -6,8 +6,10 @@ use Rattle.report_text.proofs.writing.write_body.Goals as goal
 
 pub returns-in-Ok : goal.returns-in-Ok
 unfolding body_lines
-returns-in-Ok g c = writes_then _ _ _ (Ok tt) _ (output_line c.args.output.now) (flat_map window_line (window_of c.args.image.now c.args.memory.now)) refl c.in-Ok.ensures c.write_window.ensures
+returns-in-Ok g c =
+    writes_then _ _ _ (Ok tt) _ (output_line c.args.output.now) (flat_map window_line (window_of c.args.image.now c.args.memory.now)) refl c.in-Ok.ensures c.write_window.ensures
 
 pub returns-in-Err : goal.returns-in-Err
 unfolding body_lines
-returns-in-Err g c = writes_front _ _ _ _ (output_line c.args.output.now) (flat_map window_line (window_of c.args.image.now c.args.memory.now)) refl c.in-Err.ensures
+returns-in-Err g c =
+    writes_front _ _ _ _ (output_line c.args.output.now) (flat_map window_line (window_of c.args.image.now c.args.memory.now)) refl c.in-Err.ensures

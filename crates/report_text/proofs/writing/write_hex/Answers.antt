@@ -8,7 +8,8 @@ loop-at-preserved g c =
     let le : c.loop-at.at ≤ c.min-end.result = search rules in
     record {
       inside = search rules;
-      wrote = chunk_written c.args.bytes.now c.loop-at.at c.min-end.result (state c.args.sink.now) (state c.loop-at.sink) (state c.write_chunk.new.sink) le c.loop-at.invariant.wrote c.in-Ok.ensures;
+      wrote =
+          chunk_written c.args.bytes.now c.loop-at.at c.min-end.result (state c.args.sink.now) (state c.loop-at.sink) (state c.write_chunk.new.sink) le c.loop-at.invariant.wrote c.in-Ok.ensures;
     }
 
 pub returns-in-Err : goal.returns-in-Err

@@ -5,8 +5,10 @@ use Rattle.report_text.proofs.writing.write_output.Goals as goal
 
 pub returns-in-Ok : goal.returns-in-Ok
 unfolding output_line
-returns-in-Ok g c = writes_then _ _ _ (Ok tt) _ (codes "output " ++ output_digits c.args.output.now) (codes "\n") refl c.in-Ok.ensures c.write_all.ensures
+returns-in-Ok g c =
+    writes_then _ _ _ (Ok tt) _ (codes "output " ++ output_digits c.args.output.now) (codes "\n") refl c.in-Ok.ensures c.write_all.ensures
 
 pub returns-in-Err : goal.returns-in-Err
 unfolding output_line
-returns-in-Err g c = writes_front _ _ _ _ (codes "output " ++ output_digits c.args.output.now) (codes "\n") refl c.in-Err.ensures
+returns-in-Err g c =
+    writes_front _ _ _ _ (codes "output " ++ output_digits c.args.output.now) (codes "\n") refl c.in-Err.ensures

@@ -4,7 +4,8 @@ use Rattle.report_text.specs.Report.{output_digits}
 use Rattle.report_text.proofs.writing.write_value.Goals as goal
 
 pub returns-in-Ok : goal.returns-in-Ok
-returns-in-Ok g c = writes_then _ _ _ (Ok tt) _ (codes "output ") (output_digits c.args.output.now) refl c.in-Ok.ensures c.write_digits.ensures
+returns-in-Ok g c =
+    writes_then _ _ _ (Ok tt) _ (codes "output ") (output_digits c.args.output.now) refl c.in-Ok.ensures c.write_digits.ensures
 
 pub returns-in-Err : goal.returns-in-Err
 returns-in-Err g c = writes_front _ _ _ _ (codes "output ") (output_digits c.args.output.now) refl c.in-Err.ensures

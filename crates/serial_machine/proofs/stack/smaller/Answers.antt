@@ -4,7 +4,8 @@ use Rattle.serial_machine.proofs.Naming.{first-none, first-above, first-stands}
 use Rattle.serial_machine.proofs.stack.smaller.Goals as goal
 
 pub returns-in_default-clause-none : goal.returns-in_default-clause-none
-returns-in_default-clause-none c = first-none c.args.ts c.args.tasks.now.tasks (sym c.first_least.ensures ∙ c.in_default.is)
+returns-in_default-clause-none c =
+    first-none c.args.ts c.args.tasks.now.tasks (sym c.first_least.ensures ∙ c.in_default.is)
 
 pub returns-then-least-ts-clause-some : goal.returns-then-least-ts-clause-some
 returns-then-least-ts-clause-some c =

@@ -17,5 +17,6 @@ loop-bag-preserved c =
           bags-set c.loop-bag.stack c.loop-bag.bag-index (record old { tasks = c.reserve.new.self }) c.bag-item.result (omega arith)
           (ap (λ items. record { depth = old.depth; kind = old.kind; floor = old.floor; owner = old.owner; tasks = items }) c.reserve.ensures.tasks)
           ∙ c.loop-bag.invariant.same;
-      each = rw add-one (HaveSpare-set c.args.more c.loop-bag.stack c.loop-bag.bag-index (record old { tasks = c.reserve.new.self }) (omega arith) c.in_ok-reserve.ensures.spare c.loop-bag.invariant.each);
+      each =
+          rw add-one (HaveSpare-set c.args.more c.loop-bag.stack c.loop-bag.bag-index (record old { tasks = c.reserve.new.self }) (omega arith) c.in_ok-reserve.ensures.spare c.loop-bag.invariant.each);
     }

@@ -25,4 +25,5 @@ pub returns-in-Ok-Trapped-clause-refused : goal.returns-in-Ok-Trapped-clause-ref
 returns-in-Ok-Trapped-clause-refused c =
     let whole = after_instructions-task_at_start c.args.image.now c.args.budget c.args.ctx.now c.args.task.now.entry c.args.task.now.ts c.args.task.now.args c.args.memory.now c.replace.result c.progress_at_start-progress.result.task c.requires.ts c.replace.ensures.value (ap (λ p. p.task) c.progress_at_start-progress.ensures) in
     let After : RunEnd → Type 0 = λ e. FinishesRun (end_of_task c.args.image.now c.args.budget c.args.ctx.now c.progress_at_start-progress.result.task) e c.run.new.task.task in
-    sym whole ∙ finish-trapped _ c.in-Ok-Trapped.cause c.in-Ok-Trapped.pc c.run.new.task.task (subst After c.in-Ok-Trapped.field-0-is c.in-Ok-Trapped.ensures.finishes)
+    sym whole
+    ∙ finish-trapped _ c.in-Ok-Trapped.cause c.in-Ok-Trapped.pc c.run.new.task.task (subst After c.in-Ok-Trapped.field-0-is c.in-Ok-Trapped.ensures.finishes)

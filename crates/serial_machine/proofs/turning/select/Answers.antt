@@ -6,7 +6,8 @@ use Rattle.serial_machine.proofs.Turns.{is_pending-inner}
 use Rattle.serial_machine.proofs.turning.select.Goals as goal
 
 pub returns-in_default-clause-refused : goal.returns-in_default-clause-refused
-returns-in_default-clause-refused c = sym (is_pending-inner c.args.name (bags c.args.stack.now)) ∙ ap (is_pending c.args.name) c.in_default.ensures
+returns-in_default-clause-refused c =
+    sym (is_pending-inner c.args.name (bags c.args.stack.now)) ∙ ap (is_pending c.args.name) c.in_default.ensures
 
 pub returns-clause-ok : goal.returns-clause-ok
 returns-clause-ok c =

@@ -15,8 +15,11 @@ loop-preserved c =
     let entry = taken.entry in
     let turned : turn image budget before entry.name ≡ Some (after, entry) = subst (λ b. turn image b before entry.name ≡ Some (after, entry)) c.loop.invariant.kept taken.turned in
     record {
-      run = subst (λ js. IsRun image budget js after) (sym taken.told) (Runs-more image budget c.loop.journal.items (opening image) before after entry c.loop.invariant.run turned);
+      run =
+          subst (λ js. IsRun image budget js after) (sym taken.told) (Runs-more image budget c.loop.journal.items (opening image) before after entry c.loop.invariant.run turned);
       kept = taken.budget ∙ c.loop.invariant.kept;
       count = taken.counted ∙ ap (λ n. n + 1) c.loop.invariant.count;
-      long = ap length taken.told ∙ length-append c.loop.journal.items (entry ∷ []) ∙ ap (λ n. n + 1) c.loop.invariant.long;
+      long =
+          ap length taken.told ∙ length-append c.loop.journal.items (entry ∷ [])
+          ∙ ap (λ n. n + 1) c.loop.invariant.long;
     }

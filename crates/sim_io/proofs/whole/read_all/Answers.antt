@@ -9,8 +9,10 @@ returns-then-free-count-clause-long g c = λ _.
     let part : length new ≡ c.in-Ok.count = length-take-le c.in-Ok.count c.read.new.buf c.in-Ok.ensures.bound.0 in
     record {
       found = c.chunks.bytes.items ++ new;
-      taken = Consumes-trans (g.S.Source.state c.args.source.now).left (g.S.Source.state c.chunks.source).left (g.S.Source.state c.read.new.self).left c.chunks.bytes.items new c.chunks.invariant.taken c.in-Ok.ensures.bytes.0;
-      past = omega (arith, length-append c.chunks.bytes.items new, part, c.chunks.invariant.within, c.len.ensures, c.if-free-count.true, c.chunk_len-wanted.ensures.most, c.in-Ok.ensures.bound, length-take c.chunk_len-wanted.result c.chunks.chunk);
+      taken =
+          Consumes-trans (g.S.Source.state c.args.source.now).left (g.S.Source.state c.chunks.source).left (g.S.Source.state c.read.new.self).left c.chunks.bytes.items new c.chunks.invariant.taken c.in-Ok.ensures.bytes.0;
+      past =
+          omega (arith, length-append c.chunks.bytes.items new, part, c.chunks.invariant.within, c.len.ensures, c.if-free-count.true, c.chunk_len-wanted.ensures.most, c.in-Ok.ensures.bound, length-take c.chunk_len-wanted.result c.chunks.chunk);
     }
 
 pub returns-then-is_err-clause-memory : goal.returns-then-is_err-clause-memory
@@ -19,6 +21,8 @@ returns-then-is_err-clause-memory g c = λ _.
     let part : length new ≡ c.in-Ok.count = length-take-le c.in-Ok.count c.read.new.buf c.in-Ok.ensures.bound.0 in
     record {
       found = c.chunks.bytes.items ++ new;
-      taken = Consumes-trans (g.S.Source.state c.args.source.now).left (g.S.Source.state c.chunks.source).left (g.S.Source.state c.read.new.self).left c.chunks.bytes.items new c.chunks.invariant.taken c.in-Ok.ensures.bytes.0;
-      within = omega (arith, length-append c.chunks.bytes.items new, part, c.chunks.invariant.within, c.len.ensures, c.if-free-count.false);
+      taken =
+          Consumes-trans (g.S.Source.state c.args.source.now).left (g.S.Source.state c.chunks.source).left (g.S.Source.state c.read.new.self).left c.chunks.bytes.items new c.chunks.invariant.taken c.in-Ok.ensures.bytes.0;
+      within =
+          omega (arith, length-append c.chunks.bytes.items new, part, c.chunks.invariant.within, c.len.ensures, c.if-free-count.false);
     }

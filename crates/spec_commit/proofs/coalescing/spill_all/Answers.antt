@@ -18,10 +18,12 @@ spill-requires-clause-idle g c =
 
 pub loop-id-preserved : goal.loop-id-preserved
 loop-id-preserved g c = record {
-  moved = one_more_moved g.N.Naming.image.data_size c.args.tile c.args.ids.now c.args.state.now.view c.is_stored.ensures c.requires.chosen c.loop-id.id-index c.loop-id-test.true
+  moved =
+      one_more_moved g.N.Naming.image.data_size c.args.tile c.args.ids.now c.args.state.now.view c.is_stored.ensures c.requires.chosen c.loop-id.id-index c.loop-id-test.true
       c.loop-id.state.view c.loop-id.invariant.moved c.spill.new.state.view c.spill.ensures.spills;
   spare = (let less = c.spill.ensures.spare in let was = c.loop-id.invariant.spare in omega (arith, less, was));
-  others = kept_more c.args.tile c.args.state.now.spare c.loop-id.state.spare c.spill.new.state.spare c.loop-id.invariant.others c.spill.ensures.others;
+  others =
+      kept_more c.args.tile c.args.state.now.spare c.loop-id.state.spare c.spill.new.state.spare c.loop-id.invariant.others c.spill.ensures.others;
   effect = c.spill.ensures.effect ∙ c.loop-id.invariant.effect;
 }
 

@@ -10,7 +10,8 @@ pub creator_named-creator-requires : goal.creator_named-creator-requires
 creator_named-creator-requires g c =
     let s : Spilled = record { desc = c.take_spilled-domain.result.0; domain = c.take_spilled-domain.result.1 } in
     record {
-      heir = named_by_heir c.args.state.now.view c.take_spilled-domain.new.state.view _ c.take_spilled-domain.result.0.name c.count.result
+      heir =
+          named_by_heir c.args.state.now.view c.take_spilled-domain.new.state.view _ c.take_spilled-domain.result.0.name c.count.result
           c.heir-heir.result c.heir-heir.ensures c.take_spilled-domain.ensures.rest
           (c.count.ensures.count ∙ ap (λ (v : StateValue). length v.view.history) c.state.view_is)
           (c.requires.named s (taken_there _ _ s c.take_spilled-domain.ensures.taken));

@@ -1,4 +1,5 @@
-use Rattle.std.proofs.Common.{◌≡◌, ◌<◌, arith, refl, sym, ap, subst, ◌∙◌, ◌++◌, ◌∷◌, [], ℕ, List, Some, length, map, take, slice_get}
+use Rattle.std.proofs.Common.{◌≡◌, ◌<◌, arith, refl, sym, ap, subst, ◌∙◌, ◌++◌, ◌∷◌, [], ℕ, List, Some, length, map}
+use Rattle.std.proofs.Common.{take, slice_get}
 use Rattle.std.specs.Prelude.{Contains, IsSome, slice_index_or}
 use Rattle.std.proofs.lemmas.List.{length-map, length-take-le, map-append, take_more, take_all}
 use Rattle.spec_state.specs.declared.effect.SpilledTask.{SpilledTask}

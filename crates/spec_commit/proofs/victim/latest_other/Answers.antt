@@ -4,7 +4,8 @@ use Rattle.spec_state.specs.declared.task.TaskId.{TaskId}
 use Rattle.spec_state.specs.Room.{Asker, asker_of}
 use Rattle.spec_commit.specs.Latest.{IsLatestOther}
 use Rattle.spec_commit.proofs.Choices.{item_at, live_at}
-use Rattle.spec_commit.proofs.Victims.{is_there, live_latest, later_is, passed_some, passed_none, is_victim, one_is_other}
+use Rattle.spec_commit.proofs.Victims.{is_there, live_latest, later_is, passed_some, passed_none, is_victim}
+use Rattle.spec_commit.proofs.Victims.{one_is_other}
 use Rattle.spec_commit.proofs.victim.latest_other.Goals.{then-not-is_asker, else-not-is_asker}
 use Rattle.spec_commit.proofs.victim.latest_other.Goals as goal
 
@@ -27,15 +28,18 @@ loop-id-preserved g c =
           c.loop-id.latest c.loop-id.invariant.some c.loop-id.invariant.none w.later.result
           (λ asks. (let yes = c.is_asker.ensures.1 asks in let no = w.if-not-is_asker.true in cc)) w.later.ensures in
           record {
-            some = subst (λ o. IfSome o (IsLatestOther c.args.state.now.view c.args.tile asker (c.loop-id.id-index + 1))) (sym w.latest-is) is;
+            some =
+                subst (λ o. IfSome o (IsLatestOther c.args.state.now.view c.args.tile asker (c.loop-id.id-index + 1))) (sym w.latest-is) is;
             none = λ none. absurd (is_there _ _ w.latest-is none);
           }
       | else-not-is_asker w ↦
           let asks = c.is_asker.ensures.0 (search rules) in
           record {
-            some = passed_some g.N.Naming.image.data_size c.args.state.now.view c.args.tile c.is_stored.ensures c.queue_ids-id-items.ensures.distinct asker c.loop-id.id-index _ item
+            some =
+                passed_some g.N.Naming.image.data_size c.args.state.now.view c.args.tile c.is_stored.ensures c.queue_ids-id-items.ensures.distinct asker c.loop-id.id-index _ item
                 c.loop-id.latest c.loop-id.invariant.some c.loop-id.invariant.none asks _ w.latest-is;
-            none = passed_none g.N.Naming.image.data_size c.args.state.now.view c.args.tile c.is_stored.ensures c.queue_ids-id-items.ensures.distinct asker c.loop-id.id-index _ item
+            none =
+                passed_none g.N.Naming.image.data_size c.args.state.now.view c.args.tile c.is_stored.ensures c.queue_ids-id-items.ensures.distinct asker c.loop-id.id-index _ item
                 c.loop-id.latest c.loop-id.invariant.some c.loop-id.invariant.none asks _ w.latest-is;
           }
     ]

@@ -7,5 +7,6 @@ use Rattle.spec_commit.proofs.victim.latest_other.Given as goal
 abbrev pub invariant-loop-id : goal.invariant-loop-id
 invariant-loop-id g l = record {
   some : IfSome l.latest (IsLatestOther l.state.view l.tile (asker_of (option_map (λ id. id.0) l.asker)) l.id-index);
-  none : IsNone l.latest → (id : ℕ) → IsAmong l.state.view l.tile l.id-index id → asker_of (option_map (λ id. id.0) l.asker) ≡ Enqueuer id;
+  none : IsNone l.latest → (id : ℕ) → IsAmong l.state.view l.tile l.id-index id
+      → asker_of (option_map (λ id. id.0) l.asker) ≡ Enqueuer id;
 }

@@ -4,7 +4,8 @@ use Rattle.commit_arbiter.specs.Indexed.{renumbered_candidate}
 use Rattle.spill_store.specs.Fronts.{lists_in}
 use Rattle.spec_state.specs.StateValue.{StateValue}
 use Rattle.spec_state.proofs.Proved.{few_tasks}
-use Rattle.spec_dispatch.proofs.Renumbers.{blocks_held, index_held, indexed_after, is_table_here, noted_after, renumbers_seen, slots_renumbered, stored_renumbered}
+use Rattle.spec_dispatch.proofs.Renumbers.{blocks_held, index_held, indexed_after, is_table_here, noted_after}
+use Rattle.spec_dispatch.proofs.Renumbers.{renumbers_seen, slots_renumbered, stored_renumbered}
 use Rattle.spec_dispatch.proofs.renumbering.renumber.Goals as goal
 
 pub fill-requires : goal.fill-requires

@@ -1,4 +1,5 @@
-use Rattle.std.proofs.Common.{◌≡◌, arith, refl, sym, ap, subst, ◌∙◌, ◌++◌, ◌∷◌, [], ℕ, Bool, List, Some, length, map, take, slice_get}
+use Rattle.std.proofs.Common.{◌≡◌, arith, refl, sym, ap, subst, ◌∙◌, ◌++◌, ◌∷◌, [], ℕ, Bool, List, Some, length, map}
+use Rattle.std.proofs.Common.{take, slice_get}
 use Rattle.std.specs.Prelude.{IsSome}
 use Rattle.spec_state.specs.declared.effect.TakenTask.{TakenTask}
 use Rattle.spec_state.specs.Effects.{EffectValue, nothing}

@@ -14,10 +14,12 @@ loop-tile-preserved c =
     elim c.if-comes_first.branch [
       | then-comes_first w ↦ record {
         inside = omega (arith, w.best-is);
-        best = subst (IsBest lists (l.tile + 1)) (sym w.best-is) (best_over lists l.tile l.best l.invariant.best (sym c.comes_first.ensures ∙ w.if-comes_first.true));
+        best =
+            subst (IsBest lists (l.tile + 1)) (sym w.best-is) (best_over lists l.tile l.best l.invariant.best (sym c.comes_first.ensures ∙ w.if-comes_first.true));
       }
       | else-comes_first w ↦ record {
         inside = omega (arith, w.best-is, l.invariant.inside);
-        best = subst (IsBest lists (l.tile + 1)) (sym w.best-is) (best_stays lists l.tile l.best l.invariant.best (sym c.comes_first.ensures ∙ w.if-comes_first.false));
+        best =
+            subst (IsBest lists (l.tile + 1)) (sym w.best-is) (best_stays lists l.tile l.best l.invariant.best (sym c.comes_first.ensures ∙ w.if-comes_first.false));
       }
     ]

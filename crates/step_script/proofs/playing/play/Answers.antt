@@ -31,7 +31,8 @@ loop-act-preserved g c =
     let inside : c.loop-act.act-index < length c.args.acts.now = search rules in
     let told : c.push.new.self.items ≡ c.loop-act.said.items ++ c.in_ok-one.one ∷ [] = search rules in
     record {
-      played = one_more g.row.N.Denot g.N.Naming.image c.args.acts.now c.loop-act.act-index _ _ _ _ c.loop-act.said.items
+      played =
+          one_more g.row.N.Denot g.N.Naming.image c.args.acts.now c.loop-act.act-index _ _ _ _ c.loop-act.said.items
           c.push.new.self.items c.in_ok-one.one inside c.loop-act.invariant.played c.in_ok-one.ensures.does told;
       settings = c.play_act.ensures.settings ∙ c.loop-act.invariant.settings;
     }

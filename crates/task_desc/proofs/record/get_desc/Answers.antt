@@ -5,7 +5,8 @@ use Rattle.task_desc.proofs.record.get_desc.Goals as goal
 
 pub returns-then-is_valid-clause-back : goal.returns-then-is_valid-clause-back
 returns-then-is_valid-clause-back c =
-    ap record_bytes c.fields.ensures ∙ bytes_back c.args.bytes.now c.fits-bytes c.told-bytes (sym c.is_valid.ensures.value ∙ c.if-is_valid.true)
+    ap record_bytes c.fields.ensures
+    ∙ bytes_back c.args.bytes.now c.fits-bytes c.told-bytes (sym c.is_valid.ensures.value ∙ c.if-is_valid.true)
 
 pub returns-then-is_valid-clause-valid : goal.returns-then-is_valid-clause-valid
 returns-then-is_valid-clause-valid c =

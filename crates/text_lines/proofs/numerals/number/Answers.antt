@@ -6,7 +6,8 @@ use Rattle.text_lines.proofs.numerals.number.Goals as goal
 pub returns-in-Ok : goal.returns-in-Ok
 returns-in-Ok c =
     let plain : is_plain c.args.digits.now ≡ true = search rules in
-    c.ok.ensures.value ∙ parsed_number c.args.digits.now c.parse.result plain (rw (← c.in-Ok.ensures.cases.0) c.parse.ensures.value.0)
+    c.ok.ensures.value
+    ∙ parsed_number c.args.digits.now c.parse.result plain (rw (← c.in-Ok.ensures.cases.0) c.parse.ensures.value.0)
 
 pub returns-in-Err : goal.returns-in-Err
 returns-in-Err c =

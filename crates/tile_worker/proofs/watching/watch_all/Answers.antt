@@ -13,11 +13,15 @@ invariant_of-new g c =
     let told : List Reading = c.args.writer.told in
     let same = sym c.new-tallied.ensures.book in
     record {
-      entries = begins_with_all g.L.Begun.history _ (ap (λ (b : BookView). b.view.history) c.new-tallied.ensures.book ∙ c.requires.history);
-      bytes = begins_with_all g.L.Begun.output _ (ap (λ (b : BookView). b.view.output) c.new-tallied.ensures.book ∙ c.requires.output);
+      entries =
+          begins_with_all g.L.Begun.history _ (ap (λ (b : BookView). b.view.history) c.new-tallied.ensures.book ∙ c.requires.history);
+      bytes =
+          begins_with_all g.L.Begun.output _ (ap (λ (b : BookView). b.view.output) c.new-tallied.ensures.book ∙ c.requires.output);
       belongs = c.requires.belongs ∙ c.requires.board;
-      goes_on = subst (λ (before : List Reading). take (length before) told ≡ before) c.requires.before (take_all (length told) told (le_refl _));
-      readings = subst (λ (b : BookView). AreReadings g.N.Naming.image g.N.Naming.budget b.view.history told) same c.requires.readings;
+      goes_on =
+          subst (λ (before : List Reading). take (length before) told ≡ before) c.requires.before (take_all (length told) told (le_refl _));
+      readings =
+          subst (λ (b : BookView). AreReadings g.N.Naming.image g.N.Naming.budget b.view.history told) same c.requires.readings;
       last = c.requires.last ∙ ap (λ (b : BookView). counts_of b.view) same;
     }
 

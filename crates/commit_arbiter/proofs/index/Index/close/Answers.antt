@@ -3,7 +3,8 @@ use Rattle.std.proofs.lemmas.Option.{slice_get_within}
 use Rattle.commit_arbiter.specs.Indexed.{one_closed}
 use Rattle.commit_arbiter.specs.Slots.{candidate_at}
 use Rattle.commit_arbiter.proofs.Closed.{tied_closed}
-use Rattle.commit_arbiter.proofs.Tied.{up_tied, open_there, closed_upto, open_has, ids_kept, candidates_tied, count_tied, seen_there}
+use Rattle.commit_arbiter.proofs.Tied.{up_tied, open_there, closed_upto, open_has, ids_kept, candidates_tied}
+use Rattle.commit_arbiter.proofs.Tied.{count_tied, seen_there}
 use Rattle.commit_arbiter.proofs.index.Index.close.Goals as goal
 
 pub sift_up-requires-clause-heap : goal.sift_up-requires-clause-heap
@@ -16,7 +17,8 @@ pub invariant_of-self : goal.invariant_of-self
 invariant_of-self c = (
   record {
     heap = c.sift_up.ensures.heap;
-    ids = ids_kept (Some c.args.tb) c.args.id c.in-Some.place c.self.inside.slots.candidates c.set_tb.new.self.candidates c.in-Some.ensures.some c.set_tb.ensures.candidates c.sift_up.new.slots.candidates c.sift_up.ensures.permuted c.self.invariant.0;
+    ids =
+        ids_kept (Some c.args.tb) c.args.id c.in-Some.place c.self.inside.slots.candidates c.set_tb.new.self.candidates c.in-Some.ensures.some c.set_tb.ensures.candidates c.sift_up.new.slots.candidates c.sift_up.ensures.permuted c.self.invariant.0;
   },
   c.closed_with-self-inside.ensures,
 )

@@ -8,7 +8,9 @@ use Rattle.commit_arbiter.proofs.Ordered.{first_is_root, first_is_least, in_risi
 use Rattle.commit_arbiter.proofs.index.Index.first.Goals as goal
 
 pub returns-clause-first : goal.returns-clause-first
-returns-clause-first c = first_is_root c.self.inside.slots.candidates c.get.result.now c.self.invariant.0.heap c.get.ensures ∙ ap (λ v. first_id v.candidates) c.self.view_is
+returns-clause-first c =
+    first_is_root c.self.inside.slots.candidates c.get.result.now c.self.invariant.0.heap c.get.ensures
+    ∙ ap (λ v. first_id v.candidates) c.self.view_is
 
 pub returns-clause-least : goal.returns-clause-least
 returns-clause-least c some =

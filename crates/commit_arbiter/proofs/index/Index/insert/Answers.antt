@@ -29,7 +29,8 @@ invariant_of-self c =
     let put = put_in_heap candidate old c.push.new.self.candidates c.sift_up.new.slots.candidates c.push.ensures.candidates c.sift_up.ensures.permuted in (
       record {
         heap = c.sift_up.ensures.heap;
-        ids = ids_grown candidate old c.sift_up.new.slots.candidates (λ has. c.requires.other (subst (λ v. HasId c.args.id v.candidates) c.self.view_is has)) put c.self.invariant.0.ids;
+        ids =
+            ids_grown candidate old c.sift_up.new.slots.candidates (λ has. c.requires.other (subst (λ v. HasId c.args.id v.candidates) c.self.view_is has)) put c.self.invariant.0.ids;
       },
       c.closed_with-self-inside.ensures,
     )

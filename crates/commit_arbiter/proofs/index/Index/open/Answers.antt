@@ -21,7 +21,8 @@ invariant_of-self c =
     let was = c.self.invariant.1 in (
       record {
         heap = c.settle.ensures.heap;
-        ids = ids_kept (None) c.args.id c.in-Some.place old c.set_tb.new.self.candidates c.in-Some.ensures.some c.set_tb.ensures.candidates c.settle.new.slots.candidates c.settle.ensures.permuted c.self.invariant.0;
+        ids =
+            ids_kept (None) c.args.id c.in-Some.place old c.set_tb.new.self.candidates c.in-Some.ensures.some c.set_tb.ensures.candidates c.settle.new.slots.candidates c.settle.ensures.permuted c.self.invariant.0;
       },
       omega (arith, less, one, told, was),
     )

@@ -19,7 +19,8 @@ invariant_of-self c =
     let was = c.self.invariant.1 in (
       record {
         heap = c.take_out.ensures.heap;
-        ids = taken_ids (candidate_at old c.in-Some.place) old c.take_out.new.slots.candidates c.take_out.ensures.permuted c.self.invariant.0.ids;
+        ids =
+            taken_ids (candidate_at old c.in-Some.place) old c.take_out.new.slots.candidates c.take_out.ensures.permuted c.self.invariant.0.ids;
       },
       omega (arith, less, one, told, was),
     )

@@ -18,4 +18,5 @@ pub returns-clause-candidates : goal.returns-clause-candidates
 returns-clause-candidates c =
     let old = c.self.inside.slots.candidates in
     let held = held_inside c.args.table.now old c.args.self.now.candidates (ap (λ v. v.candidates) c.self.view_is) c.requires.held in
-    ap in_rising_order c.renumber.ensures.candidates ∙ ordered_renumbered c.args.table.now old held ∙ ap (λ v. map (renumbered_candidate c.args.table.now) v.candidates) c.self.view_is
+    ap in_rising_order c.renumber.ensures.candidates ∙ ordered_renumbered c.args.table.now old held
+    ∙ ap (λ v. map (renumbered_candidate c.args.table.now) v.candidates) c.self.view_is

@@ -2,7 +2,8 @@ use Rattle.std.proofs.Common.{ap, arith, refl}
 use Rattle.spec_state.specs.declared.settings.Settings.{Settings}
 use Rattle.conflict_book.proofs.Cores.{runs_inside}
 use Rattle.conflict_book.proofs.book.Book.core_in_place.Goals as goal
-use Rattle.conflict_book.proofs.book.Book.core_in_place.Goals.{then-tile-settings-via-then-tile-settings, then-tile-settings-via-else-tile-settings+then-core-settings}
+use Rattle.conflict_book.proofs.book.Book.core_in_place.Goals.{then-tile-settings-via-then-tile-settings}
+use Rattle.conflict_book.proofs.book.Book.core_in_place.Goals.{then-tile-settings-via-else-tile-settings+then-core-settings}
 
 pub returns-then-tile-settings-clause-none : goal.returns-then-tile-settings-clause-none
 returns-then-tile-settings-clause-none g c = (

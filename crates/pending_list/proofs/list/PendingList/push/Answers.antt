@@ -1,4 +1,5 @@
-use Rattle.std.proofs.Common.{rules, refl, ◌≡◌, ◌∙◌, ◌++◌, ◌∷◌, [], true, ap, subst, sym, length, set, ◌+◌, ◌*◌, ◌^◌, vec_capacity, arith}
+use Rattle.std.proofs.Common.{rules, refl, ◌≡◌, ◌∙◌, ◌++◌, ◌∷◌, [], true, ap, subst, sym, length, set, ◌+◌, ◌*◌, ◌^◌}
+use Rattle.std.proofs.Common.{vec_capacity, arith}
 use Rattle.pending_list.specs.Pending.{AllBefore}
 use Rattle.pending_list.specs.Slots.{present}
 use Rattle.pending_list.proofs.Presents.{present-append}

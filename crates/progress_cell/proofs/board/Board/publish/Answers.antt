@@ -7,7 +7,8 @@ use Rattle.progress_cell.proofs.Places.{last_pushed}
 use Rattle.progress_cell.proofs.board.Board.publish.Goals as goal
 
 pub swap_as-requires : goal.swap_as-requires
-swap_as-requires g c = (search rules, (search rules, (search rules, stores _ (cell_view c.writer.inside.pass) c.args.reading c.writer.invariant.writes (search rules) (search rules))))
+swap_as-requires g c =
+    (search rules, (search rules, (search rules, stores _ (cell_view c.writer.inside.pass) c.args.reading c.writer.invariant.writes (search rules) (search rules))))
 
 pub invariant_of-writer : goal.invariant_of-writer
 invariant_of-writer g c =

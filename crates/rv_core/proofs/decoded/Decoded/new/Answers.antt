@@ -7,7 +7,8 @@ pub loop-index-preserved : goal.loop-index-preserved
 loop-index-preserved g c =
     let last = subst (λ i. IsOpOf c.text-text.result.now i c.op_at.result) (sym c.loop-index.invariant.count) c.op_at.ensures in
     record {
-      of = subst (AreOf c.text-text.result.now) (search rules) (AreOf-push _ c.loop-index.ops.items c.op_at.result c.loop-index.invariant.of last);
+      of =
+          subst (AreOf c.text-text.result.now) (search rules) (AreOf-push _ c.loop-index.ops.items c.op_at.result c.loop-index.invariant.of last);
       count = search rules;
     }
 
@@ -16,5 +17,6 @@ invariant_of-result g c =
     let text = c.text-text.ensures ∙ ap (λ image. image.text) c.requires in
     record {
       of = subst (λ text. AreOf text c.loop-index.ops.items) text c.loop-index.invariant.of;
-      short = subst (λ text. length text ≤ 65536) (ap (λ image. image.text) c.requires) c.initial-limits.ensures.limits.text;
+      short =
+          subst (λ text. length text ≤ 65536) (ap (λ image. image.text) c.requires) c.initial-limits.ensures.limits.text;
     }

@@ -3,7 +3,8 @@ use Rattle.std.specs.Prelude.{is_some}
 use Rattle.spec_state.specs.View.{queue_at}
 use Rattle.spec_state.specs.Least.{IsAllCommitted}
 use Rattle.spec_state.proofs.Entered.{held_at}
-use Rattle.spec_state.proofs.Leasts.{least_spilled, all_committed, not_all_queued, not_all_spilled, stands_alone, stands_before, spilled_before}
+use Rattle.spec_state.proofs.Leasts.{least_spilled, all_committed, not_all_queued, not_all_spilled, stands_alone}
+use Rattle.spec_state.proofs.Leasts.{stands_before, spilled_before}
 use Rattle.spec_state.proofs.state.State.least.Goals as goal
 
 pub returns-in-None-None-clause-none : goal.returns-in-None-None-clause-none

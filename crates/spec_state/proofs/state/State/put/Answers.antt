@@ -1,4 +1,5 @@
-use Rattle.std.proofs.Common.{rules, ◌≡◌, ◌<◌, ◌∷◌, ◌++◌, ℕ, List, [], map, sym, ap, subst, refl, ◌∙◌, slice_index_or, length, arith}
+use Rattle.std.proofs.Common.{rules, ◌≡◌, ◌<◌, ◌∷◌, ◌++◌, ℕ, List, [], map, sym, ap, subst, refl, ◌∙◌, slice_index_or}
+use Rattle.std.proofs.Common.{length, arith}
 use Rattle.std.specs.Prelude.{Contains}
 use Rattle.std.proofs.Common.{length-set}
 use Rattle.tile_queues.specs.Queue.{QueueValue}
@@ -26,7 +27,8 @@ pub put_last-requires-clause-absent : goal.put_last-requires-clause-absent
 put_last-requires-clause-absent g c has =
     let queue = c.index_mut.result.now in
     let held : slice_index_or (map (λ (q : QueueValue). q.ids) c.self.inside.queues.items) c.tile-tile.result [] ≡ queue.ids =
-    ids_at c.self.inside.queues.items c.tile-tile.result queue (search rules) ∙ ap (λ (q : QueueValue). q.ids) (sym c.index_mut.ensures.value) in
+    ids_at c.self.inside.queues.items c.tile-tile.result queue (search rules)
+    ∙ ap (λ (q : QueueValue). q.ids) (sym c.index_mut.ensures.value) in
     not_queued g.N.Naming.image.data_size _ c.tile-tile.result c.put_in-id.result c.self.invariant.4 c.put_in-id.ensures.was_vacant
     (subst (λ ids. Contains ids c.put_in-id.result) (sym held) has)
 
@@ -36,7 +38,8 @@ insert-requires-clause-spare g c =
     omega (arith, slot, c.fresh_arrival-arrival.ensures.count, c.fresh_arrival-arrival.ensures.capacity)
 
 pub insert-requires-clause-other : goal.insert-requires-clause-other
-insert-requires-clause-other g c = no_candidate _ _ _ _ _ _ c.fresh_arrival-arrival.ensures.indexed c.put_in-id.ensures.was_vacant
+insert-requires-clause-other g c =
+    no_candidate _ _ _ _ _ _ c.fresh_arrival-arrival.ensures.indexed c.put_in-id.ensures.was_vacant
 
 pub note-requires : goal.note-requires
 note-requires g c = noted_others _ _ _ _ c.put_in-id.ensures.updates.others c.self.invariant.6

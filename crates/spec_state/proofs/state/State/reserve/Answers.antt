@@ -47,6 +47,7 @@ returns-clause-stays g c =
       log = subst (λ (n : ℕ). c.self.inside.buffers.log ≤ n) (sym c.cover.ensures.log) log.1;
       spawns = subst (λ (n : ℕ). c.self.inside.buffers.spawns ≤ n) (sym c.cover.ensures.spawns) spawns.1;
       output = (let same = c.cover.ensures.output in omega (arith, same));
-      blocks = λ k. subst (λ (bs : List BlockValue). slice_index_or (map (λ (b : BlockValue). b.spare) c.self.inside.blocks.items) k 0 ≤ slice_index_or (map (λ (b : BlockValue). b.spare) bs) k 0) (sym r.one.new_is)
+      blocks =
+          λ k. subst (λ (bs : List BlockValue). slice_index_or (map (λ (b : BlockValue). b.spare) c.self.inside.blocks.items) k 0 ≤ slice_index_or (map (λ (b : BlockValue). b.spare) bs) k 0) (sym r.one.new_is)
           (spare_grows c.self.inside.blocks.items c.args.tile r.before r.after r.one.before_is r.stays k);
     })

@@ -27,7 +27,9 @@ pub leave_commits-requires : goal.leave_commits-requires
 leave_commits-requires g c =
     let within = task_within _ _ c.self.invariant.4 c.args.id.0 _ c.index_mut-task.ensures.value _ c.self.inside.queues.items _ _ _ c.self.invariant.1 refl in
     let ids = ids_of_tile c.self.inside.finished.items c.index_mut-task.result.now.tile c.index_mut.result.now _ (search rules) c.index_mut.ensures.value refl in
-    record { finished = λ has. own_finished _ _ c.self.invariant.4 c.args.id.0 _ c.index_mut-task.ensures.value (subst (λ xs. Contains xs c.args.id.0) (sym ids) has) }
+    record {
+      finished = λ has. own_finished _ _ c.self.invariant.4 c.args.id.0 _ c.index_mut-task.ensures.value (subst (λ xs. Contains xs c.args.id.0) (sym ids) has);
+    }
 
 pub index_mut-requires-2 : goal.index_mut-requires-2
 index_mut-requires-2 g c =
@@ -39,7 +41,8 @@ leave_core-requires g c =
     let within = task_within _ _ c.self.invariant.4 c.args.id.0 _ c.index_mut-task.ensures.value _ c.self.inside.queues.items _ _ _ c.self.invariant.1 refl in
     let held = seen_at (λ cores. core_ids cores.items) c.self.inside.cores.items c.index_mut-task.result.now.tile c.index_mut-2.result.now [] (search rules) c.index_mut-2.ensures.value in
     record {
-      held = subst (IsHeldAs c.args.id.0 c.index_mut-task.result.now.status) (held ∙ ap core_ids (sym c.deref_mut.ensures.value))
+      held =
+          subst (IsHeldAs c.args.id.0 c.index_mut-task.result.now.status) (held ∙ ap core_ids (sym c.deref_mut.ensures.value))
           (own_held _ _ c.self.invariant.4 c.args.id.0 _ c.index_mut-task.ensures.value);
     }
 

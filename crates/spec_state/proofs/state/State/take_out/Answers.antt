@@ -11,7 +11,8 @@ use Rattle.spec_state.proofs.Noted.{noted_left}
 use Rattle.spec_state.proofs.Renumbered.{ids_of_tile}
 use Rattle.spec_state.proofs.Without.{seen_at}
 use Rattle.spec_state.proofs.Vacated.{own_queued, own_finished, own_held, stored_left}
-use Rattle.spec_state.proofs.Left.{task_within, leaves_in, leaves_seen, tiles_left, all_but_one, slots_left, indexed_gone}
+use Rattle.spec_state.proofs.Left.{task_within, leaves_in, leaves_seen, tiles_left, all_but_one, slots_left}
+use Rattle.spec_state.proofs.Left.{indexed_gone}
 use Rattle.spec_state.proofs.state.State.take_out.Goals as goal
 
 pub index_mut-requires : goal.index_mut-requires
@@ -23,7 +24,9 @@ pub leave_queue-requires : goal.leave_queue-requires
 leave_queue-requires g c =
     let within = task_within _ _ c.self.invariant.4 c.args.id.0 _ c.index-task.ensures _ c.self.inside.queues.items _ _ _ c.self.invariant.1 refl in
     let ids = ids_of_tile c.self.inside.queues.items c.index-task.result.now.tile c.index_mut.result.now _ (search rules) c.index_mut.ensures.value refl in
-    record { there = subst (λ xs. Contains xs c.args.id.0) ids (own_queued _ _ c.self.invariant.4 c.args.id.0 _ c.index-task.ensures) }
+    record {
+      there = subst (λ xs. Contains xs c.args.id.0) ids (own_queued _ _ c.self.invariant.4 c.args.id.0 _ c.index-task.ensures);
+    }
 
 pub index_mut-requires-2 : goal.index_mut-requires-2
 index_mut-requires-2 g c =
@@ -34,7 +37,9 @@ pub leave_commits-requires : goal.leave_commits-requires
 leave_commits-requires g c =
     let within = task_within _ _ c.self.invariant.4 c.args.id.0 _ c.index-task.ensures _ c.self.inside.queues.items _ _ _ c.self.invariant.1 refl in
     let ids = ids_of_tile c.self.inside.finished.items c.index-task.result.now.tile c.index_mut-2.result.now _ (search rules) c.index_mut-2.ensures.value refl in
-    record { finished = λ has. own_finished _ _ c.self.invariant.4 c.args.id.0 _ c.index-task.ensures (subst (λ xs. Contains xs c.args.id.0) (sym ids) has) }
+    record {
+      finished = λ has. own_finished _ _ c.self.invariant.4 c.args.id.0 _ c.index-task.ensures (subst (λ xs. Contains xs c.args.id.0) (sym ids) has);
+    }
 
 pub index_mut-requires-3 : goal.index_mut-requires-3
 index_mut-requires-3 g c =
@@ -46,7 +51,8 @@ leave_core-requires g c =
     let within = task_within _ _ c.self.invariant.4 c.args.id.0 _ c.index-task.ensures _ c.self.inside.queues.items _ _ _ c.self.invariant.1 refl in
     let held = seen_at (λ cores. core_ids cores.items) c.self.inside.cores.items c.index-task.result.now.tile c.index_mut-3.result.now [] (search rules) c.index_mut-3.ensures.value in
     record {
-      held = subst (IsHeldAs c.args.id.0 c.index-task.result.now.status) (held ∙ ap core_ids (sym c.deref_mut.ensures.value))
+      held =
+          subst (IsHeldAs c.args.id.0 c.index-task.result.now.status) (held ∙ ap core_ids (sym c.deref_mut.ensures.value))
           (own_held _ _ c.self.invariant.4 c.args.id.0 _ c.index-task.ensures);
     }
 

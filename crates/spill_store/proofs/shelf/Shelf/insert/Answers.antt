@@ -3,7 +3,8 @@ use Rattle.std.specs.List.{insert}
 use Rattle.std.specs.VecDeque.{deque_capacity}
 use Rattle.std.proofs.lemmas.List.{nil_from_length}
 use Rattle.spill_store.specs.Shelved.{IsShelved, at_places}
-use Rattle.spill_store.proofs.Shelves.{place_inside, reused_tasks, reused_shelved, added_tasks, added_shelved, within_order}
+use Rattle.spill_store.proofs.Shelves.{place_inside, reused_tasks, reused_shelved, added_tasks, added_shelved}
+use Rattle.spill_store.proofs.Shelves.{within_order}
 use Rattle.spill_store.proofs.shelf.Shelf.insert.Goals as goal
 
 pub index_mut-requires : goal.index_mut-requires
