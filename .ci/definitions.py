@@ -17,6 +17,8 @@ from yotarimu.common.places import HOME
 
 CRATES = HOME / "crates"
 CRATE_NAMES = frozenset(path.name for path in CRATES.iterdir())
+# Between two sentences of a comment: behind a full stop, that of "et al." aside, and before a capital letter or code.
+SENTENCE_END = re.compile(r"(?<=\.)(?<!\bal\.)\s+(?=[A-Z`])")
 WORD = re.compile(r"(?<![\w.'])(?:[^\W\d]\w*\.)*[^\W\d]\w*(?:['-]\w+)*")
 USE = re.compile(r"^\s*(?:ghost )?(?:pub )?use ([\w.]+?)(?:\.\{([^}]*)\})?(?: as (\w+))?;?\s*$", re.M)
 # The head of a definition: its indent, what it is, and its name.
@@ -56,7 +58,7 @@ class Module(NamedTuple):
 
 def first_sentence(text: str) -> str:
     """The first sentence of a comment whose lines were put together."""
-    return re.split(r"(?<=[.:;])\s", text.strip() + " ", maxsplit=1)[0].rstrip(":;").rstrip(".") + "."
+    return SENTENCE_END.split(text.strip(), maxsplit=1)[0].rstrip(".") + "."
 
 
 def comment_at(lines: list[str], mark: str) -> str:

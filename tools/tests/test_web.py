@@ -10,7 +10,7 @@ import unittest
 from yotarimu.common.outcome import Refusal
 from yotarimu.common.places import EXAMPLES_FOLDER
 from yotarimu.common.sentences import SENTENCES, fill
-from yotarimu.web.bundle import constant, fill as template_filled, pack, recorded_page
+from yotarimu.web.bundle import constant, fill_page, pack, recorded_page
 from yotarimu.web.toolchain import Crates
 from yotarimu.web.modules import told_version
 from yotarimu.web.wasm_tables import narrow, number, number_at
@@ -103,7 +103,7 @@ class BundleTest(unittest.TestCase):
         self.assertNotIn("</script>", constant("text", "</script>"))
 
     def test_a_template_is_filled_once(self) -> None:
-        self.assertEqual(template_filled("%one% 100% %two%", {"one": "%two%", "two": "2"}), "%two% 100% 2")
+        self.assertEqual(fill_page("%one% 100% %two%", {"one": "%two%", "two": "2"}), "%two% 100% 2")
 
     def test_a_recorded_page_has_all_its_parts(self) -> None:
         page = recorded_page("title", {"lines": "[]"})

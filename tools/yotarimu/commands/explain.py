@@ -104,7 +104,8 @@ def take_task(words: list[str]) -> tuple[Optional[TaskRequest], list[str]]:
 
 
 def calls_of(program: Optional[str]) -> Union[Calls, str]:
-    """The calls of a program that is named, or of the one of this clone; or why that can't be called."""
+    """The calls of a program that is named, which is refused where it can't be called; or those of this clone's
+    program, or why that can't be called."""
     if program is not None:
         return Calls(pathlib.Path(program))
     if not PROGRAM.is_file():

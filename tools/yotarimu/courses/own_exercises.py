@@ -141,8 +141,9 @@ def facts_of(wanted: Wanted, folder: pathlib.Path, answer: str) -> Facts:
 
 
 def judge_own(folder: pathlib.Path, answer: str) -> str:
-    """Judges an answer to the exercise of a folder."""
-    wanted, said = read_wanted(folder / "wanted"), TEXTS["own"]
+    """Judges an answer, named by its path, to the exercise of a folder: gives the sentence that it is right, raises
+    WrongAnswer where it isn't, and refuses a folder or an answer that can't be judged."""
+    wanted, texts = read_wanted(folder / "wanted"), TEXTS["own"]
     if wanted.answer == "journal":
         return judge_entries(answer, folder / "image.bin")
     if wanted.answer == "why":
@@ -152,5 +153,5 @@ def judge_own(folder: pathlib.Path, answer: str) -> str:
         if facts.said is None and condition.words[0] in OF_SCRIPTS:
             raise Refusal(f"{folder / 'wanted'}:{condition.line}: `{condition.words[0]}` wants a script in the folder.")
         seen = facts.of(condition.words)
-        hold(is_met(condition, seen), said["missed"], line=condition.line, text=condition.text, seen=seen)
-    return fill(said["right"], count=len(wanted.conditions))
+        hold(is_met(condition, seen), texts["missed"], line=condition.line, text=condition.text, seen=seen)
+    return fill(texts["right"], count=len(wanted.conditions))

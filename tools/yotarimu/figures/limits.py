@@ -66,11 +66,12 @@ class OrderGate:
     that one have finished. Once it is full, `entry` is the earliest time for the next task."""
 
     def __init__(self, tasks: int) -> None:
+        # How many tasks the window has, and the latest end so far.
         self.tasks, self.last = tasks, 0
         self.ends: collections.deque[int] = collections.deque()
 
     def entry(self) -> int:
-        """When the next task may start: at the end of the one that leaves the window."""
+        """When the next task may start, asked once the window is full: when its first task leaves."""
         return self.ends.popleft()
 
     def leave(self, end: int) -> None:
@@ -158,7 +159,7 @@ class Gates:
         return starts
 
     def end(self, ends: Times) -> None:
-        """Notes in which units of time a task ends, a time for each column."""
+        """Notes in which units of time a task ends, a time for each plan."""
         for number, gate in self.gates:
             gate.leave(ends[number])
         if self.finish != ends:
@@ -339,7 +340,7 @@ class FineLimits:
             self.one.commit(task)
 
     def finish(self, manner: Manner) -> Times:
-        """When all is done, a time for each column."""
+        """When all is done, a time for each plan."""
         plans = self.one if manner is Manner.ONE and self.one is not None else self.renamed
         return plans.gates.finish
 

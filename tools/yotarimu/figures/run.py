@@ -51,7 +51,8 @@ class Figures:
         """How many rounds of a course in lockstep were begun; None of another course."""
         if not self.is_in_rounds:
             return None
-        # Acts that weren't asked for aren't told, so those of the last rounds may be missing.
+        # A run that stays open had all its rounds. Acts that weren't asked for aren't told, so the lines may miss the
+        # last ones.
         rounds: int = self.head["rounds"] if self.end == "open" else self.begun_rounds
         return rounds
 

@@ -177,6 +177,7 @@ def parallelism(runs: Runs) -> list[str]:
 
 
 CSV_COLUMNS = ("lines", "figure", "of", "value")
+# Rows without the run's name: the figure, what of it, and the value.
 Plain = Iterator[tuple[str, object, object]]
 
 

@@ -123,7 +123,7 @@ def task_of(task: Task) -> dict[str, object]:
 
 
 def store_of(access: Access) -> list[int]:
-    """A store as the page reads it."""
+    """A store as the page reads it: its address, how many bytes, the number that stood there, and its event."""
     return [access.address, access.bytes, access.old, access.event]
 
 

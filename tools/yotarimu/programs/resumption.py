@@ -121,11 +121,14 @@ class Resumption:
                 raise pieces.DamagedPiece(piece.number, f"{name}: this was refused: {fault}.")
 
     def fault_of(self, image: bytes, report: bytes, turns: int) -> Optional[str]:
-        """What `check` says against a report of so many turns; None where it accepts it."""
-        # At the limit of a piece no further task may commit.
+        """What `check` wrote of a report of so many turns where its status isn't 0, so that it refuses the report or
+        failed; that status where it wrote nothing. None where it accepts it."""
+        # At the limit of a piece no further task may commit. A limit is at least 1.
         commits = turns if end_of(report) == "limit" else pieces.MOST_COMMITS
         status, told = self.call("check", image + report, max(commits, 1))
-        return told.decode("ascii", "replace").strip() if status != 0 else None
+        if status == 0:
+            return None
+        return told.decode("ascii", "replace").strip() or f"`check` ended with status {status}"
 
 
 def show_progress(text: str) -> None:

@@ -79,7 +79,7 @@ def live_page(modules: Dict[str, bytes], table: str, commit: str, examples: List
                script(source("host.js"), "host-source"), script(source("worker.js"), "worker-source", "text/plain"),
                *(script(f'"use strict";\n\n{source(name)}') for name in (*SHARED, *LIVE))]
     parts = {"style": source("run.css") + source("live.css"), "run": source("run.html"), "scripts": "".join(scripts)}
-    return fill(source("live.html"), parts)
+    return fill_page(source("live.html"), parts)
 
 
 def recorded_page(title: str, values: Dict[str, str]) -> str:
@@ -90,9 +90,9 @@ def recorded_page(title: str, values: Dict[str, str]) -> str:
     table = script(constant("sentences", {"order": table_at(TABLES["sentences"])["order"]}))
     parts = {"title": title, "style": source("run.css"), "run": source("run.html"), "data": data,
              "scripts": "".join((table, *scripts))}
-    return fill(source("recorded.html"), parts)
+    return fill_page(source("recorded.html"), parts)
 
 
-def fill(template: str, parts: Dict[str, str]) -> str:
-    """A template with what stands there between percent signs filled in."""
+def fill_page(template: str, parts: Dict[str, str]) -> str:
+    """A template in which each %NAME% that has a part is replaced by it; all else stays."""
     return re.sub(f"%({'|'.join(parts)})%", lambda found: parts[found[1]], template)

@@ -20,19 +20,20 @@ def examples_in(root: pathlib.Path) -> List[Dict[str, Any]]:
 
 def group_of(root: pathlib.Path, title: str, folder: str) -> List[Dict[str, Any]]:
     """The examples of a folder, those first that are opened first."""
-    places = sorted(place for place in (root / folder).iterdir() if (place / IMAGE).is_file())
-    places.sort(key=lambda place: place.name not in NAMED_FIRST)
-    small = (place for place in places if (place / IMAGE).stat().st_size <= MOST_BYTES)
-    return [{"group": title, **example_of(root, place)} for place in small]
+    examples = sorted(example for example in (root / folder).iterdir() if (example / IMAGE).is_file())
+    examples.sort(key=lambda example: example.name not in NAMED_FIRST)
+    small = (example for example in examples if (example / IMAGE).stat().st_size <= MOST_BYTES)
+    return [{"group": title, **example_of(root, example)} for example in small]
 
 
-def example_of(root: pathlib.Path, place: pathlib.Path) -> Dict[str, Any]:
-    """An example as the page reads it."""
-    image = base64.b64encode((place / IMAGE).read_bytes()).decode("ascii")
-    return {"name": place.relative_to(root).as_posix(), "title": place.name.replace("_", " "), "image": image,
-            "script": text_of(place / "script"),
-            "listing": text_of(place / "listing"), "source": text_of(place / "task.s"),
-            "words": text_of(place / "words").split() or ["least"]}
+def example_of(root: pathlib.Path, example: pathlib.Path) -> Dict[str, Any]:
+    """An example as the page reads it: its image in base64, the texts beside it, empty where there are none, and the
+    words of its call, `least` where none are given."""
+    image = base64.b64encode((example / IMAGE).read_bytes()).decode("ascii")
+    return {"name": example.relative_to(root).as_posix(), "title": example.name.replace("_", " "), "image": image,
+            "script": text_of(example / "script"),
+            "listing": text_of(example / "listing"), "source": text_of(example / "task.s"),
+            "words": text_of(example / "words").split() or ["least"]}
 
 
 def text_of(path: pathlib.Path) -> str:
