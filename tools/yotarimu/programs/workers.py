@@ -37,7 +37,7 @@ def fault_of(program: pathlib.Path, image: bytes, answer: Answer) -> Optional[st
         return f"ended with status {status} and `{report[-60:].decode('ascii', 'backslashreplace').strip()}`"
     status, told = Calls(program).call(["check"], image + report)
     if status != 0:
-        return f"was refused: {told.decode('ascii', 'replace').strip()}"
+        return f"was refused: {told.decode('ascii', 'replace').strip() or f'`check` ended with status {status}'}"
     return None
 
 
