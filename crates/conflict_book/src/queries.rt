@@ -30,6 +30,7 @@ fn limited_settings<N: Naming>(state: &State<N>) -> &Settings
     ensures valid { IsValid result.now }
     ensures budget { result.now.budget ≡ N.budget }
 {
+    // A law, called for its clauses.
     state.has_limits();
     state.settings()
 }
@@ -56,6 +57,7 @@ fn running_core<N: Naming>(state: &State<N>, tile: u32, core: u32) -> Option<&No
     ensures none { let view = state.now.view in
         IsNone result ↔ ((id : ℕ) (task : Task) → IsRunning view tile core id task → ⊥) }
 {
+    // A law, called for its clauses.
     state.is_stored();
     let id = state.on_core(tile, core)?;
     let task = state.task(id);
@@ -74,6 +76,7 @@ impl<N: Naming, P: Placer, T: Tap> Book<N, P, T> {
         ensures budget { (machine_view self.now).settings.budget ≡ N.budget }
         ensures commits { (machine_view self.now).settings.commits ≡ N.commits }
     {
+        // Laws, called for their clauses.
         self.sound.is_sound();
         self.sound.state().has_limits();
     }
@@ -94,7 +97,7 @@ impl<N: Naming, P: Placer, T: Tap> Book<N, P, T> {
         &self.sound.state().effect
     }
 
-    /// What its parts take their memory from.
+    /// The allocator of its parts.
     pub fn alloc(&self) -> Global {
         self.sound.state().alloc()
     }
@@ -151,12 +154,13 @@ impl<N: Naming, P: Placer, T: Tap> Book<N, P, T> {
         self.sound.state().loads()
     }
 
-    /// The tile in which an enqueue of this hint would place the child, as the serving placer picks it now. Nobody is
-    /// told of the question.
+    /// The tile in which an enqueue of this hint would place the child, as the serving placer picks it now. The placer
+    /// is told of no placement, so its state stays.
     pub fn tile_for(&self, hint: u32) -> u32
         ensures tile { result ≡ picked_tile (view_of P.policy T.notes self.now) hint }
         ensures inside { result < (machine_view self.now).settings.tiles }
     {
+        // A law, called for its clauses.
         self.sound.is_sound();
         serving_pick(self.placers.as_slice(), hint, self.loads().as_slice())
     }
@@ -177,7 +181,7 @@ impl<N: Naming, P: Placer, T: Tap> Book<N, P, T> {
         }
     }
 
-    /// The same core as [`core_at`](Book::core_at) gives, in its place.
+    /// The same core as [`core_at`](Book::core_at) gives, with whether its stack is known to be empty (`NotedCore`).
     pub fn core_in_place(&self, tile: u32, core: u32) -> Option<&NotedCore>
         ensures within { let view = machine_view self.now in
             IfSome result (λ c. c.now.used ≤ view.settings.budget) }
@@ -186,6 +190,7 @@ impl<N: Naming, P: Placer, T: Tap> Book<N, P, T> {
         ensures none { let view = machine_view self.now in
             IsNone result ↔ ((id : ℕ) (task : Task) → IsRunning view tile core id task → ⊥) }
     {
+        // A law, called for its clauses.
         self.sound.is_sound();
         let settings = self.settings();
         if tile >= settings.tiles || core >= settings.cores {
@@ -203,7 +208,8 @@ impl<N: Naming, P: Placer, T: Tap> Book<N, P, T> {
         free_core(state, tile).is_some() && state.idle(tile).is_some()
     }
 
-    /// Lets no event through any more: each one is answered `Memory` from now on, also at the end of the run.
+    /// Lets no event through any more: each one is answered `Memory` from now on, also at the end of the run. A worker
+    /// calls it where memory ran out for its event, so that the others are answered the same, and leave off too.
     pub fn stop(&mut self)
         ensures { let old = view_of P.policy T.notes self.old in
             view_of P.policy T.notes self.new ≡ record old { stopped = true } }

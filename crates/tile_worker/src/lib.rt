@@ -2,7 +2,7 @@
 //! outside it.
 //!
 //! Worker `w` of `n` drives the tiles `t` with `t % n == w`. In each hold of the lock it makes at most one event,
-//! counts that to its part, and copies the core of its next leg. The type of the lock's value keeps that all parts
+//! counts that to its share, and copies the core of its next leg. The type of the lock's value keeps that all shares
 //! together are the book's events.
 //!
 //! With a board, the workers tell how far the run has come (`run_watched`): in the hold in which a task was committed,
@@ -12,7 +12,13 @@
 //! It stands on the book, on the board and on the lock of the standard library; `machine_run` calls it, with no board.
 //! A hold costs one event and a look at each core of the worker's own tiles, and with a board, after a commit, what
 //! it costs to tell a reading. Where no thread can be started, the caller runs the workers itself. The program
-//! hands in the gate.
+//! hands in the gate that a worker passes before it hands in a leg.
+//!
+//! `working` is a worker's loop, `hold` what it does in a hold, `waiting` how it waits for one. From hold to hold it
+//! carries (`carried`) its share, the leg that it computes (`errand`) and what it keeps for itself (`round`). In the
+//! lock stands a book with its ledger (`tally`), for `run_tiles` in a type that keeps what it began with (`begun`),
+//! for `run_watched` beside the board's writer (`followed`). `crew` is what the workers of a run have in common,
+//! `fanning` their threads.
 #![tactic(auto)]
 
 mod begun;

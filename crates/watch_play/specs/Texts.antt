@@ -12,7 +12,7 @@ use Rattle.watch_play.specs.declared.telling.Telling.{Telling}
 use Rattle.watch_play.specs.declared.telling.Telling.TheVariants as tellings
 use Rattle.watch_play.specs.Courses.{Course, course_word}
 
--- views are told behind each so many moments, at least 1
+-- where views are told, they are told behind each K-th moment, K at least 1
 abbrev pub IsTellable : Telling → Type 0
 IsTellable (tellings.Views each) = 1 ≤ each
 IsTellable other = Unit {0}
@@ -22,15 +22,17 @@ abbrev pub has_lines : Telling → Bool
 has_lines tellings.Memory = false
 has_lines other = true
 
--- the view is told behind the last of so many moments
+-- a view is told behind the moment of this number: a multiple of K
 abbrev pub is_due : Telling → ℕ → Bool
 is_due (tellings.Views each) number = number % each == 0
 is_due other number = false
 
+-- the view behind the moment of this number, where one is told there; else nothing
 abbrev pub view_text : Telling → ℕ → View → ℕ → List ℕ
 view_text telling number view events = if is_due telling number then view_line view events else []
 
--- the lines of a moment, where lines are told: its own, and the view behind each so many of them
+-- the lines of a moment, where lines are told: its own, and the view where one is told behind it, with the count of
+-- events (`steps`)
 abbrev pub moment_lines : {N : Type 0} → Telling → Moment N → List ℕ
 moment_lines telling m =
     if has_lines telling then line_of m ++ view_text telling m.number m.new.view m.new.steps else []

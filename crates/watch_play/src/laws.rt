@@ -70,8 +70,8 @@ pub fn least_story_is_run<N: Naming>()
 {}
 
 /// Two stories of one course, from openings of one image with the same settings, placers and taps, tell one thing,
-/// moment by moment: they differ in the ids of tasks alone. Of the tasks that an event took back, and spilled, it says
-/// how many alone.
+/// moment by moment: they differ in the ids of tasks alone. Of what an event did beside its one change it says how many
+/// tasks were taken back, and no more.
 pub fn story_is_one<N: Naming>()
     ensures { StoryIsOne N }
 {}

@@ -21,8 +21,8 @@ const STALLED: &str =
     "dispatch 0\nstep 0 0\nstep 0 0\nstep 0 0\nstep 0 0\ndispatch 1\nstep 1 0\ncommit\nstep 0 0\n\
     abort 0\ndispatch 0\ncoalesce 0\ncoalesce 0\nsplit 0\n";
 
-// Scripts that are played, what the taps see of them, and calls that play none.
 static SCHEDULES: [Case; 26] = [
+    // A store takes back the reader with its child, and another one the task that trapped.
     Case {
         words: "steps --tiles 2 --cores 1",
         read: (READER, CONFLICT),
@@ -44,6 +44,7 @@ static SCHEDULES: [Case; 26] = [
         ),
         left: (0, "normal", 2, Some(13)),
     },
+    // With a full commit queue the earlier task takes the later one back where it ends, and the later one stalls.
     Case {
         words: "steps --tiles 1 --cores 2 --commit-queue 1",
         read: (
@@ -65,6 +66,7 @@ static SCHEDULES: [Case; 26] = [
         ),
         left: (0, "open", 0, Some(3)),
     },
+    // A leg that is held is stale once its task has gone on.
     Case {
         words: "steps --tiles 2 --cores 1",
         read: (
@@ -78,6 +80,7 @@ static SCHEDULES: [Case; 26] = [
         ),
         left: (0, "open", 0, Some(3)),
     },
+    // With a full task queue a task stalls that isn't the least, and has room made once it is.
     Case {
         words: "steps --tiles 2 --cores 1 --task-queue 4",
         read: (CROWD, STALLED),
@@ -88,6 +91,9 @@ static SCHEDULES: [Case; 26] = [
         ),
         left: (0, "open", 1, Some(10)),
     },
+    // The word that is read and the one that is written lie 16,384 bytes apart. Lines of 16 bytes are 1,024 apart
+    // there, so one bit of the filter stands for both, and the reader is taken back. Lines of 64 bytes are 256 apart,
+    // and have a bit each.
     Case {
         words: "steps --tiles 2 --cores 1",
         read: (APART, "dispatch 0\nstep 0 0\ndispatch 1\nstep 1 0\n"),
@@ -106,6 +112,7 @@ static SCHEDULES: [Case; 26] = [
         ),
         left: (0, "open", 0, Some(4)),
     },
+    // With a full task queue the least task has a later one taken back and spilled for its child; then a split stalls.
     Case {
         words: "steps --tiles 1 --cores 4 --task-queue 4",
         read: (
@@ -118,6 +125,7 @@ static SCHEDULES: [Case; 26] = [
         ),
         left: (0, "open", 0, Some(6)),
     },
+    // Texts that are no scripts: a tile that isn't there, an empty line, a core that isn't there.
     Case {
         words: "steps --tiles 2 --cores 1",
         read: (READER, "dispatch 2\n"),
@@ -136,6 +144,7 @@ static SCHEDULES: [Case; 26] = [
         written: ("", "fault script 1\n"),
         left: (9, "none", 0, None),
     },
+    // No image, and words that are refused.
     Case {
         words: "steps",
         read: (CUT, ""),
@@ -148,6 +157,7 @@ static SCHEDULES: [Case; 26] = [
         written: ("", "fault usage\n"),
         left: (1, "none", 0, None),
     },
+    // Runs that end in a trap and at the commit limit, and one that goes on, for which workers make no difference.
     Case {
         words: "steps --tiles 1",
         read: (OUTSIDE, "dispatch 0\nstep 0 0\nadvance\n"),
@@ -172,6 +182,8 @@ static SCHEDULES: [Case; 26] = [
         written: ("", "moved 0\nfractal 1\noutput -\nend open\n"),
         left: (0, "open", 0, Some(1)),
     },
+    // The same of `trace`: no script, no image, words that are refused; then what the taps saw of no act, and of a run
+    // that ended in a trap.
     Case {
         words: "trace --tiles 2 --cores 1",
         read: (READER, "dispatch 2\n"),
@@ -209,12 +221,14 @@ static SCHEDULES: [Case; 26] = [
         ),
         left: (0, "trap", 0, Some(2)),
     },
+    // The empty script.
     Case {
         words: "steps",
         read: (EMIT, ""),
         written: ("", "fractal 1\noutput -\nend open\n"),
         left: (0, "open", 0, Some(0)),
     },
+    // A store to the stack is a plain instruction in version 2, of which the taps note nothing, and traps in version 1.
     Case {
         words: "steps --tiles 1",
         read: (STACKED, "dispatch 0\nstep 0 0\nstep 0 0\ncommit\n"),
