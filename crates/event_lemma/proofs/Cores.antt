@@ -27,7 +27,7 @@ use Rattle.spec_state.specs.Least.{spot_cmp}
 use Rattle.spec_state.specs.Aborts.{Aborts, OnlyNode, freed_core, is_marked}
 use Rattle.spec_state.specs.Queries.{IsFreeCore, IsLatestOnCore}
 use Rattle.spec_law.specs.Sound.{Sound}
-use Rattle.spec_law.proofs.Proved.{abort_of_one_is_sound, abort_takes, cascade_is_later, distinct_at, get_contains}
+use Rattle.spec_law.proofs.Proved.{abort_of_one_is_sound, cascade_is_later, distinct_at, get_contains}
 use Rattle.spec_law.proofs.Proved.{least_is_one, least_key, list_mapped, marked_is_back, not_below_least, queued_at}
 use Rattle.spec_law.proofs.Proved.{upto_queued}
 use Rattle.event_def.specs.Events.{FreesCore}
@@ -207,7 +207,7 @@ module _ (image : ImageValue) (old : View) (sound : Sound image old) (id : ℕ) 
         by_mark : (b : Bool) → is_marked aborts.marks k ≡ b
             → ranked_cmp task.key (Queued task.tile place_now) y.key (Queued u q) ≢ Greater
         by_mark true marked =
-            let back = marked_is_back aborts.marks old mid (abort_takes (OnlyNode v) old aborted mid aborts) k y marked at.there in
+            let back = marked_is_back aborts k y marked at.there in
             let below : key_cmp task.key y.key ≡ Less =
             ap (λ (t : Task). key_cmp task.key t.key) back.is
             ∙ below_reopened (levels task.key) (keyed_task back.was) (below_marked k back.was marked back.there) in

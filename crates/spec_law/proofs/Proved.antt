@@ -5,7 +5,7 @@ pub use Rattle.spec_law.proofs.Aborted.KeptSound.{abort_for_room_is_sound, abort
 pub use Rattle.spec_law.proofs.Aborted.KeptSound.{abort_of_one_is_sound}
 pub use Rattle.spec_law.proofs.Aborted.KeptTasks.{each_now}
 pub use Rattle.spec_law.proofs.Aborted.Spared.{cascade_spares_heir, conflicts_spare_heir, least_key, not_below_least, queued_at}
-pub use Rattle.spec_law.proofs.Aborted.Taken.{abort_takes, marked_is_back, unmarked_stays, pulled_there}
+pub use Rattle.spec_law.proofs.Aborted.Taken.{marked_is_back, unmarked_stays, pulled_there}
 pub use Rattle.spec_law.proofs.Aborted.Undone.{undo_all_is_serial}
 pub use Rattle.spec_law.proofs.Accesses.Kept.{load_stays_sound, store_stays_sound}
 pub use Rattle.spec_law.proofs.Accesses.Noted.{none_noted}

@@ -1,78 +1,63 @@
 -- What an abort is to the laws of order, of tasks and of memory, and that it keeps a view sound.
-use Rattle.std.specs.Prelude.{◌≡◌, ◌≢◌, ℕ, Bool, true, false, not, List, map, filter, Option, Some}
+use Rattle.std.specs.Prelude.{◌≡◌, ◌≢◌, ℕ, Bool, true, false, List, Option, Some}
 use Rattle.guest_image.specs.ImageValue.{ImageValue}
 use Rattle.memory_law.specs.Events as memory
 use Rattle.order_law.specs.Events as order
 use Rattle.serial_machine.specs.State.{SerialState}
 use Rattle.task_law.specs.Moves as moves
-use Rattle.task_law.specs.Room.{queue_after}
 use Rattle.spec_state.specs.declared.task.Task.{Task}
 use Rattle.spec_state.specs.View.{View, task_at}
-use Rattle.spec_state.specs.Groups.{keyed_tasks, logged_tasks, bag_tasks, room_tasks}
+use Rattle.spec_state.specs.Groups.{keyed_tasks, logged_tasks, bag_tasks}
 use Rattle.spec_state.specs.Least.{IsHeir}
 use Rattle.spec_state.specs.Queries.{Conflicts, IsLater}
-use Rattle.spec_state.specs.Aborts.{PullsInView, is_marked, taken_back, freed_core, Aborts, IsCascade, OnlyNode}
-use Rattle.spec_state.specs.Aborts.{IsUndone}
+use Rattle.spec_state.specs.Aborts.{PullsInView, is_marked, Aborts, IsCascade, OnlyNode}
 use Rattle.spec_state.specs.Room.{asker_of, IsVictim, IsTakenFor}
 use Rattle.spec_law.specs.Sound.{Sound, SoundMemory, SoundOrder, SoundSizes, SoundTasks, StaysSound}
+
+-- where an abort's cascades begin: with one task, or with all that conflict with an access
+pub data Firsts : Type 0 where
+  OneTask : (id : ℕ) → Firsts
+  AllConflicts : (task : Task) (line : ℕ) (write : Bool) → Firsts
+
+-- the cascades begin with the task of this id
+abbrev pub IsFirst : View → Firsts → ℕ → Type 0
+IsFirst view (OneTask id) = OnlyNode id
+IsFirst view (AllConflicts task line write) = Conflicts view task line write
 
 -- with each marked task all that is taken back with it is marked
 abbrev pub HoldsPulled : View → List Bool → Type 0
 HoldsPulled view marks = (a b : ℕ) → PullsInView view a b → is_marked marks a ≡ true → is_marked marks b ≡ true
 
--- the marked tasks are taken back, with their stores, and leave commit queues and cores, the discarded ones also task
--- queues: what an abort does, whichever tasks its cascades begin with
-pub record TakesMarked (marks : List Bool) (old new : View) : Type 0 where
-  pub holds : HoldsPulled old marks
-  pub each : (id : ℕ) → task_at new id ≡ taken_back old.version marks id (task_at old id)
-  pub memory : IsUndone old (is_marked marks) new.memory
-  pub queues : new.queues ≡ map (queue_after (room_tasks new)) old.queues
-  pub finished : new.finished ≡ map (filter (λ id. not (is_marked marks id))) old.finished
-  pub cores : new.cores ≡ map (map (freed_core marks)) old.cores
-  pub frame : new
-      ≡ record old {
-        tasks = new.tasks;
-        memory = new.memory;
-        queues = new.queues;
-        finished = new.finished;
-        cores = new.cores;
-      }
+-- a cascade holds, with each task, all that is taken back with it
+abbrev pub CascadeHoldsPulled : Type 0
+CascadeHoldsPulled =
+    (view : View) (firsts : Firsts) (marks : List Bool) → IsCascade view (IsFirst view firsts) marks
+    → HoldsPulled view marks
 
--- an abort of one task takes its marked tasks back
-abbrev pub AbortTakesMarked : Type 0
-AbortTakesMarked = (first : ℕ) (old : View) (aborted : ℕ) (new : View) (abort : Aborts (OnlyNode first) old aborted new)
-    → TakesMarked abort.marks old new
-
--- an abort of all tasks that conflict with an access takes its marked tasks back
-abbrev pub ConflictsTakeMarked : Type 0
-ConflictsTakeMarked =
-    (task : Task) (line : ℕ) (write : Bool) (old : View) (aborted : ℕ) (new : View)
-    (abort : Aborts (Conflicts old task line write) old aborted new)
-    → TakesMarked abort.marks old new
-
--- to take marked tasks back is an abort to the order of the queued tasks
+-- to the order of the queued tasks an abort is one of the tasks that it marks
 abbrev pub MarkedAreAborted : Type 0
-MarkedAreAborted = (marks : List Bool) (old new : View) → TakesMarked marks old new
-    → order.AbortsInKeys (is_marked marks) (keyed_tasks old) (keyed_tasks new)
+MarkedAreAborted =
+    (firsts : Firsts) (old : View) (aborted : ℕ) (new : View) (abort : Aborts (IsFirst old firsts) old aborted new)
+    → order.AbortsInKeys (is_marked abort.marks) (keyed_tasks old) (keyed_tasks new)
 
--- to take marked tasks back is that to the bags of pending tasks
+-- in the bags of pending tasks it takes these back
 abbrev pub MarkedAreIdle : Type 0
-MarkedAreIdle = (marks : List Bool) (old new : View) → TakesMarked marks old new
-    → moves.TakesBackInBags (is_marked marks) (bag_tasks old) (bag_tasks new)
+MarkedAreIdle =
+    (firsts : Firsts) (old : View) (aborted : ℕ) (new : View) (abort : Aborts (IsFirst old firsts) old aborted new)
+    → moves.TakesBackInBags (is_marked abort.marks) (bag_tasks old) (bag_tasks new)
 
--- to take marked tasks back is, for memory, to take back a set that holds, with each member, the later tasks that
--- may have seen what it wrote
+-- for memory it takes back a set that holds, with each member, the later tasks that may have seen what it wrote
 abbrev pub MarkedLeaveMemory : Type 0
 MarkedLeaveMemory =
-    (marks : List Bool) (old new : View) → TakesMarked marks old new
-    → memory.HoldsLater (is_marked marks) (logged_tasks old)
-    × memory.TakesBackInLogs (is_marked marks) (logged_tasks old) (logged_tasks new)
+    (firsts : Firsts) (old : View) (aborted : ℕ) (new : View) (abort : Aborts (IsFirst old firsts) old aborted new)
+    → memory.HoldsLater (is_marked abort.marks) (logged_tasks old)
+    × memory.TakesBackInLogs (is_marked abort.marks) (logged_tasks old) (logged_tasks new)
 
 -- the group of memory holds after an abort in a sound view, against the same state of the serial machine
 abbrev pub AbortKeepsSoundMemory : Type 0
 AbortKeepsSoundMemory =
-    (image : ImageValue) (marks : List Bool) (old new : View) (sound : Sound image old) → TakesMarked marks old new
-    → SoundMemory new sound.serial
+    (image : ImageValue) (firsts : Firsts) (old : View) (aborted : ℕ) (new : View) (sound : Sound image old)
+    → Aborts (IsFirst old firsts) old aborted new → SoundMemory new sound.serial
 
 -- the heir, where there is one, is unmarked
 abbrev pub SparesHeir : List Bool → Option ℕ → Type 0
@@ -95,34 +80,36 @@ ConflictsSpareHeir =
 -- an abort that spares the heir keeps the order of all uncommitted tasks
 abbrev pub AbortKeepsSoundOrder : Type 0
 AbortKeepsSoundOrder =
-    (marks : List Bool) (old new : View) (heir : Option ℕ) → TakesMarked marks old new → SparesHeir marks heir
-    → SoundOrder old heir → SoundOrder new heir
+    (firsts : Firsts) (old : View) (aborted : ℕ) (new : View) (heir : Option ℕ)
+    (abort : Aborts (IsFirst old firsts) old aborted new)
+    → SparesHeir abort.marks heir → SoundOrder old heir → SoundOrder new heir
 
 -- an abort that spares the heir keeps the group of tasks, against the same state of the serial machine
 abbrev pub AbortKeepsSoundTasks : Type 0
 AbortKeepsSoundTasks =
-    (image : ImageValue) (marks : List Bool) (old new : View) (heir : Option ℕ) (serial : SerialState)
-    → TakesMarked marks old new → SparesHeir marks heir → SoundTasks image old heir serial
-    → SoundTasks image new heir serial
+    (image : ImageValue) (firsts : Firsts) (old : View) (aborted : ℕ) (new : View) (heir : Option ℕ)
+    (serial : SerialState) (abort : Aborts (IsFirst old firsts) old aborted new)
+    → SparesHeir abort.marks heir → SoundTasks image old heir serial → SoundTasks image new heir serial
 
 -- an abort keeps the group of sizes
 abbrev pub AbortKeepsSoundSizes : Type 0
-AbortKeepsSoundSizes = (marks : List Bool) (old new : View) → TakesMarked marks old new → SoundSizes old
-    → SoundSizes new
+AbortKeepsSoundSizes =
+    (firsts : Firsts) (old : View) (aborted : ℕ) (new : View) → Aborts (IsFirst old firsts) old aborted new
+    → SoundSizes old → SoundSizes new
 
 -- an abort that spares the heir leaves it the heir, and makes none where there was none
 abbrev pub AbortKeepsHeirOfView : Type 0
 AbortKeepsHeirOfView =
-    (marks : List Bool) (old new : View) (heir : Option ℕ) → TakesMarked marks old new → SparesHeir marks heir
-    → SoundOrder old heir → SoundSizes old
-    → IsHeir old heir → IsHeir new heir
+    (firsts : Firsts) (old : View) (aborted : ℕ) (new : View) (heir : Option ℕ)
+    (abort : Aborts (IsFirst old firsts) old aborted new)
+    → SparesHeir abort.marks heir → SoundOrder old heir → SoundSizes old → IsHeir old heir → IsHeir new heir
 
 -- an abort that spares the heir keeps a view sound, against the same state of the serial machine
 abbrev pub AbortKeepsSound : Type 0
 AbortKeepsSound =
-    (image : ImageValue) (marks : List Bool) (old new : View) (sound : Sound image old) → TakesMarked marks old new
-    → SparesHeir marks sound.heir
-    → StaysSound image old sound new
+    (image : ImageValue) (firsts : Firsts) (old : View) (aborted : ℕ) (new : View) (sound : Sound image old)
+    (abort : Aborts (IsFirst old firsts) old aborted new)
+    → SparesHeir abort.marks sound.heir → StaysSound image old sound new
 
 -- an abort of one task other than the heir keeps a view sound
 abbrev pub AbortOfOneIsSound : Type 0

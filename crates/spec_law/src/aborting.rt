@@ -5,31 +5,26 @@ ghost use Rattle.spec_law.specs.AbortLaws.{AbortKeepsHeirOfView, AbortKeepsSound
 ghost use Rattle.spec_law.specs.AbortLaws.{AbortKeepsSoundSizes};
 ghost use Rattle.spec_law.specs.AbortLaws.{AbortKeepsSound, AbortKeepsSoundTasks, AbortForRoomIsSound};
 ghost use Rattle.spec_law.specs.AbortLaws.{AbortOfConflictsIsSound, AbortOfLaterIsSound, AbortOfOneIsSound};
-ghost use Rattle.spec_law.specs.AbortLaws.{AbortTakesMarked, CascadeSparesHeir, ConflictsSpareHeir};
-ghost use Rattle.spec_law.specs.AbortLaws.{ConflictsTakeMarked, MarkedAreAborted, MarkedAreIdle, MarkedLeaveMemory};
+ghost use Rattle.spec_law.specs.AbortLaws.{CascadeHoldsPulled, CascadeSparesHeir, ConflictsSpareHeir};
+ghost use Rattle.spec_law.specs.AbortLaws.{MarkedAreAborted, MarkedAreIdle, MarkedLeaveMemory};
 
-/// An abort of one task takes its marked tasks back.
-pub fn abort_takes_marked()
-    ensures { AbortTakesMarked }
+/// A cascade holds, with each task, all that is taken back with it.
+pub fn cascade_holds_pulled()
+    ensures { CascadeHoldsPulled }
 {}
 
-/// An abort of all tasks that conflict with an access takes its marked tasks back.
-pub fn conflicts_take_marked()
-    ensures { ConflictsTakeMarked }
-{}
-
-/// To take marked tasks back is an abort to the order of the queued tasks.
+/// To the order of the queued tasks an abort is one of the tasks that it marks.
 pub fn marked_are_aborted()
     ensures { MarkedAreAborted }
 {}
 
-/// To take marked tasks back is that to the bags of pending tasks.
+/// In the bags of pending tasks an abort takes the tasks back that it marks.
 pub fn marked_are_idle()
     ensures { MarkedAreIdle }
 {}
 
-/// To take marked tasks back is, for memory, to take back a set that holds, with each member, the later tasks that
-/// may have seen what it wrote.
+/// For memory an abort takes back a set that holds, with each member, the later tasks that may have seen what it
+/// wrote.
 pub fn marked_leave_memory()
     ensures { MarkedLeaveMemory }
 {}

@@ -19,8 +19,8 @@ pub use aborting::{
     abort_for_room_is_sound, abort_keeps_heir_of_view, abort_keeps_sound, abort_keeps_sound_memory,
     abort_keeps_sound_order, abort_keeps_sound_sizes, abort_keeps_sound_tasks,
     abort_of_conflicts_is_sound, abort_of_later_is_sound, abort_of_one_is_sound,
-    abort_takes_marked, cascade_spares_heir, conflicts_spare_heir, conflicts_take_marked,
-    marked_are_aborted, marked_are_idle, marked_leave_memory,
+    cascade_holds_pulled, cascade_spares_heir, conflicts_spare_heir, marked_are_aborted,
+    marked_are_idle, marked_leave_memory,
 };
 pub use accessing::{enqueue_stays_sound, load_stays_sound, store_stays_sound};
 pub use committing::commit_is_sound_turn;

@@ -28,7 +28,7 @@ use Rattle.spec_state.specs.Queries.{IsIdle, IsLatestOnCore}
 use Rattle.spec_law.specs.Sound.{Sound}
 use Rattle.spec_state.specs.Tasks.{idle_again}
 use Rattle.spec_state.specs.Stored.{HasCore}
-use Rattle.spec_law.proofs.Proved.{abort_takes, cascade_is_later, dispatch_stays_sound, each_now, each_renumbered}
+use Rattle.spec_law.proofs.Proved.{cascade_is_later, dispatch_stays_sound, each_now, each_renumbered}
 use Rattle.spec_law.proofs.Proved.{holds_placed, holds_task, is_renumbered, makes_least, not_below_least, now}
 use Rattle.spec_law.proofs.Proved.{queued_at, renumbered_now, renumbered_to, same_order, spilled_was, upto_queued}
 use Rattle.spec_law.proofs.Proved.{upto_spilled, was_idle}
@@ -123,7 +123,7 @@ module _ (image : ImageValue) (old : View) (sound : Sound image old) (tile id : 
             record { queued = (mid_sound.sizes.queued_are tile id).1 (task, at, there, tt); there = at; idle = idle };
         key = refl;
         queued =
-            each_now aborts.marks old new (abort_takes (OnlyNode v) old aborted new aborts) (λ k t. IsUpto task.key t.key)
+            each_now aborts (λ k t. IsUpto task.key t.key)
             (λ k t was out. least_is_low.queued k t was)
             (λ k t back. upto_again old.version task.key back.was (least_is_low.queued k back.was back.there));
         spilled = λ u p s got. least_is_low.spilled u p s

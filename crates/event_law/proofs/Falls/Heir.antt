@@ -13,7 +13,8 @@ use Rattle.spec_state.specs.Queries.{Conflicts, IsLater}
 use Rattle.spec_state.specs.Room.{Enqueuer, Coalesces, MakesRoom, queue_has_room, coalesces, aborts_victim}
 use Rattle.spec_state.specs.Room.{aborts_creator}
 use Rattle.spec_law.specs.Sound.{Sound}
-use Rattle.spec_law.proofs.Proved.{abort_keeps_heir, abort_of_one_is_sound, abort_takes, cascade_spares_heir}
+use Rattle.spec_law.specs.AbortLaws.{AllConflicts, OneTask}
+use Rattle.spec_law.proofs.Proved.{abort_keeps_heir, abort_of_one_is_sound, cascade_spares_heir}
 use Rattle.spec_law.proofs.Proved.{coalesce_moves, coalesce_sizes, conflicts_spare_heir, heirs_are_one, moved_heir}
 use Rattle.spec_law.proofs.Proved.{victim_is_later}
 use Rattle.event_def.specs.Events.{FreesCommit}
@@ -46,7 +47,7 @@ module _ (image : ImageValue) (old : View) (sound : Sound image old) (id : ℕ) 
       → IsHeir mid (Some id)
   abort_leaves_heir first task aborted mid there other aborts =
       subst (IsHeir mid) the_heir
-      (abort_keeps_heir aborts.marks old mid sound.heir (abort_takes (OnlyNode first) old aborted mid aborts)
+      (abort_keeps_heir (OneTask first) old aborted mid sound.heir aborts
       (cascade_spares_heir image old first task aborts.marks sound there (other_heir first other) aborts.cascade) sound.order sound.sizes sound.is_heir)
 
   -- one of all that conflict with an access leaves it as it was
@@ -63,7 +64,7 @@ module _ (image : ImageValue) (old : View) (sound : Sound image old) (id : ℕ) 
       → Aborts (Conflicts old task line write) old aborted mid → IsHeir mid (Some id)
   conflicts_leave_heir taker line task write aborted mid there aborts =
       subst (IsHeir mid) the_heir
-      (abort_keeps_heir aborts.marks old mid sound.heir (abort_takes (Conflicts old task line write) old aborted mid aborts)
+      (abort_keeps_heir (AllConflicts task line write) old aborted mid sound.heir aborts
       (conflicts_spare_heir image old taker line task write aborts.marks sound there aborts.cascade) sound.order sound.sizes sound.is_heir)
 
   -- so does a coalescing

@@ -24,7 +24,7 @@ use Rattle.spec_state.specs.Least.{Spot, Queued, Spilled_at, HasKey, IsLeastSpil
 use Rattle.spec_state.specs.Room.{Splitter, Coalesces, IsSpilledAs, MakesRoom, queue_has_room, coalesces, aborts_victim}
 use Rattle.spec_state.specs.Room.{aborts_creator}
 use Rattle.spec_law.specs.Sound.{Sound, SoundSizes}
-use Rattle.spec_law.proofs.Proved.{abort_of_one_is_sound, abort_takes, added_stands, each_now, inside, pushes_each}
+use Rattle.spec_law.proofs.Proved.{abort_of_one_is_sound, added_stands, each_now, inside, pushes_each}
 use Rattle.spec_law.proofs.Proved.{queued_at, queued_was, StandsAt}
 use Rattle.event_law.proofs.Keeps.Events.{spilled_no_heir}
 
@@ -91,7 +91,7 @@ module _ (old new : View) (tile : ℕ) (least : IsLeastSpilled old tile) (sizes 
   abort_leaves : (firsts : ℕ → Type 0) (aborted : ℕ) → Aborts firsts old aborted new → IsLeastSpilled new tile
   abort_leaves firsts aborted aborts =
       stays_least least.place (same tile least.place least.least.has.0 least.least.has.1)
-      (each_now aborts.marks old new (abort_takes firsts old aborted new aborts) (λ k t. key_cmp low t.key ≡ Less)
+      (each_now aborts (λ k t. key_cmp low t.key ≡ Less)
       (λ k t there out. below_queued k t there)
       (λ k now back. below_reopened (levels low) (keyed_task back.was) (below_queued k back.was back.there)))
       (λ u p e at. inl (p, subst (λ blocks. slice_get (slice_index_or blocks u []) p ≡ Some e) (ap (λ view. view.blocks) aborts.frame) at, refl))

@@ -12,7 +12,7 @@ use Rattle.spec_state.specs.Aborts.{Aborts, is_marked}
 use Rattle.spec_state.specs.Stored.{HasCore}
 use Rattle.spec_law.specs.Sound.{Sound, StandsAs}
 use Rattle.spec_law.specs.Keeping.{IsLegOf}
-use Rattle.spec_law.proofs.Proved.{abort_takes, heirs_are_one, unmarked_stays}
+use Rattle.spec_law.proofs.Proved.{heirs_are_one, unmarked_stays}
 
 -- a sound view with the settings of another
 pub record Follows (image : ImageValue) (old mid : View) : Type 0 where
@@ -80,5 +80,4 @@ abort_follows image firsts old mid aborted aborts now =
 pub spared_stays : (firsts : ℕ → Type 0) (old mid : View) (aborted id : ℕ) (aborts : Aborts firsts old aborted mid)
     → is_marked aborts.marks id ≡ false
     → task_at mid id ≡ task_at old id
-spared_stays firsts old mid aborted id aborts unmarked =
-    unmarked_stays aborts.marks old mid (abort_takes firsts old aborted mid aborts) id unmarked
+spared_stays firsts old mid aborted id aborts unmarked = unmarked_stays aborts id unmarked

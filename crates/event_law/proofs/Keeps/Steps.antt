@@ -16,7 +16,7 @@ use Rattle.spec_state.specs.Queries.{Conflicts, HasLine}
 use Rattle.spec_state.specs.Changes.{TakesLeg, request_of, KeepsQuantum, KeepsTrap, MakesSub, Emits}
 use Rattle.spec_law.specs.Sound.{Sound}
 use Rattle.spec_law.specs.Keeping.{AsksAt, IsLegOf, NoneConflicts}
-use Rattle.spec_law.proofs.Proved.{abort_of_conflicts_is_sound, abort_takes, byte_stays_sound, conflicts_spare_asker}
+use Rattle.spec_law.proofs.Proved.{abort_of_conflicts_is_sound, byte_stays_sound, conflicts_spare_asker}
 use Rattle.spec_law.proofs.Proved.{load_stays_sound, marked_is_back, quantum_stays_sound, store_stays_sound}
 use Rattle.spec_law.proofs.Proved.{sub_stays_sound, trap_stays_sound}
 use Rattle.event_def.specs.Events.{TakesConflicts, LoadEvent, StoreEvent}
@@ -96,7 +96,7 @@ module _ (image : ImageValue) (old : View) (sound : Sound image old) (tile core 
       where
         by_mark : (b : Bool) → is_marked forced.marks k ≡ b → ⊥
         by_mark true marked =
-            let back = marked_is_back forced.marks old mid (abort_takes (Conflicts old task (offset / old.settings.line) write) old aborted mid forced) k c.other marked c.later.there in
+            let back = marked_is_back forced k c.other marked c.later.there in
             let no_way : true ≡ false = sym c.later.dispatched ∙ ap is_dispatched back.is in
             absurd (cc (no_way))
         by_mark false spared =

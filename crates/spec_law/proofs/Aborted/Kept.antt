@@ -1,5 +1,5 @@
 -- An abort keeps the group of memory.
-use Rattle.std.proofs.Common.{◌≡◌, ℕ, Bool, true, false, List, Some, refl, sym, ap, subst, ◌∙◌, inl, inr, arith}
+use Rattle.std.proofs.Common.{◌≡◌, ℕ, Bool, true, false, Some, refl, sym, ap, subst, ◌∙◌, inl, inr, arith}
 use Rattle.memory_law.specs.Chain.{IsChained}
 use Rattle.memory_law.specs.Notes.{notes_of}
 use Rattle.memory_law.specs.Tasks.{IsLineSize}
@@ -9,8 +9,8 @@ use Rattle.spec_state.specs.Settings.{IsLine}
 use Rattle.spec_state.specs.View.{View, task_at}
 use Rattle.spec_state.specs.Filters.{HasNotes}
 use Rattle.spec_state.specs.Groups.{logged_tasks}
-use Rattle.spec_state.specs.Aborts.{is_marked}
-use Rattle.spec_law.specs.AbortLaws.{TakesMarked, AbortKeepsSoundMemory}
+use Rattle.spec_state.specs.Aborts.{Aborts, is_marked}
+use Rattle.spec_law.specs.AbortLaws.{AbortKeepsSoundMemory}
 use Rattle.spec_law.proofs.Accesses.Noted.{none_noted}
 use Rattle.spec_law.proofs.Aborted.Taken.{unmarked_stays, marked_is_back, holds_later, logs_taken_back}
 
@@ -23,29 +23,29 @@ line_sized line (inr (inr (inr (inl is)))) = subst IsLineSize (sym is) (record {
 line_sized line (inr (inr (inr (inr is)))) = subst IsLineSize (sym is) (record { some = omega arith; fours = refl })
 
 -- an abort keeps what filters say of logs
-noted_by : (marks : List Bool) (old new : View) → TakesMarked marks old new
+noted_by : {firsts : ℕ → Type 0} {old : View} {aborted : ℕ} {new : View} → Aborts firsts old aborted new
     → ((id : ℕ) (task : Task) → task_at old id ≡ Some task → HasNotes task.lines (notes_of old.settings.line task.log))
     → (id : ℕ) (task : Task) → task_at new id ≡ Some task → HasNotes task.lines (notes_of old.settings.line task.log)
-noted_by marks old new takes noted id task at = by_mark (is_marked marks id) refl
+noted_by {old} abort noted id task at = by_mark (is_marked abort.marks id) refl
   where
-    by_mark : (b : Bool) → is_marked marks id ≡ b → HasNotes task.lines (notes_of old.settings.line task.log)
-    by_mark false out = noted id task (sym (unmarked_stays marks old new takes id out) ∙ at)
+    by_mark : (b : Bool) → is_marked abort.marks id ≡ b → HasNotes task.lines (notes_of old.settings.line task.log)
+    by_mark false out = noted id task (sym (unmarked_stays abort id out) ∙ at)
     by_mark true taken =
-        let back = marked_is_back marks old new takes id task taken at in
+        let back = marked_is_back abort id task taken at in
         subst (λ t. HasNotes t.lines (notes_of old.settings.line t.log)) (sym back.is) none_noted
 
 pub abort_keeps_memory : AbortKeepsSoundMemory
-abort_keeps_memory image marks old new sound takes =
+abort_keeps_memory image firsts old aborted new sound abort =
     let sized = line_sized old.settings.line sound.sizes.settings.line in
-    let back = takes.memory in
+    let back = abort.memory in
     let chained =
-    abort_keeps_chain old.settings.line (is_marked marks) (logged_tasks old) (logged_tasks new) back.ids sound.serial.memory old.memory
-    sized (holds_later marks old new takes) (logs_taken_back marks old new takes) back.by_key sound.memory.chained
+    abort_keeps_chain old.settings.line (is_marked abort.marks) (logged_tasks old) (logged_tasks new) back.ids sound.serial.memory old.memory
+    sized (holds_later abort) (logs_taken_back abort) back.by_key sound.memory.chained
     in
-    let same : new.settings ≡ old.settings = ap (λ v. v.settings) takes.frame in
+    let same : new.settings ≡ old.settings = ap (λ v. v.settings) abort.frame in
     record {
       chained = subst (λ s. IsChained s.line (logged_tasks new) sound.serial.memory new.memory) (sym same)
           (subst (IsChained old.settings.line (logged_tasks new) sound.serial.memory) (sym back.memory_is) chained);
       noted =
-          λ id task at. subst (λ s. HasNotes task.lines (notes_of s.line task.log)) (sym same) (noted_by marks old new takes sound.memory.noted id task at);
+          λ id task at. subst (λ s. HasNotes task.lines (notes_of s.line task.log)) (sym same) (noted_by abort sound.memory.noted id task at);
     }

@@ -19,9 +19,9 @@ use Rattle.spec_state.specs.View.{View, task_at, block_at}
 use Rattle.spec_state.specs.Tasks.{idle_again, is_dispatched}
 use Rattle.spec_state.specs.Groups.{all_keyed, all_spilled, keyed_tasks, keyed_task, keyed_spilled, live_creator}
 use Rattle.spec_state.specs.Least.{Queued, Spilled_at, spot_cmp, IsHeir, IsLeastTask}
-use Rattle.spec_state.specs.Aborts.{is_marked, is_marked_creator}
+use Rattle.spec_state.specs.Aborts.{Aborts, is_marked, is_marked_creator}
 use Rattle.spec_law.specs.Sound.{SoundOrder, SoundSizes}
-use Rattle.spec_law.specs.AbortLaws.{TakesMarked, AbortKeepsHeirOfView}
+use Rattle.spec_law.specs.AbortLaws.{AbortKeepsHeirOfView}
 use Rattle.spec_law.proofs.Tasks.Beside.{id_below, queued_stands}
 use Rattle.spec_law.proofs.Aborted.Taken.{unmarked_stays, marked_idles}
 use Rattle.spec_law.proofs.Tasks.Rebound.{below_all}
@@ -46,9 +46,10 @@ same_key a b one two = by_order (key_cmp a b) refl
 pub not_above : (a b : Key) → (key_cmp b a ≡ Less → ⊥) → key_cmp a b ≢ Greater
 not_above a b none is = none (key_cmp_total.antisymm b a ∙ ap ordering_reverse is)
 
-module _ (marks : List Bool) (old new : View) (takes : TakesMarked marks old new) (sizes : SoundSizes old) where
+module _ {firsts : ℕ → Type 0} {old : View} {aborted : ℕ} {new : View} (abort : Aborts firsts old aborted new)
+    (sizes : SoundSizes old) where
   same_blocks : new.blocks ≡ old.blocks
-  same_blocks = ap (λ v. v.blocks) takes.frame
+  same_blocks = ap (λ v. v.blocks) abort.frame
 
   spilled_was : (tile place : ℕ) (s : Spilled) → slice_get (block_at new tile) place ≡ Some s
       → slice_get (block_at old tile) place ≡ Some s
@@ -61,7 +62,7 @@ module _ (marks : List Bool) (old new : View) (takes : TakesMarked marks old new
       subst (λ blocks. slice_get (slice_index_or blocks tile []) place ≡ Some s) (sym same_blocks) at
 
   -- an heir that is spared is the least task, and dispatched
-  module _ (id : ℕ) (out : is_marked marks id ≡ false) (order : SoundOrder old (Some id)) (heir : IsHeir old (Some id)) where
+  module _ (id : ℕ) (out : is_marked abort.marks id ≡ false) (order : SoundOrder old (Some id)) (heir : IsHeir old (Some id)) where
     -- it was below each other queued task, since numbers differ
     above_before : (k : ℕ) (t : Task) → k ≢ id → task_at old k ≡ Some t → key_cmp heir.0.key t.key ≡ Less
     above_before k t other there =
@@ -77,7 +78,7 @@ module _ (marks : List Bool) (old new : View) (takes : TakesMarked marks old new
             (sym (ap (λ key. key.tb) same) ∙ number.1) number.1
 
     above_now : (k : ℕ) (t : Task) → task_at new k ≡ Some t → k ≢ id → key_cmp heir.0.key t.key ≡ Less
-    above_now = each_now marks old new takes (λ k t. k ≢ id → key_cmp heir.0.key t.key ≡ Less)
+    above_now = each_now abort (λ k t. k ≢ id → key_cmp heir.0.key t.key ≡ Less)
         (λ k t there unmarked other. above_before k t other there)
         (λ k now back other. below_reopened (levels_of (keyed_task heir.0)) (keyed_task back.was) (above_before k back.was other back.there))
 
@@ -92,7 +93,7 @@ module _ (marks : List Bool) (old new : View) (takes : TakesMarked marks old new
     pub stays_heir : IsHeir new (Some id)
     stays_heir = (
       heir.0,
-      makes_least new (abort_keeps_sizes marks old new takes sizes) id heir.0 (unmarked_stays marks old new takes id out ∙ heir.1.queued_at.there)
+      makes_least new (abort_keeps_sizes abort sizes) id heir.0 (unmarked_stays abort id out ∙ heir.1.queued_at.there)
           (λ k t other there. above_now k t there other) spilled_above,
       heir.2,
     )
@@ -100,7 +101,7 @@ module _ (marks : List Bool) (old new : View) (takes : TakesMarked marks old new
   -- where there was no heir, a dispatched least task would be one of before
   module _ (order : SoundOrder old None) (heir : IsHeir old None) (id : ℕ) (n : Task) (least : IsLeastTask new id n) (runs : is_dispatched n ≡ true) where
     n_was : task_at old id ≡ Some n
-    n_was = each_now marks old new takes (λ k t. is_dispatched t ≡ true → task_at old k ≡ Some t)
+    n_was = each_now abort (λ k t. is_dispatched t ≡ true → task_at old k ≡ Some t)
         (λ k t there out run. there) (λ k now back run. absurd (cc (run))) id n least.queued_at.there runs
 
     -- a key with an open tiebreaker does not tie with the task's
@@ -138,7 +139,7 @@ module _ (marks : List Bool) (old new : View) (takes : TakesMarked marks old new
 
       -- an idle one of a committed creator is there still, at its key
       idle_low : (t : Task) → task_at old k ≡ Some t → task ≡ keyed_task t → t.key.tb ≡ None → ⊥
-      idle_low t there is open' = by_mark (is_marked marks k) refl
+      idle_low t there is open' = by_mark (is_marked abort.marks k) refl
         where
           free : live_creator t.creator ≡ None
           free =
@@ -152,12 +153,12 @@ module _ (marks : List Bool) (old new : View) (takes : TakesMarked marks old new
           at_key now at same =
               not_n t.key open' upto
               (subst (λ key. key_cmp n.key key ≢ Greater) same
-              (not_above n.key now.key (not_below_least new (abort_keeps_sizes marks old new takes sizes) id k n now least at)))
+              (not_above n.key now.key (not_below_least new (abort_keeps_sizes abort sizes) id k n now least at)))
 
-          by_mark : (b : Bool) → is_marked marks k ≡ b → ⊥
-          by_mark false out = at_key t (unmarked_stays marks old new takes k out ∙ there) refl
+          by_mark : (b : Bool) → is_marked abort.marks k ≡ b → ⊥
+          by_mark false out = at_key t (unmarked_stays abort k out ∙ there) refl
           by_mark true taken =
-              at_key (idle_again old.version t) (marked_idles marks old new takes k t taken there (ap (is_marked_creator marks) free))
+              at_key (idle_again old.version t) (marked_idles abort k t taken there (ap (is_marked_creator abort.marks) free))
               (λ i. record { domain = t.key.domain; ts = t.key.ts; tb = sym open' i })
 
       -- a spilled one is there still
@@ -209,7 +210,7 @@ module _ (marks : List Bool) (old new : View) (takes : TakesMarked marks old new
     ]
 
 pub abort_keeps_heir : AbortKeepsHeirOfView
-abort_keeps_heir marks old new None takes spares order sizes heir =
-    λ id n least runs. none_new marks old new takes sizes order heir id n least runs
-abort_keeps_heir marks old new (Some id) takes spares order sizes heir =
-    stays_heir marks old new takes sizes id (spares id refl) order heir
+abort_keeps_heir firsts old aborted new None abort spares order sizes heir =
+    λ id n least runs. none_new abort sizes order heir id n least runs
+abort_keeps_heir firsts old aborted new (Some id) abort spares order sizes heir =
+    stays_heir abort sizes id (spares id refl) order heir

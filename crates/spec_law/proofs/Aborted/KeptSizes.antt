@@ -13,11 +13,10 @@ use Rattle.spec_state.specs.declared.task.Task.{Task}
 use Rattle.spec_state.specs.View.{View, task_at, queue_at, finished_at, cores_at}
 use Rattle.spec_state.specs.Tasks.{depth_of, idle_again}
 use Rattle.spec_state.specs.Groups.{room_tasks, room_task}
-use Rattle.spec_state.specs.Aborts.{is_marked, freed_core}
+use Rattle.spec_state.specs.Aborts.{Aborts, is_marked, freed_core}
 use Rattle.spec_state.specs.Queries.{IsQueued}
 use Rattle.spec_state.specs.Stored.{HasCore, HasTask}
 use Rattle.spec_law.specs.Sound.{SoundSizes}
-use Rattle.spec_law.specs.AbortLaws.{TakesMarked, AbortKeepsSoundSizes}
 use Rattle.spec_law.proofs.Aborted.Taken.{unmarked_stays}
 use Rattle.spec_law.proofs.Aborted.KeptTasks.{each_now}
 use Rattle.spec_law.proofs.Tasks.Filtered.{filter_shorter, filter_was, filter_is, filter_leaves, queue_filtered}
@@ -49,13 +48,14 @@ unmarked_of : (b : Bool) → not b ≡ true → b ≡ false
 unmarked_of true is = absurd (cc)
 unmarked_of false is = refl
 
-module _ (marks : List Bool) (old new : View) (takes : TakesMarked marks old new) (sizes : SoundSizes old) where
+module _ {firsts : ℕ → Type 0} {old : View} {aborted : ℕ} {new : View} (abort : Aborts firsts old aborted new)
+    (sizes : SoundSizes old) where
   -- the task of this id is there
   abbrev here : ℕ → Bool
   here id = is_some (room_tasks new id)
 
   abbrev unmarked : ℕ → Bool
-  unmarked id = not (is_marked marks id)
+  unmarked id = not (is_marked abort.marks id)
 
   -- the view after the abort, with its lists written out
   abbrev listed : View
@@ -64,20 +64,20 @@ module _ (marks : List Bool) (old new : View) (takes : TakesMarked marks old new
     memory = new.memory;
     queues = map (filter here) old.queues;
     finished = map (filter unmarked) old.finished;
-    cores = map (map (freed_core marks)) old.cores;
+    cores = map (map (freed_core abort.marks)) old.cores;
   }
 
   new_is : new ≡ listed
   new_is =
-      let queues : new.queues ≡ map (filter here) old.queues = takes.queues ∙ ap (λ f. map f old.queues) (λ i ids. queue_filtered (room_tasks new) ids i) in
-      takes.frame
-      ∙ (λ i. record old { tasks = new.tasks; memory = new.memory; queues = queues i; finished = takes.finished i; cores = takes.cores i })
+      let queues : new.queues ≡ map (filter here) old.queues = abort.queues ∙ ap (λ f. map f old.queues) (λ i ids. queue_filtered (room_tasks new) ids i) in
+      abort.frame
+      ∙ (λ i. record old { tasks = new.tasks; memory = new.memory; queues = queues i; finished = abort.finished i; cores = abort.cores i })
 
   -- each task was there, in the same tile
   pub was_in_tile : (id : ℕ) (now : Task) → task_at new id ≡ Some now
       → (was : Task) × (task_at old id ≡ Some was) × (now.tile ≡ was.tile)
   was_in_tile =
-      each_now marks old new takes (λ id now. (was : Task) × (task_at old id ≡ Some was) × (now.tile ≡ was.tile))
+      each_now abort (λ id now. (was : Task) × (task_at old id ≡ Some was) × (now.tile ≡ was.tile))
       (λ id t there out. (t, there, refl)) (λ id now back. (back.was, back.there, refl))
 
   -- a task that is there stands so
@@ -110,15 +110,15 @@ module _ (marks : List Bool) (old new : View) (takes : TakesMarked marks old new
   finished_forth tile id has =
       let left : Contains (filter unmarked (finished_at old tile)) id = subst (λ ids. Contains ids id) (list_mapped (filter unmarked) refl old.finished tile) has in
       let was = (sizes.finished_are tile id).0 (filter_was unmarked (finished_at old tile) id left) in
-      let out = unmarked_of (is_marked marks id) (filter_is unmarked (finished_at old tile) id left) in
-      (was.0, unmarked_stays marks old new takes id out ∙ was.1, was.2, was.3)
+      let out = unmarked_of (is_marked abort.marks id) (filter_is unmarked (finished_at old tile) id left) in
+      (was.0, unmarked_stays abort id out ∙ was.1, was.2, was.3)
 
   -- a task whose status is none of an idle one is unmarked, and was the same before
   not_idle : (kind : Status → Type 0) → ((t : Task) → kind (idle_again old.version t).status → ⊥)
       → (id : ℕ) (now : Task) → task_at new id ≡ Some now → kind now.status
-      → (is_marked marks id ≡ false) × (task_at old id ≡ Some now)
+      → (is_marked abort.marks id ≡ false) × (task_at old id ≡ Some now)
   not_idle kind none =
-      each_now marks old new takes (λ id now. kind now.status → (is_marked marks id ≡ false) × (task_at old id ≡ Some now))
+      each_now abort (λ id now. kind now.status → (is_marked abort.marks id ≡ false) × (task_at old id ≡ Some now))
       (λ id t there out is. (out, there)) (λ id now back is. absurd (none back.was is))
 
   finished_back : (tile id : ℕ) → HasTask listed tile id (λ status. status ≡ Finished)
@@ -132,21 +132,21 @@ module _ (marks : List Bool) (old new : View) (takes : TakesMarked marks old new
   held_forth : (tile core id : ℕ) → slice_get (cores_at listed tile) core ≡ Some (Some id)
       → HasTask listed tile id (λ status. HasCore status core)
   held_forth tile core id held =
-      let got : slice_get (map (freed_core marks) (cores_at old tile)) core ≡ Some (Some id) =
-      ap (λ cores. slice_get cores core) (sym (list_mapped (map (freed_core marks)) refl old.cores tile)) ∙ held
+      let got : slice_get (map (freed_core abort.marks) (cores_at old tile)) core ≡ Some (Some id) =
+      ap (λ cores. slice_get cores core) (sym (list_mapped (map (freed_core abort.marks)) refl old.cores tile)) ∙ held
       in
-      let from = got_mapped (freed_core marks) (cores_at old tile) core (Some id) got in
-      let still = still_held marks from.0 id from.2 in
+      let from = got_mapped (freed_core abort.marks) (cores_at old tile) core (Some id) got in
+      let still = still_held abort.marks from.0 id from.2 in
       let was = (sizes.held_are tile core id).0 (from.1 ∙ ap Some still.0) in
-      (was.0, unmarked_stays marks old new takes id still.1 ∙ was.1, was.2, was.3)
+      (was.0, unmarked_stays abort id still.1 ∙ was.1, was.2, was.3)
 
   held_back : (tile core id : ℕ) → HasTask listed tile id (λ status. HasCore status core)
       → slice_get (cores_at listed tile) core ≡ Some (Some id)
   held_back tile core id now =
       let was = not_idle (λ status. HasCore status core) (λ t is. is) id now.0 now.1 now.3 in
       let got = (sizes.held_are tile core id).1 (now.0, was.1, now.2, now.3) in
-      ap (λ cores. slice_get cores core) (list_mapped (map (freed_core marks)) refl old.cores tile)
-      ∙ get_mapped (freed_core marks) (cores_at old tile) core (Some id) got
+      ap (λ cores. slice_get cores core) (list_mapped (map (freed_core abort.marks)) refl old.cores tile)
+      ∙ get_mapped (freed_core abort.marks) (cores_at old tile) core (Some id) got
       ∙ ap (λ b. Some (if b then None else Some id)) was.0
 
   listed_sizes : SoundSizes listed
@@ -155,23 +155,22 @@ module _ (marks : List Bool) (old new : View) (takes : TakesMarked marks old new
         settings = sizes.settings;
         queues = length-map old.queues (filter here) ∙ sizes.queues;
         finished = length-map old.finished (filter unmarked) ∙ sizes.finished;
-        cores = length-map old.cores (map (freed_core marks)) ∙ sizes.cores;
+        cores = length-map old.cores (map (freed_core abort.marks)) ∙ sizes.cores;
         blocks = sizes.blocks;
         task_queues = bounded_filtered here old.settings.task_queue old.queues sizes.task_queues;
         commit_queues = bounded_filtered unmarked old.settings.commit_queue old.finished sizes.commit_queues;
-        core_counts = All-map (λ held. length held ≡ old.settings.cores) (map (freed_core marks)) old.cores
-            (All-weaker (λ held. length held ≡ old.settings.cores) (λ held. length (map (freed_core marks) held) ≡ old.settings.cores)
-            (λ held is. length-map held (freed_core marks) ∙ is) old.cores sizes.core_counts);
+        core_counts = All-map (λ held. length held ≡ old.settings.cores) (map (freed_core abort.marks)) old.cores
+            (All-weaker (λ held. length held ≡ old.settings.cores) (λ held. length (map (freed_core abort.marks) held) ≡ old.settings.cores)
+            (λ held is. length-map held (freed_core abort.marks) ∙ is) old.cores sizes.core_counts);
         queued_are = λ tile id. (queued_forth tile id, queued_back tile id);
         finished_are = λ tile id. (finished_forth tile id, finished_back tile id);
         held_are = λ tile core id. (held_forth tile core id, held_back tile core id);
         kinds =
-            each_now marks old new takes (λ id t. t.kinds < 2 ^ depth_of t) (λ id t there out. sizes.kinds id t there) (λ id now back. sizes.kinds id back.was back.there);
+            each_now abort (λ id t. t.kinds < 2 ^ depth_of t) (λ id t there out. sizes.kinds id t there) (λ id now back. sizes.kinds id back.was back.there);
         bytes =
-            each_now marks old new takes (λ id t. length t.bytes ≤ MAX_EMITTED) (λ id t there out. sizes.bytes id t there) (λ id now back. omega arith);
+            each_now abort (λ id t. length t.bytes ≤ MAX_EMITTED) (λ id t there out. sizes.bytes id t there) (λ id now back. omega arith);
         spilled = sizes.spilled;
       }
 
-pub abort_keeps_sizes : AbortKeepsSoundSizes
-abort_keeps_sizes marks old new takes sizes =
-    subst SoundSizes (sym (new_is marks old new takes sizes)) (listed_sizes marks old new takes sizes)
+  pub abort_keeps_sizes : SoundSizes new
+  abort_keeps_sizes = subst SoundSizes (sym new_is) listed_sizes

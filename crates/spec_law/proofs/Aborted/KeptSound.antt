@@ -10,13 +10,11 @@ use Rattle.spec_state.specs.declared.task.Task.{Task}
 use Rattle.spec_state.specs.View.{View, task_at}
 use Rattle.spec_state.specs.Groups.{live_creator}
 use Rattle.spec_state.specs.Least.{IsHeir}
-use Rattle.spec_state.specs.Queries.{Conflicts, IsLater}
-use Rattle.spec_state.specs.Aborts.{OnlyNode}
+use Rattle.spec_state.specs.Queries.{IsLater}
 use Rattle.spec_state.specs.Room.{asker_of}
 use Rattle.spec_law.specs.Sound.{Sound}
 use Rattle.spec_law.specs.AbortLaws.{AbortKeepsSound, AbortOfOneIsSound, AbortOfConflictsIsSound, AbortOfLaterIsSound}
-use Rattle.spec_law.specs.AbortLaws.{AbortForRoomIsSound}
-use Rattle.spec_law.proofs.Aborted.Taken.{abort_takes}
+use Rattle.spec_law.specs.AbortLaws.{AbortForRoomIsSound, OneTask, AllConflicts}
 use Rattle.spec_law.proofs.Aborted.Kept.{abort_keeps_memory}
 use Rattle.spec_law.proofs.Tasks.Rebound.{abort_keeps_order}
 use Rattle.spec_law.proofs.Aborted.KeptTasks.{abort_keeps_tasks}
@@ -25,29 +23,29 @@ use Rattle.spec_law.proofs.Aborted.KeptHeir.{abort_keeps_heir}
 use Rattle.spec_law.proofs.Aborted.Spared.{heir_is_least, not_below_least, cascade_spares_heir, conflicts_spare_heir}
 
 pub abort_keeps_sound : AbortKeepsSound
-abort_keeps_sound image marks old new sound takes spares = (
+abort_keeps_sound image firsts old aborted new sound abort spares = (
   record {
-    version = ap (λ v. v.version) takes.frame ∙ sound.version;
+    version = ap (λ v. v.version) abort.frame ∙ sound.version;
     serial = sound.serial;
-    is_run = subst (λ v. IsRun image v.settings.budget v.history sound.serial) (sym takes.frame) sound.is_run;
+    is_run = subst (λ v. IsRun image v.settings.budget v.history sound.serial) (sym abort.frame) sound.is_run;
     heir = sound.heir;
-    is_heir = abort_keeps_heir marks old new sound.heir takes spares sound.order sound.sizes sound.is_heir;
-    tasks = abort_keeps_tasks image marks old new sound.heir sound.serial takes spares sound.tasks;
-    memory = abort_keeps_memory image marks old new sound takes;
-    order = abort_keeps_order marks old new sound.heir takes spares sound.order;
-    sizes = abort_keeps_sizes marks old new takes sound.sizes;
+    is_heir = abort_keeps_heir firsts old aborted new sound.heir abort spares sound.order sound.sizes sound.is_heir;
+    tasks = abort_keeps_tasks image firsts old aborted new sound.heir sound.serial abort spares sound.tasks;
+    memory = abort_keeps_memory image firsts old aborted new sound abort;
+    order = abort_keeps_order firsts old aborted new sound.heir abort spares sound.order;
+    sizes = abort_keeps_sizes abort sound.sizes;
   },
   refl,
 )
 
 pub abort_of_one_is_sound : AbortOfOneIsSound
 abort_of_one_is_sound image first task old aborted new sound there other abort =
-    abort_keeps_sound image abort.marks old new sound (abort_takes (OnlyNode first) old aborted new abort)
+    abort_keeps_sound image (OneTask first) old aborted new sound abort
     (cascade_spares_heir image old first task abort.marks sound there other abort.cascade)
 
 pub abort_of_conflicts_is_sound : AbortOfConflictsIsSound
 abort_of_conflicts_is_sound image id line task write old aborted new sound there abort =
-    abort_keeps_sound image abort.marks old new sound (abort_takes (Conflicts old task line write) old aborted new abort)
+    abort_keeps_sound image (AllConflicts task line write) old aborted new sound abort
     (conflicts_spare_heir image old id line task write abort.marks sound there abort.cascade)
 
 -- a task above a queued one is no heir

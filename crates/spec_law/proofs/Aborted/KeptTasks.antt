@@ -1,5 +1,5 @@
 -- An abort that spares the heir keeps the group of tasks.
-use Rattle.std.proofs.Common.{◌≡◌, ℕ, Bool, true, false, List, length, Option, Some, refl, sym, ap, subst, ◌∙◌, inl}
+use Rattle.std.proofs.Common.{◌≡◌, ℕ, Bool, true, false, length, Option, Some, refl, sym, ap, subst, ◌∙◌, inl}
 use Rattle.std.proofs.Common.{is_some, unwrap_or}
 use Rattle.guest_image.specs.ImageValue.{ImageValue}
 use Rattle.serial_machine.specs.State.{SerialState}
@@ -13,53 +13,56 @@ use Rattle.spec_state.specs.declared.task.TaskId.{TaskId}
 use Rattle.spec_state.specs.View.{View, task_at}
 use Rattle.spec_state.specs.Tasks.{Descriptor, descriptor_of, idle_again, spilled_descriptor}
 use Rattle.spec_state.specs.Groups.{bag_tasks, bags_spilled, domains_of, live_creator}
-use Rattle.spec_state.specs.Aborts.{is_marked, is_marked_creator}
+use Rattle.spec_state.specs.Aborts.{Aborts, is_marked, is_marked_creator}
 use Rattle.spec_law.specs.Sound.{StandsAs, IsMadeBy, SoundTasks}
-use Rattle.spec_law.specs.AbortLaws.{TakesMarked, SparesHeir, AbortKeepsSoundTasks}
-use Rattle.spec_law.proofs.Aborted.Taken.{IsBack, unmarked_stays, marked_is_back, bags_taken_back}
+use Rattle.spec_law.specs.AbortLaws.{SparesHeir, AbortKeepsSoundTasks}
+use Rattle.spec_law.proofs.Aborted.Taken.{IsBack, holds_pulled, unmarked_stays, marked_is_back, bags_taken_back}
 use Rattle.spec_law.proofs.Tasks.Rebound.{changed_to}
 
 -- what holds of the tasks that were there, and of each of them once it is idle again, holds of all that are there
-pub each_now : (marks : List Bool) (old new : View) → TakesMarked marks old new → (holds : ℕ → Task → Type 0)
-    → ((id : ℕ) (t : Task) → task_at old id ≡ Some t → is_marked marks id ≡ false → holds id t)
-    → ((id : ℕ) (now : Task) (back : IsBack marks old id now) → holds id (idle_again old.version back.was))
+pub each_now : {firsts : ℕ → Type 0} {old : View} {aborted : ℕ} {new : View} (abort : Aborts firsts old aborted new)
+    (holds : ℕ → Task → Type 0)
+    → ((id : ℕ) (t : Task) → task_at old id ≡ Some t → is_marked abort.marks id ≡ false → holds id t)
+    → ((id : ℕ) (now : Task) (back : IsBack abort.marks old id now) → holds id (idle_again old.version back.was))
     → (id : ℕ) (t : Task) → task_at new id ≡ Some t → holds id t
-each_now marks old new takes holds unmarked idle id t at = by_mark (is_marked marks id) refl
+each_now abort holds unmarked idle id t at = by_mark (is_marked abort.marks id) refl
   where
-    by_mark : (b : Bool) → is_marked marks id ≡ b → holds id t
-    by_mark false out = unmarked id t (sym (unmarked_stays marks old new takes id out) ∙ at) out
+    by_mark : (b : Bool) → is_marked abort.marks id ≡ b → holds id t
+    by_mark false out = unmarked id t (sym (unmarked_stays abort id out) ∙ at) out
     by_mark true taken =
-        let back = marked_is_back marks old new takes id t taken at in subst (holds id) (sym back.is) (idle id t back)
+        let back = marked_is_back abort id t taken at in subst (holds id) (sym back.is) (idle id t back)
 
-module _ (image : ImageValue) (marks : List Bool) (old new : View) (heir : Option ℕ) (serial : SerialState) (takes : TakesMarked marks old new) (spares : SparesHeir marks heir) (sound : SoundTasks image old heir serial) where
+module _ (image : ImageValue) {firsts : ℕ → Type 0} {old : View} {aborted : ℕ} {new : View} (heir : Option ℕ)
+    (serial : SerialState) (abort : Aborts firsts old aborted new) (spares : SparesHeir abort.marks heir)
+    (sound : SoundTasks image old heir serial) where
   -- what an unmarked creator made it has made still
-  made_now : (id index : ℕ) (d : Descriptor) → is_marked marks id ≡ false → IsMadeBy old id index d
+  made_now : (id index : ℕ) (d : Descriptor) → is_marked abort.marks id ≡ false → IsMadeBy old id index d
       → IsMadeBy (changed_to old new) id index d
   made_now id index d out made =
       record {
         creator = made.creator;
-        there = unmarked_stays marks old new takes id out ∙ made.there;
+        there = unmarked_stays abort id out ∙ made.there;
         spawn = made.spawn;
         made = made.made;
         descriptor_is = made.descriptor_is;
       }
 
   -- the creator of an unmarked task is unmarked
-  creator_out : (id c : ℕ) (t : Task) → task_at old id ≡ Some t → is_marked marks id ≡ false
-      → live_creator t.creator ≡ Some c → is_marked marks c ≡ false
-  creator_out id c t there out made = by_mark (is_marked marks c) refl
+  creator_out : (id c : ℕ) (t : Task) → task_at old id ≡ Some t → is_marked abort.marks id ≡ false
+      → live_creator t.creator ≡ Some c → is_marked abort.marks c ≡ false
+  creator_out id c t there out made = by_mark (is_marked abort.marks c) refl
     where
-      by_mark : (b : Bool) → is_marked marks c ≡ b → is_marked marks c ≡ false
+      by_mark : (b : Bool) → is_marked abort.marks c ≡ b → is_marked abort.marks c ≡ false
       by_mark false is = is
       by_mark true is =
-          absurd (cc (takes.holds c id (inl (record { child = t; there = there; made_by = made })) is, out))
+          absurd (cc (holds_pulled abort c id (inl (record { child = t; there = there; made_by = made })) is, out))
 
   -- the free tasks are the same ones, and names are apart and families whole
   same_free : SameFree (length old.history) (bag_tasks old) (bags_spilled old) (bag_tasks new) (bags_spilled old)
       × (AreSound (length old.history) (unwrap_or heir 0) (is_some heir) (bag_tasks old) (bags_spilled old)
       → AreSound (length old.history) (unwrap_or heir 0) (is_some heir) (bag_tasks new) (bags_spilled old))
   same_free =
-      aborts_keep (is_marked marks) (bag_tasks old) (bag_tasks new) (bags_spilled old) (length old.history) (unwrap_or heir 0) (is_some heir) (bags_taken_back marks old new takes)
+      aborts_keep (is_marked abort.marks) (bag_tasks old) (bag_tasks new) (bags_spilled old) (length old.history) (unwrap_or heir 0) (is_some heir) (bags_taken_back abort)
 
   matches : Matches (length old.history) (bag_tasks new) (bags_spilled old) serial.stack
   matches depth p =
@@ -82,21 +85,21 @@ module _ (image : ImageValue) (marks : List Bool) (old new : View) (heir : Optio
         output = sound.output;
         names = same_free.1 sound.names;
         matches = matches;
-        domains = λ id task turn index at. each_now marks old new takes InBags
+        domains = λ id task turn index at. each_now abort InBags
             (λ k t there out turn index made. sound.domains k t turn index there made)
             (λ k now back turn index made. sound.domains k back.was turn index back.there made) id task at turn index;
         spilled_domains = sound.spilled_domains;
-        stands = each_now marks old new takes (λ k t. StandsAs image old.version old.settings.budget t t.status)
+        stands = each_now abort (λ k t. StandsAs image old.version old.settings.budget t t.status)
             (λ k t there out. sound.stands k t there) (λ k now back. refl);
-        children = λ id task creator index at. each_now marks old new takes IsMade
+        children = λ id task creator index at. each_now abort IsMade
             (λ k t there out creator index made. made_now creator.0 index (descriptor_of t) (creator_out k creator.0 t there out (ap live_creator made)) (sound.children k t creator index there made))
             (λ k now back creator index made. made_now creator.0 index (descriptor_of back.was)
-            (subst (λ c. is_marked_creator marks (live_creator c) ≡ false) made back.spared) (sound.children k back.was creator index back.there made))
+            (subst (λ c. is_marked_creator abort.marks (live_creator c) ≡ false) made back.spared) (sound.children k back.was creator index back.there made))
             id task at creator index;
         spilled_children =
             λ s has next. (let was = sound.spilled_children s has next in (was.0, was.1, made_now was.0 s.desc.name.index (spilled_descriptor s) (spares was.0 was.1) was.2));
       }
 
 pub abort_keeps_tasks : AbortKeepsSoundTasks
-abort_keeps_tasks image marks old new heir serial takes spares sound =
-    subst (λ v. SoundTasks image v heir serial) (sym takes.frame) (kept image marks old new heir serial takes spares sound)
+abort_keeps_tasks image firsts old aborted new heir serial abort spares sound =
+    subst (λ v. SoundTasks image v heir serial) (sym abort.frame) (kept image heir serial abort spares sound)

@@ -14,8 +14,8 @@ use Rattle.spec_state.specs.View.{View, task_at}
 use Rattle.spec_state.specs.Tasks.{idle_again}
 use Rattle.spec_state.specs.Groups.{keyed_tasks, keyed_task, logged_tasks, logged_task, bag_tasks, bag_task}
 use Rattle.spec_state.specs.Groups.{bag_creator, live_creator}
-use Rattle.spec_state.specs.Aborts.{PullsInView, IsCascade, is_marked, is_marked_creator, taken_back, Aborts, OnlyNode}
-use Rattle.spec_law.specs.AbortLaws.{HoldsPulled, TakesMarked, AbortTakesMarked, ConflictsTakeMarked}
+use Rattle.spec_state.specs.Aborts.{PullsInView, IsCascade, is_marked, is_marked_creator, taken_back, Aborts}
+use Rattle.spec_law.specs.AbortLaws.{HoldsPulled}
 use Rattle.spec_law.proofs.Tasks.Beside.{id_below}
 use Rattle.spec_law.proofs.Dispatches.Tasks.{live_of}
 use Rattle.fractal_vt.proofs.Proved.{mapped_some}
@@ -45,26 +45,6 @@ cascade_holds view firsts marks cascade a b pulled marked =
     let size : length view.tasks ≤ length marks = cascade.size in
     cascade.least.closed a b (marked_below marks a marked) (omega (arith, in_tasks, size)) ((cascade.pulls a b).1 pulled) marked
 
-pub abort_takes : (firsts : ℕ → Type 0) (old : View) (aborted : ℕ) (new : View) (abort : Aborts firsts old aborted new)
-    → TakesMarked abort.marks old new
-abort_takes firsts old aborted new abort =
-    record {
-      holds = cascade_holds old firsts abort.marks abort.cascade;
-      each = abort.each;
-      memory = abort.memory;
-      queues = abort.queues;
-      finished = abort.finished;
-      cores = abort.cores;
-      frame = abort.frame;
-    }
-
-pub abort_takes_marked : AbortTakesMarked
-abort_takes_marked first = abort_takes (OnlyNode first)
-
-pub conflicts_take_marked : ConflictsTakeMarked
-conflicts_take_marked task line write old =
-    abort_takes (Rattle.spec_state.specs.Queries.Conflicts old task line write) old
-
 -- what stands under an unmarked id stays
 taken_unmarked : (version : ℕ) (marks : List Bool) (id : ℕ) (was : Option Task) → is_marked marks id ≡ false
     → taken_back version marks id was ≡ was
@@ -85,18 +65,24 @@ pub record IsBack (marks : List Bool) (old : View) (id : ℕ) (now : Task) : Typ
   pub is : now ≡ idle_again old.version was
   pub spared : is_marked_creator marks (live_creator was.creator) ≡ false
 
-module _ (marks : List Bool) (old new : View) (takes : TakesMarked marks old new) where
+module _ {firsts : ℕ → Type 0} {old : View} {aborted : ℕ} {new : View} (abort : Aborts firsts old aborted new) where
+  abbrev marks : List Bool
+  marks = abort.marks
+
+  pub holds_pulled : HoldsPulled old marks
+  holds_pulled = cascade_holds old firsts marks abort.cascade
+
   pub unmarked_stays : (id : ℕ) → is_marked marks id ≡ false → task_at new id ≡ task_at old id
-  unmarked_stays id out = takes.each id ∙ taken_unmarked old.version marks id (task_at old id) out
+  unmarked_stays id out = abort.each id ∙ taken_unmarked old.version marks id (task_at old id) out
 
   pub gone_stays : (id : ℕ) → task_at old id ≡ None → task_at new id ≡ None
-  gone_stays id none = takes.each id ∙ ap (taken_back old.version marks id) none
+  gone_stays id none = abort.each id ∙ ap (taken_back old.version marks id) none
 
   -- what becomes of a marked task
   marked_now : (id : ℕ) (t : Task) → is_marked marks id ≡ true → task_at old id ≡ Some t
       → task_at new id ≡ (if is_marked_creator marks (live_creator t.creator) then None else Some (idle_again old.version t))
   marked_now id t taken there =
-      takes.each id ∙ ap (taken_back old.version marks id) there ∙ taken_marked old.version marks id t taken
+      abort.each id ∙ ap (taken_back old.version marks id) there ∙ taken_marked old.version marks id t taken
 
   pub marked_leaves : (id : ℕ) (t : Task) → is_marked marks id ≡ true → task_at old id ≡ Some t
       → is_marked_creator marks (live_creator t.creator) ≡ true
@@ -132,7 +118,7 @@ module _ (marks : List Bool) (old new : View) (takes : TakesMarked marks old new
       → is_marked marks k ≡ true
   holds_children k c x at creator marked =
       let read = mapped_some keyed_task (task_at old k) x at in
-      takes.holds c k (inl (record { child = read.0; there = read.1; made_by = sym (ap (λ y. y.creator) read.2) ∙ creator })) marked
+      holds_pulled c k (inl (record { child = read.0; there = read.1; made_by = sym (ap (λ y. y.creator) read.2) ∙ creator })) marked
 
   members : (k : ℕ) (x : Keyed) → is_marked marks k ≡ true → keyed_tasks new k ≡ Some x
       → (y : Keyed) × (keyed_tasks old k ≡ Some y) × (x ≡ order.with_open_level y) × ((c : ℕ) → y.creator ≡ Some c → is_marked marks c ≡ false)
@@ -170,7 +156,7 @@ module _ (marks : List Bool) (old new : View) (takes : TakesMarked marks old new
       let writer = mapped_some logged_task (task_at old a) x there in
       let reader = mapped_some logged_task (task_at old b) y there' in
       let above = subst (λ t. Earlier t (logged_task reader.0)) writer.2 (subst (λ t. Earlier x t) reader.2 earlier) in
-      takes.holds a b
+      holds_pulled a b
       (inr (record {
         writer = writer.0;
         there = writer.1;

@@ -144,8 +144,8 @@ changed_to old new =
     record old { tasks = new.tasks; memory = new.memory; queues = new.queues; finished = new.finished; cores = new.cores }
 
 pub abort_keeps_order : AbortKeepsSoundOrder
-abort_keeps_order marks old new heir takes spares sound =
-    subst (λ v. SoundOrder v heir) (sym takes.frame) (record { order = kept; numbers = sound.numbers })
+abort_keeps_order firsts old aborted new heir abort spares sound =
+    subst (λ v. SoundOrder v heir) (sym abort.frame) (record { order = kept; numbers = sound.numbers })
   where
     spilled_list : List Keyed
     spilled_list = map (keyed_spilled (length old.history) heir) (all_spilled old)
@@ -156,14 +156,14 @@ abort_keeps_order marks old new heir takes spares sound =
         (by_was (task_at old k) refl read.0 read.1, id_below new k read.0 read.1)
       where
         by_was : (was : Option Task) → task_at old k ≡ was → (t : Task) → task_at new k ≡ Some t → k < length old.tasks
-        by_was None none t there = absurd (cc (gone_stays marks old new takes k none, there))
+        by_was None none t there = absurd (cc (gone_stays abort k none, there))
         by_was (Some w) is t there = id_below old k w is
 
     kept : IsOrdered (all_keyed (changed_to old new) heir) (map closed_level old.path) old.next
     kept =
         rename_keeps_order (beside (length old.tasks) (keyed_tasks new) spilled_list) (all_keyed (changed_to old new) heir) (map closed_level old.path) old.next
         (rebound (length old.tasks) (length new.tasks) (keyed_tasks new) spilled_list bounded (spilled_idle (length old.history) heir (all_spilled old)))
-        (abort_law (low_only (length old.tasks) (is_marked marks)) (all_keyed old heir) (beside (length old.tasks) (keyed_tasks new) spilled_list) (map closed_level old.path) old.next
-        (beside_aborts (length old.tasks) (is_marked marks) (keyed_tasks old) (keyed_tasks new) spilled_list (order_aborts marks old new takes)
+        (abort_law (low_only (length old.tasks) (is_marked abort.marks)) (all_keyed old heir) (beside (length old.tasks) (keyed_tasks new) spilled_list) (map closed_level old.path) old.next
+        (beside_aborts (length old.tasks) (is_marked abort.marks) (keyed_tasks old) (keyed_tasks new) spilled_list (order_aborts abort)
         (λ x c is made. spares c (spilled_creator (length old.history) heir (all_spilled old) x c is made)))
         sound.order)
