@@ -15,8 +15,9 @@ use Rattle.spec_state.specs.declared.settings.Settings.{Settings}
 use Rattle.spec_state.specs.declared.pending.Pending.{Pending}
 use Rattle.spec_state.specs.Pendings.{RunLeaves}
 use Rattle.conflict_book.specs.declared.freezing.Frozen.{Frozen}
+use Rattle.machine_run.specs.Halted.{IsLeftOf, IsMachineRun, KeepsPending}
 use Rattle.machine_run.specs.Least.{IsLeastRun, run_of_closed}
-use Rattle.machine_run.specs.Played.{IsPlayedInPart, IsPlayedRun, IsTracedRun}
+use Rattle.machine_run.specs.Played.{IsPlayedOrPart, IsTracedOrPart}
 use Rattle.machine_run.specs.Stopping.{IsStoppedWith}
 use Rattle.machine_run.specs.declared.left.Ran.{Ran}
 use Rattle.machine_run.specs.declared.left.Stopped.{Stopped}
@@ -30,7 +31,7 @@ use Rattle.fractal_sim.specs.declared.finding.Finding.{Finding}
 use Rattle.fractal_sim.specs.declared.finding.Finding.TheVariants as finding
 use Rattle.fractal_sim.specs.declared.finding.Loading.{Loading}
 use Rattle.fractal_sim.specs.declared.finding.Saving.{Saving}
-use Rattle.fractal_sim.specs.Deciding.{run_with_end, lists_of_traced, event_count, run_finding, load_finding}
+use Rattle.fractal_sim.specs.Deciding.{event_count, run_finding, load_finding}
 use Rattle.fractal_sim.specs.Deciding.{play_finding}
 use Rattle.fractal_sim.specs.Deciding.{trace_finding, IsFoundBehind, IsKeptSo, IsKeptStopped, IsLoadedSo, IsRunSo}
 use Rattle.fractal_sim.specs.Deciding.{IsSavedSo, IsStoppedSo, Saves}
@@ -138,44 +139,6 @@ reported : (told : Option End) → told ≢ Some ends.Unfinished → (told ≡ S
 reported None over limit = tt
 reported (Some end) over limit = (λ open_yet. over (ap Some open_yet), λ full. limit (ap Some full))
 
-module _ (image : ImageValue) (settings : Settings) (placers : List Policy) (taps : List TapValue) where
-  -- what is kept of a run that was made and was to go on is found where the words ask for such a run
-  stopped_is_saved : (ran : Ran) (pending : Option (List Pending)) (found : Finding)
-      → (settings.workers ≡ 0 → IsLeastRun Brand image settings placers taps ran.closed.steps (run_with_end ran))
-      → IsRunOf image settings.commits settings.budget (run_with_end ran) → ran.end ≢ Some ends.Unfinished
-      → IfSome pending (IsStoppedWith image settings.budget ran) → (ran.end ≡ Some ends.Limit → IsSome pending)
-      → IsKeptStopped image settings.workers (record { ran = ran; pending = pending }) found
-      → IsSavedSo image settings placers taps found
-  stopped_is_saved ran None found least run over stopped limit kept =
-      subst (IsSavedSo image settings placers taps) (sym kept) (
-        refl,
-        record { least = least; run = run; steps_is = refl; over = over },
-        reported ran.end over (λ full. let no : false ≡ true = limit full in absurd (cc (no))),
-      )
-  stopped_is_saved ran (Some pendings) found least run over stopped limit kept =
-      kept_is_saved image settings placers taps (record { closed = ran.closed; pending = pendings })
-      (event_count settings.workers ran.closed.steps) refl
-      (λ none. subst (λ e. IsLeastRun Brand image settings placers taps ran.closed.steps (run_of_closed ran.closed e))
-      stopped.end_is (least none))
-      (subst (λ e. IsRunOf image settings.commits settings.budget (run_of_closed ran.closed e)) stopped.end_is run)
-      stopped.left found kept
-
-  -- and so is what is found of the machine's answer
-  pub made_is_saved : (made : Result Stopped AllocError) (found : Finding)
-      → (settings.workers ≡ 0 → IfOk made (λ stopped.
-      IsLeastRun Brand image settings placers taps stopped.ran.closed.steps (run_with_end stopped.ran)))
-      → IfOk made (λ stopped. IsRunOf image settings.commits settings.budget (run_with_end stopped.ran))
-      → IfOk made (λ stopped. stopped.ran.end ≢ Some ends.Unfinished)
-      → IfOk made (λ stopped. IfSome stopped.pending (IsStoppedWith image settings.budget stopped.ran))
-      → IfOk made (λ stopped. stopped.ran.end ≡ Some ends.Limit → IsSome stopped.pending)
-      → MatchResult made (λ stopped. IsKeptStopped image settings.workers stopped found)
-      (λ error. found ≡ finding.Memory)
-      → IsSavedSo image settings placers taps found
-  made_is_saved (Ok stopped) found least run over pending limit kept =
-      stopped_is_saved stopped.ran stopped.pending found least run over pending limit kept
-  made_is_saved (Err error) found least run over pending limit kept =
-      subst (IsSavedSo image settings placers taps) (sym kept) tt
-
 stopped_is_writable : (image : ImageValue) (workers : ℕ) (ran : Ran) (pending : Option (List Pending))
     (found : Finding) → length ran.closed.memory ≡ image.data_size
     → IsKeptStopped image workers (record { ran = ran; pending = pending }) found → IsWritable found
@@ -184,27 +147,71 @@ stopped_is_writable image workers ran (Some pendings) found sized kept =
     kept_is_writable image (record { closed = ran.closed; pending = pendings }) (event_count workers ran.closed.steps)
     found sized kept
 
--- and it can be written
-pub made_is_writable : (image : ImageValue) (workers : ℕ) (made : Result Stopped AllocError) (found : Finding)
-    → IfOk made (λ stopped. length stopped.ran.closed.memory ≡ image.data_size)
-    → MatchResult made (λ stopped. IsKeptStopped image workers stopped found) (λ error. found ≡ finding.Memory)
-    → IsWritable found
-made_is_writable image workers (Ok stopped) found sized kept =
-    stopped_is_writable image workers stopped.ran stopped.pending found sized kept
-made_is_writable image workers (Err error) found sized kept = subst IsWritable (sym kept) tt
+-- what pends after a run that was made and was to go on pends where it met its commit limit
+pub made_pends : (image : ImageValue) (budget : ℕ) (made : Result Stopped AllocError)
+    → IfOk made (KeepsPending image budget true)
+    → IfOk made (λ stopped. IfSome stopped.pending (IsStoppedWith image budget stopped.ran))
+made_pends image budget (Ok stopped) keeps = keeps.pending
+made_pends image budget (Err error) keeps = tt
+
+module _ (image : ImageValue) (settings : Settings) (placers : List Policy) (taps : List TapValue) where
+  -- what is kept of a run that was made and was to go on is found where the words ask for such a run
+  stopped_is_saved : (ran : Ran) (pending : Option (List Pending)) (found : Finding)
+      → IsMachineRun Brand image settings placers taps ran
+      → IfSome pending (IsStoppedWith image settings.budget ran) → (ran.end ≡ Some ends.Limit → IsSome pending)
+      → IsKeptStopped image settings.workers (record { ran = ran; pending = pending }) found
+      → IsSavedSo image settings placers taps found
+  stopped_is_saved ran None found is stopped limit kept =
+      subst (IsSavedSo image settings placers taps) (sym kept) (
+        refl,
+        record { least = is.least; run = is.halted.left.run; steps_is = refl; over = is.halted.over },
+        reported ran.end is.halted.over (λ full. let no : false ≡ true = limit full in absurd (cc (no))),
+      )
+  stopped_is_saved ran (Some pendings) found is stopped limit kept =
+      kept_is_saved image settings placers taps (record { closed = ran.closed; pending = pendings })
+      (event_count settings.workers ran.closed.steps) refl
+      (λ none. subst (λ e. IsLeastRun Brand image settings placers taps ran.closed.steps (run_of_closed ran.closed e))
+      stopped.end_is (is.least none))
+      (subst (λ e. IsRunOf image settings.commits settings.budget (run_of_closed ran.closed e)) stopped.end_is
+      is.halted.left.run)
+      stopped.left found kept
+
+  -- and so is what is found of the machine's answer
+  pub made_is_saved : (made : Result Stopped AllocError) (found : Finding)
+      → IfOk made (λ stopped. IsMachineRun Brand image settings placers taps stopped.ran)
+      → IfOk made (KeepsPending image settings.budget true)
+      → MatchResult made (λ stopped. IsKeptStopped image settings.workers stopped found)
+      (λ error. found ≡ finding.Memory)
+      → IsSavedSo image settings placers taps found
+  made_is_saved (Ok stopped) found is keeps kept =
+      stopped_is_saved stopped.ran stopped.pending found is keeps.pending (keeps.limit refl) kept
+  made_is_saved (Err error) found is keeps kept = subst (IsSavedSo image settings placers taps) (sym kept) tt
+
+  -- and it can be written
+  pub made_is_writable : (made : Result Stopped AllocError) (found : Finding)
+      → IfOk made (λ stopped. IsMachineRun Brand image settings placers taps stopped.ran)
+      → MatchResult made (λ stopped. IsKeptStopped image settings.workers stopped found)
+      (λ error. found ≡ finding.Memory)
+      → IsWritable found
+  made_is_writable (Ok stopped) found is kept =
+      stopped_is_writable image settings.workers stopped.ran stopped.pending found is.halted.left.writable kept
+  made_is_writable (Err error) found is kept = subst IsWritable (sym kept) tt
 
 -- ---- a run to its end
 
 module _ (image : ImageValue) (settings : Settings) (placers : List Policy) (taps : List TapValue) where
   -- a run of the machine, with the count of its events
-  pub made_so : (made : Result Ran AllocError)
-      → (settings.workers ≡ 0 → IfOk made (λ ran.
-      IsLeastRun Brand image settings placers taps ran.closed.steps (run_with_end ran)))
-      → IfOk made (λ ran. IsRunOf image settings.commits settings.budget (run_with_end ran))
-      → IfOk made (λ ran. ran.end ≢ Some ends.Unfinished)
+  pub made_so : (made : Result Ran AllocError) → IfOk made (IsMachineRun Brand image settings placers taps)
       → IfOk made (λ ran. IsRunSo image settings placers taps ran (event_count settings.workers ran.closed.steps))
-  made_so (Ok ran) least run over = record { least = least; run = run; steps_is = refl; over = over }
-  made_so (Err error) least run over = tt
+  made_so (Ok ran) is =
+      record { least = is.least; run = is.halted.left.run; steps_is = refl; over = is.halted.over }
+  made_so (Err error) is = tt
+
+  -- the window lies in its memory
+  pub made_has_window : (made : Result Ran AllocError) → IfOk made (IsMachineRun Brand image settings placers taps)
+      → IfOk made (HasWindow image)
+  made_has_window (Ok ran) is = is.halted.left.writable
+  made_has_window (Err error) is = tt
 
 -- what is found of the machine's answer is found behind the image that was read
 pub run_found_behind : (request : Request) (image : ImageValue) (rest : List ℕ) (placers : List Policy)
@@ -247,43 +254,36 @@ module _ (request : Request) (image : ImageValue) (rest : List ℕ) (placers : L
   -- what is found of the machine's answer is found behind the image that was read
   pub play_found_behind : (made : Result Played AllocError) (found : Finding) → found ≡ play_finding image made
       → request.command ≡ commands.Steps
-      → IfOk made (λ p. IfSome p.ran.end (λ end. IsPlayedRun Brand image request.settings script placers taps
-      p.said.items p.ran.closed.steps end (run_with_end p.ran)))
-      → IfOk made (λ p. p.ran.end ≡ None → IsPlayedInPart Brand image request.settings script placers taps
-      p.ran.closed.steps (run_with_end p.ran))
-      → IfOk made (λ p. IsRunOf image request.settings.commits request.settings.budget (run_with_end p.ran))
+      → IfOk made (IsPlayedOrPart Brand image request.settings script placers taps)
+      → IfOk made (λ p. IsLeftOf image request.settings.commits request.settings.budget p.ran)
       → IsFoundBehind request image rest placers taps found
-  play_found_behind (Ok p) found kept is played part run =
+  play_found_behind (Ok p) found kept is how left =
       subst (IsFoundBehind request image rest placers taps) (sym kept) (
         is,
         refl,
-        record { script = script; script_is = script_is; run = run; played = played; part = part },
+        record { script = script; script_is = script_is; run = left.run; played = how.played; part = how.part },
       )
-  play_found_behind (Err error) found kept is played part run =
+  play_found_behind (Err error) found kept is how left =
       subst (IsFoundBehind request image rest placers taps) (sym kept) tt
 
   -- and so for its taps
   pub trace_found_behind : (made : Result Traced AllocError) (found : Finding) → found ≡ trace_finding made
       → request.command ≡ commands.Trace
-      → IfOk made (λ t. IfSome t.ran.end (λ end. IsTracedRun Brand image request.settings script placers taps
-      (lists_of_traced t) t.ran.closed.steps end (run_with_end t.ran)))
-      → IfOk made (λ t. t.ran.end ≡ None → IsPlayedInPart Brand image request.settings script placers taps
-      t.ran.closed.steps (run_with_end t.ran))
-      → IfOk made (λ t. IsRunOf image request.settings.commits request.settings.budget (run_with_end t.ran))
+      → IfOk made (IsTracedOrPart Brand image request.settings script placers taps)
+      → IfOk made (λ t. IsLeftOf image request.settings.commits request.settings.budget t.ran)
       → IsFoundBehind request image rest placers taps found
-  trace_found_behind (Ok t) found kept is traced part run =
+  trace_found_behind (Ok t) found kept is how left =
       subst (IsFoundBehind request image rest placers taps) (sym kept) (
         is,
-        record { script = script; script_is = script_is; run = run; traced = traced; part = part },
+        record { script = script; script_is = script_is; run = left.run; traced = how.traced; part = how.part },
       )
-  trace_found_behind (Err error) found kept is traced part run =
+  trace_found_behind (Err error) found kept is how left =
       subst (IsFoundBehind request image rest placers taps) (sym kept) tt
 
-pub play_writable : (image : ImageValue) (made : Result Played AllocError) (found : Finding)
-    → found ≡ play_finding image made → IfOk made (λ p. length p.ran.closed.memory ≡ image.data_size)
-    → IsWritable found
-play_writable image (Ok p) found kept sized = subst IsWritable (sym kept) sized
-play_writable image (Err error) found kept sized = subst IsWritable (sym kept) tt
+pub play_writable : (image : ImageValue) (commits budget : ℕ) (made : Result Played AllocError) (found : Finding)
+    → found ≡ play_finding image made → IfOk made (λ p. IsLeftOf image commits budget p.ran) → IsWritable found
+play_writable image commits budget (Ok p) found kept left = subst IsWritable (sym kept) left.writable
+play_writable image commits budget (Err error) found kept left = subst IsWritable (sym kept) tt
 
 pub trace_writable : (made : Result Traced AllocError) (found : Finding) → found ≡ trace_finding made
     → IsWritable found

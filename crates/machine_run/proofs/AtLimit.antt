@@ -1,7 +1,7 @@
 -- A run that met its commit limit leaves the tasks that pend; where no end is told of a run, it is still one by
 -- events of the least tasks.
 use Rattle.std.proofs.Common.{◌≡◌, ◌<◌, ◌==◌, refl, ap, ◌∙◌, subst, zero, suc, ℕ, true, List, [], ◌∷◌, length, map}
-use Rattle.std.proofs.Common.{Option, Some, None, if◌then◌else◌, arith}
+use Rattle.std.proofs.Common.{Bool, Option, Some, None, if◌then◌else◌, arith}
 use Rattle.std.specs.Prelude.{IfSome}
 use Rattle.std.proofs.lemmas.Bool.Decides.{nat_tests}
 use Rattle.std.proofs.lemmas.Grind.{common_steps}
@@ -24,8 +24,10 @@ use Rattle.spec_state.specs.Pendings.{all_pending, pending_at, RunLeaves}
 use Rattle.event_def.specs.End.{HasEnd}
 use Rattle.spec_state.specs.View.{View}
 use Rattle.machine_run.specs.declared.left.Ran.{Ran}
+use Rattle.machine_run.specs.Halted.{IsHalted, IsLeftOf, KeepsPending}
 use Rattle.machine_run.specs.Least.{IsLeastRun, run_of_closed}
 use Rattle.machine_run.specs.Stopping.{IsStoppedWith}
+use Rattle.machine_run.proofs.Standing.{over_is_closed}
 use Rattle.run_law.proofs.Proved.{Runs-same}
 
 -- where no task pends no bag is left
@@ -67,11 +69,27 @@ stopped image commits budget ran pendings limit run left = record {
       some_pend image commits budget ran.closed pendings (subst (λ end. IsRunOf image commits budget (run_of_closed ran.closed end)) limit run) left;
 }
 
+-- and keeps them
+pub keeps_all : (image : ImageValue) (commits budget : ℕ) (goes_on : Bool) (ran : Ran) (pendings : List Pending)
+    → ran.end ≡ Some ends.Limit
+    → IsRunOf image commits budget (run_of_closed ran.closed ran.end)
+    → RunLeaves image budget ran.closed.journal ran.closed.memory ran.closed.output pendings
+    → KeepsPending image budget goes_on (record { ran = ran; pending = Some pendings })
+keeps_all image commits budget goes_on ran pendings at run left =
+    record { pending = stopped image commits budget ran pendings at run left; limit = λ on full. refl }
+
 -- an end that is told is that of the book
 pub told_has : (view : View) (end told : Option End) → IfSome end (HasEnd view) → IfSome told (λ e. end ≡ Some e)
     → IfSome told (HasEnd view)
 told_has view end None has same = tt
 told_has view end (Some e) has same = subst (λ o. IfSome o (HasEnd view)) same has
+
+-- so what is left of a run that halted is of one that was led to its end, or as far as memory went
+pub halts_so : (image : ImageValue) (commits budget : ℕ) (view : View) (end : Option End) (ran : Ran)
+    → IfSome end (HasEnd view) → IfSome ran.end (λ told. end ≡ Some told) → IsLeftOf image commits budget ran
+    → IsHalted image commits budget ran
+halts_so image commits budget view end ran has same left =
+    record { left = left; over = over_is_closed view ran.end (told_has view end ran.end has same) }
 
 -- a run by events of the least tasks is one too where the same end is told of it, or none
 pub with_end : (N : Type 0) (image : ImageValue) (settings : Settings) (placers : List Policy) (taps : List TapValue)

@@ -13,6 +13,7 @@ use Rattle.spec_law.specs.Sound.{Sound}
 use Rattle.spec_law.proofs.Proved.{undo_all_is_serial}
 use Rattle.event_def.specs.Book.{BookView}
 use Rattle.event_def.specs.Closing.{Closes}
+use Rattle.machine_run.specs.Halted.{IsLeftOf}
 use Rattle.machine_run.specs.Leaving.{LeavesRun}
 use Rattle.machine_run.specs.Least.{run_of_closed}
 use Rattle.machine_run.specs.Played.{StandsAt}
@@ -76,3 +77,13 @@ left_is_run_of image commits budget last closed end within sound closes stands s
     let run = run_of_closed closed end in
     subst (λ c. IsRunOf image c budget run) same_commits
     (subst (λ b. IsRunOf image last.view.settings.commits b run) same_budget (left_is_run image last closed end within sound closes stands))
+
+-- and both make it what is left of a run
+pub left_of : (image : ImageValue) (commits budget : ℕ) (last : BookView) (closed : Closed) (end : Option End)
+    → IsImage image → Sound image last.view → Closes last closed → IfSome end (StandsAt last.view)
+    → last.view.settings.commits ≡ commits → last.view.settings.budget ≡ budget
+    → IsLeftOf image commits budget (record { closed = closed; end = end })
+left_of image commits budget last closed end within sound closes stands same_commits same_budget =
+    let run : IsRunOf image commits budget (run_of_closed closed end) =
+    left_is_run_of image commits budget last closed end within sound closes stands same_commits same_budget in
+    record { run = run; writable = left_is_sized image closed end commits budget within run }

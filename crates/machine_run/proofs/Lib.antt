@@ -1,6 +1,7 @@
 pub mod Standing
 pub mod AtLimit
 pub mod Leaving
+pub mod Named
 pub mod Least
 pub mod Scripts
 pub mod TapLists

@@ -1,6 +1,6 @@
 -- What a book leaves on which a script was played.
 use Rattle.std.proofs.Common.{◌≡◌, List, Option, Some, None, Result, Ok, Err, refl, ℕ, sym, subst, length, arith}
-use Rattle.std.specs.Prelude.{All, IfSome, OnErr}
+use Rattle.std.specs.Prelude.{All, IfSome, IsSomeAnd, OnErr, map}
 use Rattle.std.proofs.lemmas.List.{take_all}
 use Rattle.guest_image.specs.ImageValue.{ImageValue}
 use Rattle.place_policy.specs.Policy.{Policy}
@@ -16,9 +16,13 @@ use Rattle.step_script.specs.declared.saying.Said.{Said}
 use Rattle.step_script.specs.Playing.{Plays, PlaysSome}
 use Rattle.step_script.specs.Ranges.{ActIsInRange}
 use Rattle.machine_run.specs.Least.{run_of_closed}
-use Rattle.machine_run.specs.Played.{IsPlayedInPart, IsPlayedRun, LeavesTapLists, IsTracedRun, StandsAt}
+use Rattle.machine_run.specs.Played.{IsPlayedInPart, IsPlayedOrPart, IsPlayedRun, IsTracedOrPart, IsTracedRun}
+use Rattle.machine_run.specs.Played.{LeavesTapLists, StandsAt}
+use Rattle.machine_run.specs.declared.playing.Played.{Played}
+use Rattle.machine_run.specs.declared.playing.Traced.{Traced}
 use Rattle.machine_run.proofs.Least.{opening_settings}
 use Rattle.machine_run.proofs.Leaving.{run_left}
+use Rattle.machine_run.proofs.Standing.{if_told}
 
 -- a script that is within the settings is within those of the opening
 pub stays_within : (image : ImageValue) (settings : Settings) (script : List Act) (placers : List Policy) (taps : List TapValue) (opening : BookView)
@@ -59,7 +63,7 @@ module _ (N : Type 0) (image : ImageValue) (settings : Settings) (script : List 
   }
 
   -- wherever an end is told
-  pub left_is_played : (said : List Said) (told : Option End) → Plays N image script opening said last
+  left_is_played : (said : List Said) (told : Option End) → Plays N image script opening said last
       → IfSome told (StandsAt last.view)
       → IfSome told
       (λ end. IsPlayedRun N image settings script placers taps said closed.steps end (run_of_closed closed told))
@@ -67,7 +71,7 @@ module _ (N : Type 0) (image : ImageValue) (settings : Settings) (script : List 
   left_is_played said (Some end) plays stands = played_at said end plays stands
 
   -- and so where its taps were read before
-  pub left_is_traced : (lists : List (List ℕ)) (told : Option End) → LeavesTapLists N image script opening lists last
+  left_is_traced : (lists : List (List ℕ)) (told : Option End) → LeavesTapLists N image script opening lists last
       → IfSome told (StandsAt last.view)
       → IfSome told (λ end. IsTracedRun N image settings script placers taps lists closed.steps end (run_of_closed closed told))
   left_is_traced lists None seen stands = tt
@@ -75,7 +79,7 @@ module _ (N : Type 0) (image : ImageValue) (settings : Settings) (script : List 
       record { said = seen.said; played = played_at seen.said end seen.plays stands; lists_are = seen.lists_are }
 
   -- and where memory ran out, that of the acts that were played
-  pub left_in_part : (told : Option End) → PlaysSome N image script opening last → told ≡ None
+  left_in_part : (told : Option End) → PlaysSome N image script opening last → told ≡ None
       → IsPlayedInPart N image settings script placers taps closed.steps (run_of_closed closed told)
   left_in_part told plays none = record {
     opening = opening;
@@ -84,4 +88,56 @@ module _ (N : Type 0) (image : ImageValue) (settings : Settings) (script : List 
     plays = plays;
     leaves = run_left last closed closes told;
     end_is = none;
+  }
+
+-- the lists that are told
+abbrev lists_in : Traced → List (List ℕ)
+lists_in t = map (λ list. list.items) t.lists.items
+
+none_told : (P : End → Type 0) (told : Option End) → told ≡ None → IfSome told P
+none_told P told none = subst (λ o. IfSome o P) (sym none) tt
+
+some_told : (P : End → Type 0) (told : Option End) → IsSomeAnd told P → told ≡ None → ⊥
+some_told P told some none = subst (λ o. IsSomeAnd o P) none some
+
+module _ (N : Type 0) (image : ImageValue) (settings : Settings) (script : List Act) (placers : List Policy)
+    (taps : List TapValue) (opening : BookView) (is_opening : IsOpening image settings placers taps opening)
+    (last : BookView) where
+  -- what a script leaves that was played whole
+  pub left_whole : (p : Played) → Closes last p.ran.closed → Plays N image script opening p.said.items last
+      → IsSomeAnd p.ran.end (StandsAt last.view) → IsPlayedOrPart N image settings script placers taps p
+  left_whole p closes plays stands = record {
+    played = left_is_played N image settings script placers taps opening is_opening last p.ran.closed closes
+        p.said.items p.ran.end plays (if_told last.view p.ran.end stands);
+    part = λ none. absurd (some_told (StandsAt last.view) p.ran.end stands none);
+  }
+
+  -- and one that wasn't
+  pub left_cut : (p : Played) → Closes last p.ran.closed → PlaysSome N image script opening last → p.ran.end ≡ None
+      → IsPlayedOrPart N image settings script placers taps p
+  left_cut p closes plays none = record {
+    played = none_told (λ end. IsPlayedRun N image settings script placers taps p.said.items p.ran.closed.steps end
+        (run_of_closed p.ran.closed p.ran.end)) p.ran.end none;
+    part = left_in_part N image settings script placers taps opening is_opening last p.ran.closed closes p.ran.end
+        plays;
+  }
+
+  -- the same where its taps were read
+  pub traced_whole : (t : Traced) → Closes last t.ran.closed
+      → LeavesTapLists N image script opening (lists_in t) last → IsSomeAnd t.ran.end (StandsAt last.view)
+      → IsTracedOrPart N image settings script placers taps t
+  traced_whole t closes seen stands = record {
+    traced = left_is_traced N image settings script placers taps opening is_opening last t.ran.closed closes
+        (lists_in t) t.ran.end seen (if_told last.view t.ran.end stands);
+    part = λ none. absurd (some_told (StandsAt last.view) t.ran.end stands none);
+  }
+
+  -- and where they weren't
+  pub traced_cut : (t : Traced) → Closes last t.ran.closed → PlaysSome N image script opening last → t.ran.end ≡ None
+      → IsTracedOrPart N image settings script placers taps t
+  traced_cut t closes plays none = record {
+    traced = none_told (λ end. IsTracedRun N image settings script placers taps (lists_in t) t.ran.closed.steps end
+        (run_of_closed t.ran.closed t.ran.end)) t.ran.end none;
+    part = left_in_part N image settings script placers taps opening is_opening last t.ran.closed closes t.ran.end
+        plays;
   }

@@ -3,4 +3,5 @@ pub mod Leaving
 pub mod Least
 pub mod Played
 pub mod Stopping
+pub mod Halted
 pub mod One

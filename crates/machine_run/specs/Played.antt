@@ -1,5 +1,5 @@
 -- Runs that are made by a written script.
-use Rattle.std.specs.Prelude.{◌≡◌, ℕ, List, map, Some, None}
+use Rattle.std.specs.Prelude.{◌≡◌, ℕ, List, map, Some, None, IfSome}
 use Rattle.guest_image.specs.ImageValue.{ImageValue}
 use Rattle.place_policy.specs.Policy.{Policy}
 use Rattle.trace_tap.specs.TapValue.{TapValue}
@@ -14,7 +14,10 @@ use Rattle.event_def.specs.End.{HasEnd, IsOver}
 use Rattle.step_script.specs.declared.act.Act.{Act}
 use Rattle.step_script.specs.declared.saying.Said.{Said}
 use Rattle.step_script.specs.Playing.{Plays, PlaysSome}
+use Rattle.machine_run.specs.declared.playing.Played.{Played}
+use Rattle.machine_run.specs.declared.playing.Traced.{Traced}
 use Rattle.machine_run.specs.Leaving.{LeavesRun}
+use Rattle.machine_run.specs.Least.{run_of_closed}
 
 -- the run is over and ended so, or it isn't over and stands open
 abbrev pub StandsAt : View → End → Type 0
@@ -64,3 +67,19 @@ pub record IsTracedRun (N : Type 0) (image : ImageValue) (settings : Settings) (
   pub said : List Said
   pub played : IsPlayedRun N image settings script placers taps said events end run
   pub lists_are : lists ≡ tap_lists played.last
+
+-- a script was played to its end, or as far as memory went
+pub record IsPlayedOrPart (N : Type 0) (image : ImageValue) (settings : Settings) (script : List Act)
+    (placers : List Policy) (taps : List TapValue) (p : Played) : Type 0 where
+  pub played : IfSome p.ran.end (λ end. IsPlayedRun N image settings script placers taps p.said.items
+      p.ran.closed.steps end (run_of_closed p.ran.closed p.ran.end))
+  pub part : p.ran.end ≡ None → IsPlayedInPart N image settings script placers taps p.ran.closed.steps
+      (run_of_closed p.ran.closed p.ran.end)
+
+-- the same of a script that was played for its taps
+pub record IsTracedOrPart (N : Type 0) (image : ImageValue) (settings : Settings) (script : List Act)
+    (placers : List Policy) (taps : List TapValue) (t : Traced) : Type 0 where
+  pub traced : IfSome t.ran.end (λ end. IsTracedRun N image settings script placers taps
+      (map (λ list. list.items) t.lists.items) t.ran.closed.steps end (run_of_closed t.ran.closed t.ran.end))
+  pub part : t.ran.end ≡ None → IsPlayedInPart N image settings script placers taps t.ran.closed.steps
+      (run_of_closed t.ran.closed t.ran.end)

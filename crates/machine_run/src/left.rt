@@ -1,13 +1,11 @@
 //! What a run leaves.
 
-ghost use Rattle.std.specs.Prelude.{◌≡◌, true, length, Some, IsSome, IfSome};
+ghost use Rattle.std.specs.Prelude.{◌≡◌, true, Some, IfSome};
 ghost use Rattle.guest_image.specs.ImageValue.{IsImage};
-ghost use Rattle.serial_machine.specs.WholeRun.{IsRunOf};
 ghost use Rattle.event_def.specs.Closing.{Closes};
 ghost use Rattle.conflict_book.specs.BookViews.{machine_view, view_of};
-ghost use Rattle.machine_run.specs.Least.{run_of_closed};
+ghost use Rattle.machine_run.specs.Halted.{IsLeftOf, KeepsPending};
 ghost use Rattle.machine_run.specs.Played.{StandsAt};
-ghost use Rattle.machine_run.specs.Stopping.{IsStoppedWith};
 
 use conflict_book::Book;
 use place_policy::Placer;
@@ -33,8 +31,7 @@ pub(crate) fn leave<N: Naming, P: Placer, T: Tap>(book: Book<N, P, T>, end: Opti
     requires stands { IfSome end (StandsAt (machine_view book)) }
     ensures closes { Closes (view_of P.policy T.notes book) result.closed }
     ensures end { result.end ≡ end }
-    ensures run { IsRunOf N.image N.commits N.budget (run_of_closed result.closed result.end) }
-    ensures writable { length result.closed.memory ≡ N.image.data_size }
+    ensures left { IsLeftOf N.image N.commits N.budget result }
 {
     book.is_sound();
     Ran {
@@ -58,10 +55,8 @@ fn freeze<N: Naming, P: Placer, T: Tap>(book: Book<N, P, T>) -> Stopped
     requires stands { StandsAt (machine_view book) End.Limit }
     ensures closes { Closes (view_of P.policy T.notes book) result.ran.closed }
     ensures end { IfSome result.ran.end (λ end. Some End.Limit ≡ Some end) }
-    ensures run { IsRunOf N.image N.commits N.budget (run_of_closed result.ran.closed result.ran.end) }
-    ensures writable { length result.ran.closed.memory ≡ N.image.data_size }
-    ensures pending { IfSome result.pending (IsStoppedWith N.image N.budget result.ran) }
-    ensures limit { result.ran.end ≡ Some End.Limit → IsSome result.pending }
+    ensures left { IsLeftOf N.image N.commits N.budget result.ran }
+    ensures pending { KeepsPending N.image N.budget true result }
 {
     book.is_sound();
     match book.freeze() {
@@ -90,10 +85,8 @@ pub(crate) fn stop<N: Naming, P: Placer, T: Tap>(
     requires stands { IfSome end (StandsAt (machine_view book)) }
     ensures closes { Closes (view_of P.policy T.notes book) result.ran.closed }
     ensures end { IfSome result.ran.end (λ told. end ≡ Some told) }
-    ensures run { IsRunOf N.image N.commits N.budget (run_of_closed result.ran.closed result.ran.end) }
-    ensures writable { length result.ran.closed.memory ≡ N.image.data_size }
-    ensures pending { IfSome result.pending (IsStoppedWith N.image N.budget result.ran) }
-    ensures limit { goes_on ≡ true → result.ran.end ≡ Some End.Limit → IsSome result.pending }
+    ensures left { IsLeftOf N.image N.commits N.budget result.ran }
+    ensures pending { KeepsPending N.image N.budget goes_on result }
 {
     match end {
         Some(End::Limit) if goes_on => freeze(book),

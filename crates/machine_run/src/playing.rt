@@ -1,10 +1,9 @@
 //! A script is played from the opening on.
 
-ghost use Rattle.std.specs.Prelude.{◌≡◌, All, List, length, map, IfOk, IfSome, IsSomeAnd, None, OnErr};
+ghost use Rattle.std.specs.Prelude.{◌≡◌, All, List, map, IfOk, IsSomeAnd, OnErr};
 ghost use Rattle.guest_image.specs.ImageValue.{IsImage};
 ghost use Rattle.place_policy.specs.Policy.{Policy};
 ghost use Rattle.trace_tap.specs.TapValue.{TapValue};
-ghost use Rattle.serial_machine.specs.WholeRun.{IsRunOf};
 ghost use Rattle.spec_state.specs.declared.settings.Settings.{Settings};
 ghost use Rattle.spec_state.specs.Settings.{IsNamed, IsValid};
 ghost use Rattle.event_def.specs.Closing.{Closes};
@@ -12,8 +11,8 @@ ghost use Rattle.event_def.specs.Opening.{IsOpening};
 ghost use Rattle.conflict_book.specs.BookViews.{machine_view, view_of};
 ghost use Rattle.step_script.specs.Playing.{PlaysSome};
 ghost use Rattle.step_script.specs.Ranges.{ActIsInRange};
-ghost use Rattle.machine_run.specs.Least.{run_of_closed};
-ghost use Rattle.machine_run.specs.Played.{IsPlayedInPart, IsPlayedRun, LeavesTapLists, IsTracedRun, StandsAt};
+ghost use Rattle.machine_run.specs.Halted.{IsLeftOf};
+ghost use Rattle.machine_run.specs.Played.{IsPlayedOrPart, IsTracedOrPart, LeavesTapLists, StandsAt};
 
 use crate::left::{Ran, leave};
 use crate::lists::lists_of;
@@ -62,15 +61,8 @@ pub fn play_script<N: Naming, P: Placer, T: Tap>(
     requires within { All (ActIsInRange settings.tiles settings.cores) script.now }
     ensures played { let serving = map P.policy placers.items in
         let noting = map T.notes taps.items in
-        IfOk result (λ p. IfSome p.ran.end (λ end. IsPlayedRun N image.now settings script.now serving noting
-        p.said.items p.ran.closed.steps end (run_of_closed p.ran.closed p.ran.end))) }
-    ensures part { let serving = map P.policy placers.items in
-        let noting = map T.notes taps.items in
-        IfOk result (λ p. p.ran.end ≡ None → IsPlayedInPart N image.now settings script.now serving noting
-        p.ran.closed.steps (run_of_closed p.ran.closed p.ran.end)) }
-    ensures run { IfOk result (λ p.
-        IsRunOf image.now settings.commits settings.budget (run_of_closed p.ran.closed p.ran.end)) }
-    ensures writable { IfOk result (λ p. length p.ran.closed.memory ≡ image.now.data_size) }
+        IfOk result (IsPlayedOrPart N image.now settings script.now serving noting) }
+    ensures left { IfOk result (λ p. IsLeftOf image.now settings.commits settings.budget p.ran) }
 {
     let book = Book::<N, P, T>::begin(alloc, image, settings, placers, taps)?;
     Ok(play_begun(alloc, image, book, script))
@@ -90,15 +82,8 @@ fn play_begun<N: Naming, P: Placer, T: Tap>(
     ensures played { let opening = view_of P.policy T.notes book in
         (settings : Settings) (placers : List Policy) (taps : List TapValue)
         → IsOpening N.image settings placers taps opening
-        → IfSome result.ran.end (λ end. IsPlayedRun N N.image settings script.now placers taps
-        result.said.items result.ran.closed.steps end (run_of_closed result.ran.closed result.ran.end)) }
-    ensures part { let opening = view_of P.policy T.notes book in
-        (settings : Settings) (placers : List Policy) (taps : List TapValue)
-        → IsOpening N.image settings placers taps opening
-        → result.ran.end ≡ None → IsPlayedInPart N N.image settings script.now placers taps
-        result.ran.closed.steps (run_of_closed result.ran.closed result.ran.end) }
-    ensures run { IsRunOf N.image N.commits N.budget (run_of_closed result.ran.closed result.ran.end) }
-    ensures writable { length result.ran.closed.memory ≡ N.image.data_size }
+        → IsPlayedOrPart N N.image settings script.now placers taps result }
+    ensures left { IsLeftOf N.image N.commits N.budget result.ran }
 {
     let mut book = book;
     match play(alloc, image, &mut book, script) {
@@ -128,15 +113,8 @@ pub fn trace_script<N: Naming, P: Placer, T: Tap>(
     requires within { All (ActIsInRange settings.tiles settings.cores) script.now }
     ensures traced { let serving = map P.policy placers.items in
         let noting = map T.notes taps.items in
-        IfOk result (λ t. IfSome t.ran.end (λ end. IsTracedRun N image.now settings script.now serving noting
-        (map (λ list. list.items) t.lists.items) t.ran.closed.steps end (run_of_closed t.ran.closed t.ran.end))) }
-    ensures part { let serving = map P.policy placers.items in
-        let noting = map T.notes taps.items in
-        IfOk result (λ t. t.ran.end ≡ None → IsPlayedInPart N image.now settings script.now serving noting
-        t.ran.closed.steps (run_of_closed t.ran.closed t.ran.end)) }
-    ensures run { IfOk result (λ t.
-        IsRunOf image.now settings.commits settings.budget (run_of_closed t.ran.closed t.ran.end)) }
-    ensures writable { IfOk result (λ t. length t.ran.closed.memory ≡ image.now.data_size) }
+        IfOk result (IsTracedOrPart N image.now settings script.now serving noting) }
+    ensures left { IfOk result (λ t. IsLeftOf image.now settings.commits settings.budget t.ran) }
 {
     let book = Book::<N, P, T>::begin(alloc, image, settings, placers, taps)?;
     Ok(trace_begun(alloc, image, book, script))
@@ -157,16 +135,8 @@ fn trace_begun<N: Naming, P: Placer, T: Tap>(
     ensures traced { let opening = view_of P.policy T.notes book in
         (settings : Settings) (placers : List Policy) (taps : List TapValue)
         → IsOpening N.image settings placers taps opening
-        → IfSome result.ran.end (λ end. IsTracedRun N N.image settings script.now placers taps
-        (map (λ list. list.items) result.lists.items) result.ran.closed.steps end
-        (run_of_closed result.ran.closed result.ran.end)) }
-    ensures part { let opening = view_of P.policy T.notes book in
-        (settings : Settings) (placers : List Policy) (taps : List TapValue)
-        → IsOpening N.image settings placers taps opening
-        → result.ran.end ≡ None → IsPlayedInPart N N.image settings script.now placers taps
-        result.ran.closed.steps (run_of_closed result.ran.closed result.ran.end) }
-    ensures run { IsRunOf N.image N.commits N.budget (run_of_closed result.ran.closed result.ran.end) }
-    ensures writable { length result.ran.closed.memory ≡ N.image.data_size }
+        → IsTracedOrPart N N.image settings script.now placers taps result }
+    ensures left { IsLeftOf N.image N.commits N.budget result.ran }
 {
     let mut book = book;
     match play_and_tell(alloc, image, &mut book, script) {
@@ -209,8 +179,7 @@ fn leave_standing<N: Naming, P: Placer, T: Tap>(book: Book<N, P, T>) -> Ran
     ensures closes { Closes (view_of P.policy T.notes book) result.closed }
     ensures stands { let view = machine_view book in
         IsSomeAnd result.end (StandsAt view) }
-    ensures run { IsRunOf N.image N.commits N.budget (run_of_closed result.closed result.end) }
-    ensures writable { length result.closed.memory ≡ N.image.data_size }
+    ensures left { IsLeftOf N.image N.commits N.budget result }
 {
     let end = stand(&book);
     leave(book, Some(end))

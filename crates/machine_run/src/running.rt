@@ -1,16 +1,15 @@
 //! An image is run to its end: one event for its least task after another, or by workers.
 
-ghost use Rattle.std.specs.Prelude.{◌≡◌, ◌≢◌, ◌≤◌, ◌^◌, true, List, length, map, IfOk, Some, IsSome, IfSome};
+ghost use Rattle.std.specs.Prelude.{◌≡◌, ◌≤◌, ◌^◌, true, List, map, IfOk};
 ghost use Rattle.guest_image.specs.ImageValue.{IsImage};
 ghost use Rattle.place_policy.specs.Policy.{Policy};
 ghost use Rattle.trace_tap.specs.TapValue.{TapValue};
-ghost use Rattle.serial_machine.specs.WholeRun.{IsRunOf};
 ghost use Rattle.spec_state.specs.declared.settings.Settings.{Settings};
 ghost use Rattle.spec_state.specs.Settings.{IsNamed, IsValid};
 ghost use Rattle.event_def.specs.Opening.{IsOpening};
 ghost use Rattle.conflict_book.specs.BookViews.{events_made, view_of};
 ghost use Rattle.machine_run.specs.Least.{IsLeastRun, end_of_halt, run_of_closed};
-ghost use Rattle.machine_run.specs.Stopping.{IsStoppedWith};
+ghost use Rattle.machine_run.specs.Halted.{IsHalted, IsMachineRun, KeepsPending};
 
 use crate::left::{Ran, Stopped, stop};
 use conflict_book::{Book, Halt};
@@ -46,14 +45,9 @@ pub fn run<
     requires fits { IsImage image.now }
     requires valid { IsValid settings }
     requires named { IsNamed image.now settings N.image N.budget N.commits }
-    ensures least { let serving = map P.policy placers.items in
+    ensures { let serving = map P.policy placers.items in
         let noting = map T.notes taps.items in
-        settings.workers ≡ 0 → IfOk result (λ ran.
-        IsLeastRun N image.now settings serving noting ran.closed.steps (run_of_closed ran.closed ran.end)) }
-    ensures run { IfOk result (λ ran.
-        IsRunOf image.now settings.commits settings.budget (run_of_closed ran.closed ran.end)) }
-    ensures writable { IfOk result (λ ran. length ran.closed.memory ≡ image.now.data_size) }
-    ensures over { IfOk result (λ ran. ran.end ≢ Some End.Unfinished) }
+        IfOk result (IsMachineRun N image.now settings serving noting) }
 {
     let stopped = run_as::<N, P, T, G, R>(rt, alloc, image, settings, gate, placers, taps, false)?;
     let Stopped { ran, pending: _ } = stopped;
@@ -80,17 +74,10 @@ pub fn run_to_save<
     requires fits { IsImage image.now }
     requires valid { IsValid settings }
     requires named { IsNamed image.now settings N.image N.budget N.commits }
-    ensures least { let serving = map P.policy placers.items in
+    ensures run { let serving = map P.policy placers.items in
         let noting = map T.notes taps.items in
-        settings.workers ≡ 0 → IfOk result (λ stopped. let ran = stopped.ran in
-        IsLeastRun N image.now settings serving noting ran.closed.steps (run_of_closed ran.closed ran.end)) }
-    ensures run { IfOk result (λ stopped. let ran = stopped.ran in
-        IsRunOf image.now settings.commits settings.budget (run_of_closed ran.closed ran.end)) }
-    ensures writable { IfOk result (λ stopped. length stopped.ran.closed.memory ≡ image.now.data_size) }
-    ensures over { IfOk result (λ stopped. stopped.ran.end ≢ Some End.Unfinished) }
-    ensures pending { IfOk result (λ stopped.
-        IfSome stopped.pending (IsStoppedWith image.now settings.budget stopped.ran)) }
-    ensures limit { IfOk result (λ stopped. stopped.ran.end ≡ Some End.Limit → IsSome stopped.pending) }
+        IfOk result (λ stopped. IsMachineRun N image.now settings serving noting stopped.ran) }
+    ensures pending { IfOk result (KeepsPending image.now settings.budget true) }
 {
     run_as::<N, P, T, G, R>(rt, alloc, image, settings, gate, placers, taps, true)
 }
@@ -115,18 +102,10 @@ fn run_as<
     requires fits { IsImage image.now }
     requires valid { IsValid settings }
     requires named { IsNamed image.now settings N.image N.budget N.commits }
-    ensures least { let serving = map P.policy placers.items in
+    ensures run { let serving = map P.policy placers.items in
         let noting = map T.notes taps.items in
-        settings.workers ≡ 0 → IfOk result (λ stopped. let ran = stopped.ran in
-        IsLeastRun N image.now settings serving noting ran.closed.steps (run_of_closed ran.closed ran.end)) }
-    ensures run { IfOk result (λ stopped. let ran = stopped.ran in
-        IsRunOf image.now settings.commits settings.budget (run_of_closed ran.closed ran.end)) }
-    ensures writable { IfOk result (λ stopped. length stopped.ran.closed.memory ≡ image.now.data_size) }
-    ensures over { IfOk result (λ stopped. stopped.ran.end ≢ Some End.Unfinished) }
-    ensures pending { IfOk result (λ stopped.
-        IfSome stopped.pending (IsStoppedWith image.now settings.budget stopped.ran)) }
-    ensures limit { IfOk result (λ stopped.
-        goes_on ≡ true → stopped.ran.end ≡ Some End.Limit → IsSome stopped.pending) }
+        IfOk result (λ stopped. IsMachineRun N image.now settings serving noting stopped.ran) }
+    ensures pending { IfOk result (KeepsPending image.now settings.budget goes_on) }
 {
     let workers = settings.workers;
     let book = Book::<N, P, T>::begin(alloc, image, settings, placers, taps)?;
@@ -150,11 +129,8 @@ fn run_alone<N: Naming, P: Placer, T: Tap>(
         → IsOpening N.image settings placers taps opening
         → IsLeastRun N N.image settings placers taps result.ran.closed.steps
         (run_of_closed result.ran.closed result.ran.end) }
-    ensures run { IsRunOf N.image N.commits N.budget (run_of_closed result.ran.closed result.ran.end) }
-    ensures writable { length result.ran.closed.memory ≡ N.image.data_size }
-    ensures over { result.ran.end ≢ Some End.Unfinished }
-    ensures pending { IfSome result.pending (IsStoppedWith N.image N.budget result.ran) }
-    ensures limit { goes_on ≡ true → result.ran.end ≡ Some End.Limit → IsSome result.pending }
+    ensures halted { IsHalted N.image N.commits N.budget result.ran }
+    ensures pending { KeepsPending N.image N.budget goes_on result }
 {
     let mut book = book;
     let halt = book.run_least(image);
@@ -173,11 +149,8 @@ fn run_by_workers<
     requires image { image.now ≡ N.image }
     requires workers { (1 ≤ workers) × (workers ≤ 16) }
     requires steps { events_made book ≤ 2 ^ 63 }
-    ensures run { IsRunOf N.image N.commits N.budget (run_of_closed result.ran.closed result.ran.end) }
-    ensures writable { length result.ran.closed.memory ≡ N.image.data_size }
-    ensures over { result.ran.end ≢ Some End.Unfinished }
-    ensures pending { IfSome result.pending (IsStoppedWith N.image N.budget result.ran) }
-    ensures limit { goes_on ≡ true → result.ran.end ≡ Some End.Limit → IsSome result.pending }
+    ensures halted { IsHalted N.image N.commits N.budget result.ran }
+    ensures pending { KeepsPending N.image N.budget goes_on result }
 {
     let drained = run_tiles(rt, image, book, workers, gate);
     stop(drained.book, end_of(drained.halt), goes_on)

@@ -17,6 +17,7 @@ returns g c =
     let found = c.play_finding.result in
     record {
       found = play_found_behind request image rest placers taps script is made found c.play_finding.ensures
-          c.requires.command (search (rules, e.played)) (search (rules, e.part)) (search (rules, e.run));
-      writable = play_writable image made found c.play_finding.ensures (search (rules, e.writable));
+          c.requires.command (search (rules, e.played)) (search (rules, e.left));
+      writable = play_writable image request.settings.commits request.settings.budget made found
+          c.play_finding.ensures (search (rules, e.left));
     }

@@ -17,6 +17,6 @@ returns g c =
     let found = c.trace_finding.result in
     record {
       found = trace_found_behind request image rest placers taps script is made found c.trace_finding.ensures
-          c.requires.command (search (rules, e.traced)) (search (rules, e.part)) (search (rules, e.run));
+          c.requires.command (search (rules, e.traced)) (search (rules, e.left));
       writable = trace_writable made found c.trace_finding.ensures;
     }

@@ -1,11 +1,15 @@
 use Rattle.std.proofs.Common.{map, rules}
-use Rattle.fractal_sim.proofs.Kept.{made_so}
+use Rattle.fractal_sim.proofs.Kept.{made_has_window, made_so}
 use Rattle.fractal_sim.proofs.running.run_image.Goals as goal
 
-pub returns-clause-made : goal.returns-clause-made
-returns-clause-made g c =
+pub returns : goal.returns
+returns g c =
+    let image = c.args.image.now in
+    let settings = c.args.settings in
     let placers = map g.P.Placer.policy c.args.placers.items in
     let taps = map g.T.Tap.notes c.args.taps.items in
-    let e = c.run.ensures in
-    made_so c.args.image.now c.args.settings placers taps c.run.result (λ none. search (rules, e.least none))
-    (search (rules, e.run)) (search (rules, e.over))
+    let made = c.run.result in
+    record {
+      made = made_so image settings placers taps made (search (rules, c.run.ensures));
+      window = made_has_window image settings placers taps made (search (rules, c.run.ensures));
+    }

@@ -1,23 +1,19 @@
-use Rattle.std.proofs.Common.{ℕ, map, Vec, Global}
 use Rattle.conflict_book.specs.BookViews.{view_of}
-use Rattle.machine_run.proofs.Scripts.{left_in_part, left_is_traced}
-use Rattle.machine_run.proofs.Standing.{if_told}
+use Rattle.machine_run.proofs.Scripts.{traced_cut, traced_whole}
 use Rattle.machine_run.proofs.playing.trace_begun.Goals as goal
 
 pub returns-in-Ok-clause-traced : goal.returns-in-Ok-clause-traced
 returns-in-Ok-clause-traced g c = λ settings placers taps is_opening.
     let opening = view_of g.P.Placer.policy g.T.Tap.notes c.args.book in
     let last = view_of g.P.Placer.policy g.T.Tap.notes c.play_and_tell.new.book in
-    let ran = c.leave_standing.result in
-    let lists = map (λ (list : Vec ℕ Global). list.items) c.in-Ok.lists.items in
-    left_is_traced g.row.N.Denot g.N.Naming.image settings c.args.script.now placers taps opening is_opening last
-    ran.closed c.leave_standing.ensures.closes lists ran.end c.in-Ok.ensures.told
-    (if_told last.view ran.end c.leave_standing.ensures.stands)
+    traced_whole g.row.N.Denot g.N.Naming.image settings c.args.script.now placers taps opening is_opening last
+    (record { ran = c.leave_standing.result; lists = c.in-Ok.lists }) c.leave_standing.ensures.closes
+    c.in-Ok.ensures.told c.leave_standing.ensures.stands
 
-pub returns-in-Err-clause-part : goal.returns-in-Err-clause-part
-returns-in-Err-clause-part g c = λ settings placers taps is_opening none.
+pub returns-in-Err-clause-traced : goal.returns-in-Err-clause-traced
+returns-in-Err-clause-traced g c = λ settings placers taps is_opening.
     let opening = view_of g.P.Placer.policy g.T.Tap.notes c.args.book in
     let last = view_of g.P.Placer.policy g.T.Tap.notes c.play_and_tell.new.book in
-    let ran = c.leave.result in
-    left_in_part g.row.N.Denot g.N.Naming.image settings c.args.script.now placers taps opening is_opening last
-    ran.closed c.leave.ensures.closes ran.end c.in-Err.ensures.out_of_memory none
+    traced_cut g.row.N.Denot g.N.Naming.image settings c.args.script.now placers taps opening is_opening last
+    (record { ran = c.leave.result; lists = c.new.result }) c.leave.ensures.closes c.in-Err.ensures.out_of_memory
+    c.leave.ensures.end

@@ -4,8 +4,8 @@ use Rattle.event_def.specs.End.{HasEnd}
 use Rattle.conflict_book.specs.BookViews.{view_of}
 use Rattle.machine_run.specs.Least.{end_of_halt}
 use Rattle.machine_run.proofs.Least.{halted, left_is_least_run}
-use Rattle.machine_run.proofs.Standing.{over_is_closed, over_stands_if}
-use Rattle.machine_run.proofs.AtLimit.{told_has, with_end}
+use Rattle.machine_run.proofs.Standing.{over_stands_if}
+use Rattle.machine_run.proofs.AtLimit.{halts_so, with_end}
 use Rattle.machine_run.proofs.running.run_alone.Goals as goal
 
 pub stop-requires-clause-stands : goal.stop-requires-clause-stands
@@ -25,12 +25,14 @@ returns-clause-least g c = λ settings placers taps valid is_opening.
     let halt = c.run_least-halt.result in
     with_end N image settings placers taps ran.closed (end_of_halt halt) ran.end
     (subst (λ end. IfSome ran.end (λ told. end ≡ Some told)) c.end_of.ensures c.stop.ensures.end)
-    (left_is_least_run image settings placers taps opening is_opening N last c.requires.fits valid ran.closed halt c.run_least-halt.ensures c.stop.ensures.closes)
+    (left_is_least_run image settings placers taps opening is_opening N last c.requires.fits valid ran.closed halt
+    c.run_least-halt.ensures c.stop.ensures.closes)
 
-pub returns-clause-over : goal.returns-clause-over
-returns-clause-over g c = λ unfinished.
+pub returns-clause-halted : goal.returns-clause-halted
+returns-clause-halted g c =
+    let image = g.N.Naming.image in
     let last = view_of g.P.Placer.policy g.T.Tap.notes c.run_least-halt.new.self in
-    over_is_closed last.view c.stop.result.ran.end
-    (told_has last.view c.end_of.result c.stop.result.ran.end
+    let halt = c.run_least-halt.result in
+    halts_so image g.N.Naming.commits g.N.Naming.budget last.view c.end_of.result c.stop.result.ran
     (subst (λ end. IfSome end (HasEnd last.view)) (sym c.end_of.ensures)
-    (halted g.row.N.Denot g.N.Naming.image last c.run_least-halt.result c.run_least-halt.ensures.halts)) c.stop.ensures.end) unfinished
+    (halted g.row.N.Denot image last halt c.run_least-halt.ensures.halts)) c.stop.ensures.end c.stop.ensures.left
