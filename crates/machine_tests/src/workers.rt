@@ -1,10 +1,9 @@
 //! Workers that run a book to its end: their shares, their gates, and a reader that follows them.
 
 ghost use Rattle.std.specs.Prelude.{◌≡◌, ◌≤◌, ◌^◌, ◌∷◌, [], IfOk};
-ghost use Rattle.progress_cell.specs.Readings.{last_of, opening_reading};
-ghost use Rattle.conflict_book.specs.Counts.{counts_of};
+ghost use Rattle.progress_cell.specs.Readings.{opening_reading};
 ghost use Rattle.conflict_book.specs.BookViews.{events_made, machine_view};
-ghost use Rattle.tile_worker.specs.Readings.{AreReadings};
+ghost use Rattle.tile_worker.specs.Readings.{HasTold};
 ghost use Rattle.spec_state.specs.Settings.{IsValid};
 
 use crate::machines::{ENDERS, Hinted, TWO_TILES, image_of, opening_book};
@@ -240,9 +239,7 @@ fn watch<N: Naming + Send + Sync, P: Placer + Send, T: Tap + Send, R: Threads + 
     requires image { image.now ≡ N.image }
     requires workers { (1 ≤ workers) × (workers ≤ 16) }
     requires steps { events_made book ≤ 2 ^ 63 }
-    requires belongs { writer.board ≡ board.now }
-    requires readings { AreReadings N.image N.budget (machine_view book).history writer.told }
-    requires last { last_of writer.told ≡ counts_of (machine_view book) }
+    requires told { HasTold N.image N.budget board.now (machine_view book) writer }
     requires reader { reader.board ≡ board.now }
     ensures belongs { result.0.writer.board ≡ board.now }
     ensures reader { result.1.0.board ≡ board.now }
@@ -252,9 +249,7 @@ fn watch<N: Naming + Send + Sync, P: Placer + Send, T: Tap + Send, R: Threads + 
         move || -> Watched<N, P, T>
             requires { (image.now ≡ N.image) × ((1 ≤ workers) × (workers ≤ 16))
                 × ((events_made book) ≤ 2 ^ 63)
-                × (writer.board ≡ board.now)
-                × AreReadings N.image N.budget (machine_view book).history writer.told
-                × (last_of writer.told ≡ counts_of (machine_view book)) }
+                × HasTold N.image N.budget board.now (machine_view book) writer }
             ensures { result.writer.board ≡ board.entry.now }
         { run_watched(rt, image, book, workers, gate, board, writer) },
         move || -> (Reader, Reading)

@@ -5,4 +5,5 @@ pub mod Counts
 pub mod Founds
 pub mod Rounds
 pub mod Grows
+pub mod Runs
 pub mod Readings

@@ -4,6 +4,7 @@ ghost use Rattle.std.specs.Prelude.{◌≡◌, ◌≤◌, ◌<◌, ◌+◌, ◌^
 ghost use Rattle.conflict_book.specs.BookViews.{events_made, machine_view, view_of};
 ghost use Rattle.tile_worker.specs.Grows.{Grows};
 ghost use Rattle.tile_worker.specs.Halts.{HaltsAt};
+ghost use Rattle.tile_worker.specs.Runs.{RunsOn};
 
 use crate::begun::{Begun, Continued};
 use crate::crew::Crew;
@@ -95,10 +96,7 @@ fn work_all<
     requires steps { events_made book ≤ 2 ^ 63 }
     requires history { (machine_view book).history ≡ L.history }
     requires output { (machine_view book).output ≡ L.output }
-    ensures workers { length result.shares ≡ crew.now.workers }
-    ensures shares { let before = events_made book in
-        sum result.shares + before ≡ events_made result.book }
-    ensures grows { Grows (machine_view book) (machine_view result.book) }
+    ensures { RunsOn crew.now.workers book result.shares result.book }
 {
     let (total, mine, theirs) = open_ledger(blank, crew.workers, book.steps());
     let tallied = Tallied::new(book, total);
@@ -175,10 +173,7 @@ pub fn run_tiles<
     requires workers { (1 ≤ workers) × (workers ≤ 16) }
     requires steps { events_made book ≤ 2 ^ 63 }
     ensures halt { HaltsAt (machine_view result.book) result.halt }
-    ensures workers { length result.shares ≡ workers }
-    ensures shares { let before = events_made book in
-        sum result.shares + before ≡ events_made result.book }
-    ensures grows { Grows (machine_view book) (machine_view result.book) }
+    ensures ran { RunsOn workers book result.shares result.book }
 {
     let blank = Blank::new(u64::from(workers) + 1);
     let crew = Crew::new(rt, book.alloc(), image, workers, gate);

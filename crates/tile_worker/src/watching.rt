@@ -1,12 +1,10 @@
 //! Workers run a book to its end, and tell on a board how far it has come.
 
-ghost use Rattle.std.specs.Prelude.{◌≡◌, ◌≤◌, ◌+◌, ◌^◌, length, sum, take};
-ghost use Rattle.progress_cell.specs.Readings.{last_of};
-ghost use Rattle.conflict_book.specs.Counts.{counts_of};
+ghost use Rattle.std.specs.Prelude.{◌≡◌, ◌≤◌, ◌+◌, ◌^◌, length, take};
 ghost use Rattle.conflict_book.specs.BookViews.{events_made, machine_view};
-ghost use Rattle.tile_worker.specs.Grows.{Grows};
 ghost use Rattle.tile_worker.specs.Halts.{HaltsAt};
-ghost use Rattle.tile_worker.specs.Readings.{AreReadings};
+ghost use Rattle.tile_worker.specs.Readings.{HasTold};
+ghost use Rattle.tile_worker.specs.Runs.{RunsOn};
 
 use crate::crew::Crew;
 use crate::fanning::fan;
@@ -59,18 +57,10 @@ fn watch_all<
     requires output { (machine_view book).output ≡ L.output }
     requires board { board.now ≡ L.board }
     requires before { writer.told ≡ L.before }
-    requires belongs { writer.board ≡ board.now }
-    requires readings { AreReadings N.image N.budget (machine_view book).history writer.told }
-    requires last { last_of writer.told ≡ counts_of (machine_view book) }
-    ensures workers { length result.0.shares ≡ crew.now.workers }
-    ensures shares { let before = events_made book in
-        sum result.0.shares + before ≡ events_made result.0.book }
-    ensures grows { Grows (machine_view book) (machine_view result.0.book) }
-    ensures belongs { result.1.board ≡ board.now }
+    requires told { HasTold N.image N.budget board.now (machine_view book) writer }
+    ensures ran { RunsOn crew.now.workers book result.0.shares result.0.book }
+    ensures told { HasTold N.image N.budget board.now (machine_view result.0.book) result.1 }
     ensures goes_on { take (length writer.told) result.1.told ≡ writer.told }
-    ensures readings { let view = machine_view result.0.book in
-        AreReadings N.image N.budget view.history result.1.told }
-    ensures last { last_of result.1.told ≡ counts_of (machine_view result.0.book) }
 {
     let (total, mine, theirs) = open_ledger(blank, crew.workers, book.steps());
     let tallied = Tallied::new(book, total);
@@ -106,19 +96,11 @@ pub fn run_watched<
     requires image { image.now ≡ N.image }
     requires workers { (1 ≤ workers) × (workers ≤ 16) }
     requires steps { events_made book ≤ 2 ^ 63 }
-    requires belongs { writer.board ≡ board.now }
-    requires readings { AreReadings N.image N.budget (machine_view book).history writer.told }
-    requires last { last_of writer.told ≡ counts_of (machine_view book) }
+    requires told { HasTold N.image N.budget board.now (machine_view book) writer }
     ensures halt { HaltsAt (machine_view result.drained.book) result.drained.halt }
-    ensures workers { length result.drained.shares ≡ workers }
-    ensures shares { let before = events_made book in
-        sum result.drained.shares + before ≡ events_made result.drained.book }
-    ensures grows { Grows (machine_view book) (machine_view result.drained.book) }
-    ensures belongs { result.writer.board ≡ board.now }
+    ensures ran { RunsOn workers book result.drained.shares result.drained.book }
+    ensures told { HasTold N.image N.budget board.now (machine_view result.drained.book) result.writer }
     ensures goes_on { take (length writer.told) result.writer.told ≡ writer.told }
-    ensures readings { let view = machine_view result.drained.book in
-        AreReadings N.image N.budget view.history result.writer.told }
-    ensures last { last_of result.writer.told ≡ counts_of (machine_view result.drained.book) }
 {
     let blank = Blank::new(u64::from(workers) + 1);
     let crew = Crew::new(rt, book.alloc(), image, workers, gate);
