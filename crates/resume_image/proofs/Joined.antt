@@ -1,21 +1,20 @@
 -- A run and one that went on from its saved image are one run.
-use Rattle.std.proofs.Common.{◌≡◌, refl, sym, ap, ◌∙◌, subst, ℕ, ◌<◌, ◌||◌, Bool, true, false, List, [], ◌∷◌, ◌++◌}
-use Rattle.std.proofs.Common.{length, map, All}
+use Rattle.std.proofs.Common.{◌≡◌, refl, sym, ap, ◌∙◌, subst, ℕ, ◌||◌, Bool, true, false, List, [], ◌∷◌, ◌++◌}
+use Rattle.std.proofs.Common.{length, map}
 use Rattle.std.proofs.lemmas.Bool.{or_left, or_right}
 use Rattle.std.specs.List.{list_any}
-use Rattle.guest_image.specs.ImageValue.{ImageValue, IsImage}
+use Rattle.guest_image.specs.ImageValue.{ImageValue}
 use Rattle.task_desc.specs.declared.desc.Name.{Name}
 use Rattle.pending_list.specs.declared.task.PendingTask.{PendingTask}
 use Rattle.run_journal.specs.declared.journal.Entry.{Entry}
 use Rattle.spec_state.specs.declared.pending.Pending.{Pending}
 use Rattle.serial_machine.specs.BagValue.{BagValue}
-use Rattle.serial_machine.specs.Run.{IsRun, Runs, opening}
+use Rattle.serial_machine.specs.Run.{Runs, opening}
 use Rattle.serial_machine.specs.State.{SerialState}
 use Rattle.serial_machine.specs.Turn.{inner, is_named, is_pending}
 use Rattle.serial_machine.proofs.Proved.{is_pending-inner}
-use Rattle.spec_state.specs.Pendings.{RunLeaves}
 use Rattle.resume_image.specs.Saved.{saved_image, saved_task}
-use Rattle.resume_image.specs.Joined.{IsJoinedRun, shifted_name, shifted_entry}
+use Rattle.resume_image.specs.Joined.{RunsJoin, shifted_name, shifted_entry}
 use Rattle.resume_image.proofs.Followed.{runs_followed}
 use Rattle.resume_image.proofs.Opened.{saved_opens}
 use Rattle.resume_image.proofs.Shifted.{AreShifted, shifted_task}
@@ -79,12 +78,7 @@ module _ (turns : ℕ) (pendings : List Pending) where
       (λ here. or_left _ _ (ap (λ (b : BagValue). list_any (is_named (shifted_name turns pendings own)) b.tasks) same.0 ∙ bag_there own y.tasks here))
       (λ there. or_right (list_any (is_named (shifted_name turns pendings own)) x.tasks) _ (stack_there own xs ys same.1 there))
 
-pub runs_join : (image : ImageValue) → IsImage image → (budget : ℕ) → (one two : List Entry) → (memory output : List ℕ)
-    → (pendings : List Pending)
-    → RunLeaves image budget one memory output pendings → 0 < length pendings
-    → All (λ (p : Pending). p.depth ≡ 1) pendings
-    → (second : SerialState) → IsRun (saved_image image memory pendings) budget two second
-    → IsJoinedRun image budget one two output pendings second
+pub runs_join : RunsJoin
 runs_join image within budget one two memory output pendings left some root second run =
     let opened = saved_opens image budget one memory output pendings within left some root in
     let on = runs_followed image budget memory (map saved_task pendings) (length one) output pendings opened.saved

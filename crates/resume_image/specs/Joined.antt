@@ -1,12 +1,16 @@
 -- A run and one that went on from its saved image, as one run.
-use Rattle.std.specs.Prelude.{◌≡◌, ℕ, ◌+◌, ◌==◌, true, List, ◌++◌, length, map, slice_index_or, if◌then◌else◌, ◌↔◌}
-use Rattle.guest_image.specs.ImageValue.{ImageValue}
+use Rattle.std.specs.Prelude.{◌≡◌, ◌<◌, ℕ, ◌+◌, ◌==◌, true, List, ◌++◌, length, map, slice_index_or, ◌↔◌}
+use Rattle.std.specs.Prelude.{if◌then◌else◌}
+use Rattle.guest_image.specs.ImageValue.{ImageValue, IsImage}
 use Rattle.task_desc.specs.declared.desc.Name.{Name}
 use Rattle.run_journal.specs.declared.journal.Entry.{Entry}
 use Rattle.spec_state.specs.declared.pending.Pending.{Pending}
+use Rattle.spec_state.specs.Pendings.{RunLeaves}
 use Rattle.serial_machine.specs.Run.{IsRun}
 use Rattle.serial_machine.specs.State.{SerialState}
 use Rattle.serial_machine.specs.Turn.{is_pending}
+use Rattle.resume_image.specs.Pendings.{AreOfRoot}
+use Rattle.resume_image.specs.Saved.{saved_image}
 
 -- the name in the first run's image of a task of a run that went on after so many turns: a task of the saved image is
 -- the pending task at its place, and a child's creator took its turn so many turns later; a place past them, which no
@@ -35,3 +39,12 @@ pub record IsJoinedRun (image : ImageValue) (budget : ℕ) (one two : List Entry
   pub output_is : state.output ≡ output ++ second.output
   pub pending : (name : Name) → is_pending name state.stack ≡ true
       ↔ ((own : Name) × (is_pending own second.stack ≡ true) × (name ≡ shifted_name (length one) pendings own))
+
+-- a run, of which some tasks pend, all in the root domain, and a run of the image with these tasks and the memory of
+-- the first are one run
+abbrev pub RunsJoin : Type 0
+RunsJoin =
+    (image : ImageValue) → IsImage image → (budget : ℕ) → (one two : List Entry) → (memory output : List ℕ)
+    → (pendings : List Pending) → RunLeaves image budget one memory output pendings → 0 < length pendings
+    → AreOfRoot pendings → (second : SerialState) → IsRun (saved_image image memory pendings) budget two second
+    → IsJoinedRun image budget one two output pendings second

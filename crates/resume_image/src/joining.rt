@@ -1,16 +1,13 @@
 //! A run and one that went on from its saved image, as one run.
 
-ghost use Rattle.std.specs.Prelude.{◌≡◌, ◌<◌, ◌≤◌, ◌+◌, ◌^◌, ◌++◌, ℕ, List, All, length, IfOk};
-ghost use Rattle.guest_image.specs.ImageValue.{ImageValue, IsImage};
+ghost use Rattle.std.specs.Prelude.{◌≡◌, ◌<◌, ◌≤◌, ◌+◌, ◌^◌, ℕ, List, All, length, IfOk};
+ghost use Rattle.guest_image.specs.ImageValue.{ImageValue};
 ghost use Rattle.run_journal.specs.declared.journal.Entry.{Entry};
-ghost use Rattle.spec_state.specs.declared.pending.Pending.{Pending};
 ghost use Rattle.serial_machine.specs.Run.{IsRun};
 ghost use Rattle.serial_machine.specs.State.{SerialState};
-ghost use Rattle.spec_state.specs.Pendings.{RunLeaves};
 ghost use Rattle.conflict_book.specs.Frozen.{IsFrozenOf};
-ghost use Rattle.resume_image.specs.Pendings.{AreOfRoot};
-ghost use Rattle.resume_image.specs.Saved.{IsSavedOf, saved_image};
-ghost use Rattle.resume_image.specs.Joined.{IsJoinedRun, joined_journal, shifted_name, shifted_entry};
+ghost use Rattle.resume_image.specs.Saved.{IsSavedOf};
+ghost use Rattle.resume_image.specs.Joined.{IsJoinedRun, RunsJoin, joined_journal, shifted_name, shifted_entry};
 
 use conflict_book::Frozen;
 use guest_image::Image;
@@ -23,10 +20,7 @@ use task_desc::Name;
 /// Law: a run, of which some tasks pend, all in the root domain, and a run of the image with these tasks and the memory
 /// of the first are one run.
 pub fn runs_join()
-    ensures { (image : ImageValue) → IsImage image → (budget : ℕ) → (one two : List Entry) → (memory output : List ℕ)
-        → (pendings : List Pending) → RunLeaves image budget one memory output pendings → 0 < length pendings
-        → AreOfRoot pendings → (second : SerialState) → IsRun (saved_image image memory pendings) budget two second
-        → IsJoinedRun image budget one two output pendings second }
+    ensures { RunsJoin }
 {}
 
 /// Law: whoever takes a turn of a run was made by the image or by a turn of that run.
