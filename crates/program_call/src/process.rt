@@ -1,4 +1,9 @@
-//! The words of a process, and its exit code. No contract says what words a process has.
+//! The words of a process as texts, and its exit code. No contract says what words a process has.
+
+ghost use Rattle.std.specs.Prelude.{◌≡◌, IfOk, map};
+ghost use Rattle.std.specs.Process.{exit_status};
+ghost use Rattle.std.specs.Result.{result_unwrap_or};
+ghost use Rattle.std.specs.String.{string_bytes};
 
 use crate::statuses::NO_MEMORY;
 use std::alloc::{AllocError, Global};
@@ -8,6 +13,9 @@ use std::process::ExitCode;
 
 /// The words behind the program's name. There are none where one of them is no UTF-8, so that they are refused as one
 /// that is not known.
+///
+/// Nothing is promised of them: the kit's `Env` tells of a word only that it fits the buffer, and `env::args`, which
+/// gathers them, tells nothing.
 pub fn process_words<R: Env + Alloc<A = Global>>(rt: &R) -> Result<Vec<String>, AllocError> {
     let alloc = rt.alloc();
     let mut words = Vec::new(alloc);
@@ -23,8 +31,10 @@ pub fn process_words<R: Env + Alloc<A = Global>>(rt: &R) -> Result<Vec<String>, 
     Ok(words)
 }
 
-/// The texts of these words.
-pub fn texts_of<'a>(alloc: Global, words: &'a [String]) -> Result<Vec<&'a str>, AllocError> {
+/// The texts of these words, each in its word's place.
+pub fn texts_of<'a>(alloc: Global, words: &'a [String]) -> Result<Vec<&'a str>, AllocError>
+    ensures { IfOk result (λ texts. map (λ t. t.now) texts.items ≡ map string_bytes words.now) }
+{
     let mut texts = Vec::new(alloc);
     for word in words {
         texts.push(word.as_str())?;
@@ -33,7 +43,9 @@ pub fn texts_of<'a>(alloc: Global, words: &'a [String]) -> Result<Vec<&'a str>, 
 }
 
 /// The exit code that shows a status; where memory ran out, 5.
-pub fn exit_code(answered: Result<u8, AllocError>) -> ExitCode {
+pub fn exit_code(answered: Result<u8, AllocError>) -> ExitCode
+    ensures { exit_status result ≡ result_unwrap_or answered NO_MEMORY }
+{
     match answered {
         Ok(status) => ExitCode::from(status),
         Err(_) => ExitCode::from(NO_MEMORY),
