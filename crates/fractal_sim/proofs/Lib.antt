@@ -4,4 +4,5 @@ pub mod Counting
 pub mod Found
 pub mod Twice
 pub mod Kept
+pub mod Dispatched
 pub mod Once

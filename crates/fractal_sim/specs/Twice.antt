@@ -1,13 +1,16 @@
 -- Two calls that were given the same.
-use Rattle.std.specs.Prelude.{◌≡◌, ◌≢◌, ℕ, List, Some}
+use Rattle.std.specs.Prelude.{◌≡◌, ◌≢◌, ◌<◌, ℕ, List, length, Some}
+use Rattle.guest_image.specs.ImageValue.{ImageValue}
+use Rattle.run_journal.specs.declared.end.End.{End}
+use Rattle.step_script.specs.declared.saying.Said.{Said}
 use Rattle.sim_io.specs.Parts.{SinkTakes}
 use Rattle.command_line.specs.declared.request.Request.{Request}
 use Rattle.command_line.specs.Requests.{request_of_words}
 use Rattle.program_call.specs.declared.outcome.Outcome.{Outcome}
-use Rattle.program_call.specs.Call.{Call}
+use Rattle.program_call.specs.Call.{Call, Input}
 use Rattle.program_call.specs.Program.{TellsOutcome}
 use Rattle.fractal_sim.specs.Program.{program}
-use Rattle.fractal_sim.specs.Runs.{PlaysScript}
+use Rattle.fractal_sim.specs.Runs.{PlaysScript, PlaysToEnd}
 
 -- the other call has the same words, placers and taps, and sources of the same bytes, which both tell
 pub record AreGivenSame (call other : Call) : Type 0 where
@@ -44,13 +47,22 @@ ScriptCallsAreOne = (call other : Call) (o other_o : Outcome) → AskForScript c
     → TellsOutcome program call o → TellsOutcome program other other_o → EndsWell o → EndsWell other_o
     → AnswerSame call other o other_o
 
+-- a script with an act was played, behind the image that was read
+pub record PlaysAnAct (input : Input) (o : Outcome) : Type 0 where
+  pub image : ImageValue
+  pub said : List Said
+  pub end : End
+  pub played : PlaysToEnd input image said end o
+  pub some : 0 < length played.script
+
 -- a call that plays a script and ends well, of which the program tells this, and which was given the same as itself
 pub record EndsWellOnce (call : Call) (o : Outcome) : Type 0 where
   pub asks : AskForScript call.input.words
   pub same : AreGivenSame call call
+  pub plays : PlaysAnAct call.input o
   pub tells : TellsOutcome program call o
   pub well : EndsWell o
 
--- there are calls that meet all premises of the law
+-- there are calls that play a script with an act, and meet all premises of the law
 abbrev pub ScriptCallsEndWell : Type 0
 ScriptCallsEndWell = (call : Call) × (o : Outcome) × EndsWellOnce call o

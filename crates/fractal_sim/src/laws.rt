@@ -9,7 +9,8 @@ pub fn script_calls_are_one()
     ensures { ScriptCallsAreOne }
 {}
 
-/// There are calls that meet all that is asked for there: without any input `steps` ends well, as no image is there.
+/// There are calls that meet all that is asked for there, and play a script: `steps` of an image with one task, which
+/// the one act of the script dispatches.
 pub fn script_calls_end_well()
     ensures { ScriptCallsEndWell }
 {}
