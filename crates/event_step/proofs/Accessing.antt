@@ -9,9 +9,9 @@ use Rattle.task_request.specs.declared.request.Request.{Request}
 use Rattle.spec_state.specs.declared.task.Task.{Task}
 use Rattle.spec_state.specs.View.{View, task_at}
 use Rattle.spec_state.specs.StateValue.{StateValue, CoversLog, CoversChild}
-use Rattle.spec_state.specs.Changes.{TakesLeg, LoadsFrom, StoresTo}
+use Rattle.spec_state.specs.Changes.{LoadsFrom, StoresTo}
 use Rattle.spec_state.specs.Effects.{EffectValue, nothing}
-use Rattle.spec_access.specs.Asking.{Asks}
+use Rattle.spec_access.specs.Asking.{Asks, OfTaker}
 use Rattle.spec_state.specs.Aborts.{Aborts}
 use Rattle.spec_state.specs.Groups.{logged_tasks}
 use Rattle.spec_state.specs.Queries.{Conflicts}
@@ -29,8 +29,7 @@ of_ok (Ok value) P holds ok = holds
 of_ok (Err error) P holds ok = absurd (cc (ok))
 
 module _ (image : ImageValue) (old mid : View) (leg : LegValue) (id : ℕ)
-    (stays : (tile core : ℕ) (task : Task) → TakesLeg old tile core leg id task
-    → TakesStill image tile core leg id task old mid) where
+    (stays : OfTaker old leg id (λ tile core task. TakesStill image tile core leg id task old mid)) where
   -- a task that takes its leg still asks for the same
   pub asks_on : (request : Request) → Asks old leg id request → Asks mid leg id request
   asks_on request asks =

@@ -3,10 +3,9 @@ use Rattle.std.specs.Prelude.{ℕ, List}
 use Rattle.place_policy.specs.Policy.{Policy}
 use Rattle.trace_tap.specs.TapValue.{TapValue}
 use Rattle.rv_core.specs.LegValue.{LegValue}
-use Rattle.spec_state.specs.declared.task.Task.{Task}
 use Rattle.spec_state.specs.Effects.{EffectValue}
 use Rattle.spec_state.specs.View.{View}
-use Rattle.spec_state.specs.Changes.{TakesLeg}
+use Rattle.spec_access.specs.Asking.{OfTakerIn}
 use Rattle.event_def.specs.declared.event.Came.{Came}
 use Rattle.event_def.specs.declared.event.Event.TheVariants as event
 use Rattle.event_def.specs.Book.{book_of}
@@ -24,8 +23,7 @@ StepComes N tile core leg old before came new after effect =
 abbrev pub TaskComes : (N : Type 0) → ℕ → LegValue → ℕ → View → List Policy → Came → View → List Policy
     → EffectValue → Type 0
 TaskComes N tile leg id old before came new after effect =
-    (core : ℕ) (task : Task) → TakesLeg old tile core leg id task
-    → StepComes N tile core leg old before came new after effect
+    OfTakerIn old tile leg id (λ core task. StepComes N tile core leg old before came new after effect)
 
 -- and tells no placer
 abbrev pub QuietlyComes : (N : Type 0) → ℕ → LegValue → ℕ → View → Came → View → EffectValue → Type 0

@@ -1,12 +1,10 @@
 //! Loads and stores: what conflicts with the access is taken back, and then it is made.
 
-ghost use Rattle.std.specs.Prelude.{◌≡◌, ◌/◌, ℕ};
+ghost use Rattle.std.specs.Prelude.{◌≡◌, ◌/◌};
 ghost use Rattle.task_request.specs.declared.request.Request.TheVariants.{Load, Store};
-ghost use Rattle.spec_state.specs.declared.task.Task.{Task};
 ghost use Rattle.spec_state.specs.Effects.{nothing};
 ghost use Rattle.spec_state.specs.StateValue.{CoversLog};
-ghost use Rattle.spec_state.specs.Changes.{TakesLeg};
-ghost use Rattle.spec_access.specs.Asking.{Asks};
+ghost use Rattle.spec_access.specs.Asking.{Asks, HasTaker, OfTaker};
 ghost use Rattle.spec_law.specs.Sound.{Sound};
 ghost use Rattle.event_def.specs.End.{IsOver};
 ghost use Rattle.event_lemma.specs.Forcing.{TakesStill};
@@ -42,14 +40,11 @@ fn clear<N: Naming>(
 ) -> u32
     requires sound { Sound N.image state.old.view }
     requires line { line ≡ offset / state.old.view.settings.line }
-    requires takes { let old = state.old.view in
-        (tile core : ℕ) × (task : Task) × TakesLeg old tile core leg.now id.0 task }
-    ensures conflicts { let old = state.old.view in
-        (tile core : ℕ) (task : Task) → TakesLeg old tile core leg.now id.0 task
-        → TakesTelling task offset write old result state.new.view state.new.effect }
-    ensures stays { let old = state.old.view in
-        (tile core : ℕ) (task : Task) → TakesLeg old tile core leg.now id.0 task
-        → TakesStill N.image tile core leg.now id.0 task old state.new.view }
+    requires takes { HasTaker state.old.view leg.now id.0 }
+    ensures conflicts { OfTaker state.old.view leg.now id.0 (λ tile core task.
+        TakesTelling task offset write state.old.view result state.new.view state.new.effect) }
+    ensures stays { OfTaker state.old.view leg.now id.0 (λ tile core task.
+        TakesStill N.image tile core leg.now id.0 task state.old.view state.new.view) }
     ensures spare { state.new.spare ≡ state.old.spare }
 {
     abort_conflicts(state, id, line, write)
@@ -69,9 +64,8 @@ fn load_covered<N: Naming>(
     requires line { line ≡ offset / state.old.view.settings.line }
     requires asks { Asks state.old.view leg.now id.0 (Load width rd offset) }
     requires covered { CoversLog state.old id.0 }
-    ensures { let old = state.old.view in
-        (tile core : ℕ) (task : Task) → TakesLeg old tile core leg.now id.0 task
-        → LoadsTelling tile core leg.now id.0 task width rd offset old result state.new.view state.new.effect }
+    ensures { let old = state.old.view in OfTaker old leg.now id.0 (λ tile core task.
+        LoadsTelling tile core leg.now id.0 task width rd offset old result state.new.view state.new.effect) }
 {
     let aborted = clear(state, id, leg, offset, line, false);
     load_reserved(state, id, leg, width, rd, offset);
@@ -116,9 +110,8 @@ fn store_covered<N: Naming>(
     requires line { line ≡ offset / state.old.view.settings.line }
     requires asks { Asks state.old.view leg.now id.0 (Store offset width value) }
     requires covered { CoversLog state.old id.0 }
-    ensures { let old = state.old.view in
-        (tile core : ℕ) (task : Task) → TakesLeg old tile core leg.now id.0 task
-        → StoresTelling tile core leg.now id.0 task offset width value old result state.new.view state.new.effect }
+    ensures { let old = state.old.view in OfTaker old leg.now id.0 (λ tile core task.
+        StoresTelling tile core leg.now id.0 task offset width value old result state.new.view state.new.effect) }
 {
     let aborted = clear(state, id, leg, offset, line, true);
     store_reserved(state, id, leg, offset, width, value);

@@ -1,12 +1,10 @@
 //! End calls: the commit queue gets a free place first.
 
-ghost use Rattle.std.specs.Prelude.{◌≡◌, ◌<◌, ℕ, IsSome, IsNone, IfSome};
+ghost use Rattle.std.specs.Prelude.{◌≡◌, ◌<◌, IsSome, IsNone, IfSome};
 ghost use Rattle.task_request.specs.declared.request.Request.TheVariants.{End};
-ghost use Rattle.spec_state.specs.declared.task.Task.{Task};
 ghost use Rattle.spec_state.specs.Effects.{nothing};
 ghost use Rattle.spec_state.specs.View.{task_at};
-ghost use Rattle.spec_state.specs.Changes.{TakesLeg};
-ghost use Rattle.spec_access.specs.Asking.{Asks};
+ghost use Rattle.spec_access.specs.Asking.{Asks, HasTakerIn, OfTakerIn};
 ghost use Rattle.spec_law.specs.Sound.{Sound};
 ghost use Rattle.event_def.specs.Causes.{IsCommitFull};
 ghost use Rattle.event_def.specs.End.{IsOver};
@@ -65,11 +63,9 @@ fn finish_after<N: Naming>(
     requires asks { Asks state.old.view leg.now id.0 End }
     requires later { let view = state.old.view in
         IfSome (task_at view id.0) (HasLater view tile last.0) }
-    requires takes { let old = state.old.view in
-        (core : ℕ) × (task : Task) × TakesLeg old tile core leg.now id.0 task }
-    ensures { let old = state.old.view in
-        (core : ℕ) (task : Task) → TakesLeg old tile core leg.now id.0 task
-        → EndsTelling tile core leg.now id.0 task old result state.new.view state.new.effect }
+    requires takes { HasTakerIn state.old.view tile leg.now id.0 }
+    ensures { let old = state.old.view in OfTakerIn old tile leg.now id.0 (λ core task.
+        EndsTelling tile core leg.now id.0 task old result state.new.view state.new.effect) }
 {
     let aborted = abort(state, last);
     finish(state, id, leg);
@@ -82,8 +78,7 @@ pub(crate) fn end<N: Naming>(state: &mut State<N>, tile: u32, id: TaskId, leg: &
     requires goes_on { IsOver state.old.view → ⊥ }
     requires fresh { state.old.effect ≡ nothing }
     requires tile { tile < state.old.view.settings.tiles }
-    requires takes { let old = state.old.view in
-        (core : ℕ) × (task : Task) × TakesLeg old tile core leg.now id.0 task }
+    requires takes { HasTakerIn state.old.view tile leg.now id.0 }
     requires asks { Asks state.old.view leg.now id.0 End }
     ensures { QuietlyComes N tile leg.now id.0 state.old.view result state.new.view state.new.effect }
 {

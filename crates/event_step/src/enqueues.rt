@@ -1,15 +1,13 @@
 //! Enqueues: the tile that the serving placer picks makes room for the child.
 
-ghost use Rattle.std.specs.Prelude.{◌≡◌, ◌<◌, ℕ, Some, map};
+ghost use Rattle.std.specs.Prelude.{◌≡◌, ◌<◌, Some, map};
 ghost use Rattle.place_policy.specs.Serving.{serving_tile};
 ghost use Rattle.task_request.specs.declared.request.Request.TheVariants.{Enqueue};
-ghost use Rattle.spec_state.specs.declared.task.Task.{Task};
 ghost use Rattle.spec_state.specs.View.{loads};
 ghost use Rattle.spec_state.specs.Effects.{nothing};
 ghost use Rattle.spec_state.specs.StateValue.{Covers};
 ghost use Rattle.spec_state.specs.Room.{Enqueuer};
-ghost use Rattle.spec_state.specs.Changes.{TakesLeg};
-ghost use Rattle.spec_access.specs.Asking.{Asks};
+ghost use Rattle.spec_access.specs.Asking.{Asks, OfTaker};
 ghost use Rattle.spec_law.specs.Sound.{Sound};
 ghost use Rattle.event_def.specs.End.{IsOver};
 ghost use Rattle.event_room.specs.Entering.{MayEnter};
@@ -44,9 +42,8 @@ fn place<N: Naming>(state: &mut State<N>, id: TaskId, leg: &Leg<N>, child: Spawn
     requires may_enter { MayEnter state.old.view tile (Enqueuer id.0) }
     requires covered { Covers state.old (Some id) tile }
     requires fresh { state.old.effect ≡ nothing }
-    ensures { let old = state.old.view in
-        (from core : ℕ) (task : Task) → TakesLeg old from core leg.now id.0 task
-        → PlacesTelling tile id.0 task leg.now child old result state.new.view state.new.effect }
+    ensures { let old = state.old.view in OfTaker old leg.now id.0 (λ from core task.
+        PlacesTelling tile id.0 task leg.now child old result state.new.view state.new.effect) }
 {
     let aborted = make_room(state, tile, Some(id));
     let _ = enqueue_child(state, id, leg, child, tile);

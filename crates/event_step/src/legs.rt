@@ -1,10 +1,11 @@
 //! A leg that a running task takes.
 
-ghost use Rattle.std.specs.Prelude.{◌≡◌, ◌<◌, ◌↔◌, ℕ, IsTrue, IsNone, IfSome, map};
+ghost use Rattle.std.specs.Prelude.{◌≡◌, ◌<◌, ◌↔◌, IsTrue, IsNone, IfSome, map};
 ghost use Rattle.spec_state.specs.declared.task.Status.TheVariants.{Running};
 ghost use Rattle.spec_state.specs.declared.task.Task.{Task};
 ghost use Rattle.spec_state.specs.Changes.{TakesLeg};
 ghost use Rattle.spec_state.specs.Effects.{nothing};
+ghost use Rattle.spec_access.specs.Asking.{HasTakerIn};
 ghost use Rattle.spec_law.specs.Sound.{Sound};
 ghost use Rattle.event_def.specs.Causes.{IsStale};
 ghost use Rattle.event_def.specs.End.{IsOver};
@@ -60,8 +61,7 @@ pub fn make_step<N: Naming, P: Placer>(
     requires goes_on { IsOver state.old.view → ⊥ }
     requires fresh { state.old.effect ≡ nothing }
     requires tile { tile < state.old.view.settings.tiles }
-    requires takes { let old = state.old.view in
-        (core : ℕ) × (task : Task) × TakesLeg old tile core leg.now id.0 task }
+    requires takes { HasTakerIn state.old.view tile leg.now id.0 }
     ensures { let old = state.old.view in
         let before = map P.policy placers.old in
         TaskComes N tile leg.now id.0 old before result state.new.view (map P.policy placers.new)

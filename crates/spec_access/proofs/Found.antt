@@ -11,11 +11,9 @@ use Rattle.task_request.specs.declared.request.Request.TheVariants.{Continue, Lo
 use Rattle.task_request.specs.declared.request.Request.TheVariants.{Trap}
 use Rattle.spec_state.specs.declared.task.Task.{Task}
 use Rattle.spec_state.specs.declared.task.TaskId.{TaskId}
-use Rattle.memory_law.specs.Notes.{notes_of}
 use Rattle.spec_state.specs.View.{View}
-use Rattle.spec_state.specs.Filters.{HasNotes}
 use Rattle.spec_state.specs.Changes.{TakesLeg, request_of, LoadsFrom, StoresTo, MakesSub, Emits}
-use Rattle.spec_access.specs.Asking.{Asks, AsksForNothing}
+use Rattle.spec_access.specs.Asking.{Asks, AsksForNothing, HasOwnNotes, HasTaker, OfTaker, OfTakerAsking}
 use Rattle.spec_access.specs.Telling.{EnqueuesTold}
 use Rattle.spec_access.proofs.Asking.{asked_is}
 
@@ -31,6 +29,13 @@ module _ (view : View) (leg : LegValue) (id : ℕ) (found : Request) (asks : Ask
   found_is tile core task request takes is =
       one_request view leg id found request asks
       (record { tile = tile; core = core; task = task; takes = takes; asks = is })
+
+  -- so what is promised for the request that was found is promised for whatever the task asks for
+  pub found_so : (so : ℕ → ℕ → Task → Request → Type 0) (request : Request) → found ≡ request
+      → OfTaker view leg id (λ tile core task. so tile core task request) → (other : Request)
+      → OfTakerAsking view leg id other (λ tile core task. so tile core task other)
+  found_so so request is does other = λ tile core task takes asked.
+      subst (so tile core task) (sym is ∙ found_is tile core task other takes asked) (does tile core task takes)
 
 -- what a request comes to, where it is one of this kind
 abbrev LoadsSo : ℕ → Task → LegValue → View → View → Request → Type 0
@@ -53,66 +58,55 @@ abbrev EmitsSo : ℕ → Task → LegValue → View → View → Request → Typ
 EmitsSo id task leg old new (Emit byte) = Emits id task leg byte old new
 EmitsSo id task leg old new other = Unit {0}
 
-module _ (id : ℕ) (task : Task) (leg : LegValue) (old new : View) where
-  pub same_load : (width other : LoadWidth) (rd to offset at : ℕ) → Load width rd offset ≡ Load other to at
-      → LoadsFrom id task leg width rd offset old new → LoadsFrom id task leg other to at old new
-  same_load width other rd to offset at same does = subst (LoadsSo id task leg old new) same does
+module _ (view new : View) (leg : LegValue) (id : ℕ) (found : Request) (asks : Asks view leg id found) where
+  pub makes_found : (kind : Kind) → found ≡ MakeSub kind
+      → OfTaker view leg id (λ tile core t. MakesSub id t leg kind view new)
+      → (other : Kind) → OfTakerAsking view leg id (MakeSub other) (λ tile core t. MakesSub id t leg other view new)
+  makes_found kind is does other =
+      found_so view leg id found asks (λ tile core t request. MakesSubSo id t leg view new request) (MakeSub kind) is
+      does (MakeSub other)
 
-  pub same_store : (offset at bytes count value other : ℕ) → Store offset bytes value ≡ Store at count other
-      → StoresTo id task leg offset bytes value old new → StoresTo id task leg at count other old new
-  same_store offset at bytes count value other same does = subst (StoresSo id task leg old new) same does
+  pub emits_found : (byte : ℕ) → found ≡ Emit byte → OfTaker view leg id (λ tile core t. Emits id t leg byte view new)
+      → (other : ℕ) → OfTakerAsking view leg id (Emit other) (λ tile core t. Emits id t leg other view new)
+  emits_found byte is does other =
+      found_so view leg id found asks (λ tile core t request. EmitsSo id t leg view new request) (Emit byte) is does
+      (Emit other)
 
-  pub same_child : (tile : ℕ) (child other : Spawn) (arrived : Option TaskId) → Enqueue child ≡ Enqueue other
-      → EnqueuesTold id task leg child tile old new arrived → EnqueuesTold id task leg other tile old new arrived
-  same_child tile child other arrived same does = subst (EnqueuesSo id task leg tile old new arrived) same does
-
-  pub same_sub : (kind other : Kind) → MakeSub kind ≡ MakeSub other
-      → MakesSub id task leg kind old new → MakesSub id task leg other old new
-  same_sub kind other same does = subst (MakesSubSo id task leg old new) same does
-
-  pub same_byte : (byte other : ℕ) → Emit byte ≡ Emit other
-      → Emits id task leg byte old new → Emits id task leg other old new
-  same_byte byte other same does = subst (EmitsSo id task leg old new) same does
-
--- so what is promised for the request that was found is promised for what any clause says of it
+-- and likewise for a call that may run out of memory, where it does not
 module _ {T E : Type 0} (view new : View) (leg : LegValue) (id : ℕ) (found : Request)
     (asks : Asks view leg id found) where
   pub loads_found : (result : Result T E) (width : LoadWidth) (rd offset : ℕ) → found ≡ Load width rd offset
-      → OnOk result ((tile core : ℕ) (t : Task) → TakesLeg view tile core leg id t
-      → HasNotes t.lines (notes_of view.settings.line t.log) → LoadsFrom id t leg width rd offset view new)
-      → OnOk result ((tile core : ℕ) (t : Task) (w : LoadWidth) (r o : ℕ) → TakesLeg view tile core leg id t
-      → request_of view t leg ≡ Load w r o
-      → HasNotes t.lines (notes_of view.settings.line t.log) → LoadsFrom id t leg w r o view new)
-  loads_found (Ok value) width rd offset is does = λ tile core t w r o takes asked noted.
-      same_load id t leg view new width w rd r offset o
-      (sym is ∙ found_is view leg id found asks tile core t (Load w r o) takes asked) (does tile core t takes noted)
+      → OnOk result (OfTaker view leg id (λ tile core t.
+      HasOwnNotes view t → LoadsFrom id t leg width rd offset view new))
+      → OnOk result ((w : LoadWidth) (r o : ℕ) → OfTakerAsking view leg id (Load w r o) (λ tile core t.
+      HasOwnNotes view t → LoadsFrom id t leg w r o view new))
+  loads_found (Ok value) width rd offset is does = λ w r o.
+      found_so view leg id found asks (λ tile core t request. HasOwnNotes view t → LoadsSo id t leg view new request)
+      (Load width rd offset) is does (Load w r o)
   loads_found (Err error) width rd offset is does = does
 
   pub stores_found : (result : Result T E) (offset bytes value : ℕ) → found ≡ Store offset bytes value
-      → OnOk result ((tile core : ℕ) (t : Task) → TakesLeg view tile core leg id t
-      → HasNotes t.lines (notes_of view.settings.line t.log) → StoresTo id t leg offset bytes value view new)
-      → OnOk result ((tile core : ℕ) (t : Task) (o b v : ℕ) → TakesLeg view tile core leg id t
-      → request_of view t leg ≡ Store o b v
-      → HasNotes t.lines (notes_of view.settings.line t.log) → StoresTo id t leg o b v view new)
-  stores_found (Ok done) offset bytes value is does = λ tile core t o b v takes asked noted.
-      same_store id t leg view new offset o bytes b value v
-      (sym is ∙ found_is view leg id found asks tile core t (Store o b v) takes asked) (does tile core t takes noted)
+      → OnOk result (OfTaker view leg id (λ tile core t.
+      HasOwnNotes view t → StoresTo id t leg offset bytes value view new))
+      → OnOk result ((o b v : ℕ) → OfTakerAsking view leg id (Store o b v) (λ tile core t.
+      HasOwnNotes view t → StoresTo id t leg o b v view new))
+  stores_found (Ok done) offset bytes value is does = λ o b v.
+      found_so view leg id found asks (λ tile core t request. HasOwnNotes view t → StoresSo id t leg view new request)
+      (Store offset bytes value) is does (Store o b v)
   stores_found (Err error) offset bytes value is does = does
 
   pub enqueues_found : (result : Result T E) (tile : ℕ) (child : Spawn) (arrived : Option TaskId)
       → found ≡ Enqueue child
-      → OnOk result ((from core : ℕ) (t : Task) → TakesLeg view from core leg id t
-      → EnqueuesTold id t leg child tile view new arrived)
-      → OnOk result ((from core : ℕ) (t : Task) (other : Spawn) → TakesLeg view from core leg id t
-      → request_of view t leg ≡ Enqueue other → EnqueuesTold id t leg other tile view new arrived)
-  enqueues_found (Ok value) tile child arrived is does = λ from core t other takes asked.
-      same_child id t leg view new tile child other arrived
-      (sym is ∙ found_is view leg id found asks from core t (Enqueue other) takes asked) (does from core t takes)
+      → OnOk result (OfTaker view leg id (λ from core t. EnqueuesTold id t leg child tile view new arrived))
+      → OnOk result ((other : Spawn) → OfTakerAsking view leg id (Enqueue other) (λ from core t.
+      EnqueuesTold id t leg other tile view new arrived))
+  enqueues_found (Ok value) tile child arrived is does = λ other.
+      found_so view leg id found asks (λ from core t request. EnqueuesSo id t leg tile view new arrived request)
+      (Enqueue child) is does (Enqueue other)
   enqueues_found (Err error) tile child arrived is does = does
 
 -- a task that asks for nothing takes its leg
-pub takes_some : (view : View) (leg : LegValue) (id : ℕ) → AsksForNothing view leg id
-    → (tile core : ℕ) × (task : Task) × TakesLeg view tile core leg id task
+pub takes_some : (view : View) (leg : LegValue) (id : ℕ) → AsksForNothing view leg id → HasTaker view leg id
 takes_some view leg id (inl asks) = (asks.tile, asks.core, asks.task, asks.takes)
 takes_some view leg id (inr traps) = (traps.1.tile, traps.1.core, traps.1.task, traps.1.takes)
 

@@ -1,15 +1,42 @@
--- A task that takes a leg, and what it asks for.
+-- The task that takes a leg, and what it asks for.
 use Rattle.std.specs.Prelude.{◌≡◌, ◌⊎◌, ◌<◌, ℕ, length}
 use Rattle.guest_image.specs.declared.image.Kind.{Kind}
+use Rattle.memory_law.specs.Notes.{notes_of}
 use Rattle.rv_core.specs.LegValue.{LegValue}
 use Rattle.rv_table.specs.declared.instr.LoadWidth.{LoadWidth}
 use Rattle.task_desc.specs.declared.desc.Spawn.{Spawn}
 use Rattle.task_request.specs.declared.request.Request.{Request}
 use Rattle.task_request.specs.declared.request.Request.TheVariants.{Continue, Load, Store, Enqueue, MakeSub, Emit, Trap}
 use Rattle.spec_state.specs.declared.task.Task.{Task}
+use Rattle.spec_state.specs.Filters.{HasNotes}
 use Rattle.spec_state.specs.View.{View, finished_at}
 use Rattle.spec_state.specs.Queries.{IsOnCore}
 use Rattle.spec_state.specs.Changes.{TakesLeg, request_of}
+
+-- the task of this id takes the leg, on a core of this tile
+abbrev pub HasTakerIn : View → ℕ → LegValue → ℕ → Type 0
+HasTakerIn view tile leg id = (core : ℕ) × (task : Task) × TakesLeg view tile core leg id task
+
+-- on a core of some tile
+abbrev pub HasTaker : View → LegValue → ℕ → Type 0
+HasTaker view leg id = (tile core : ℕ) × (task : Task) × TakesLeg view tile core leg id task
+
+-- so it is of the task of this id, on whichever core of this tile it takes the leg
+abbrev pub OfTakerIn : View → ℕ → LegValue → ℕ → (ℕ → Task → Type 0) → Type 0
+OfTakerIn view tile leg id says = (core : ℕ) (task : Task) → TakesLeg view tile core leg id task → says core task
+
+-- on whichever core of whichever tile
+abbrev pub OfTaker : View → LegValue → ℕ → (ℕ → ℕ → Task → Type 0) → Type 0
+OfTaker view leg id says = (tile : ℕ) → OfTakerIn view tile leg id (says tile)
+
+-- and where it asks for this at the leg's end
+abbrev pub OfTakerAsking : View → LegValue → ℕ → Request → (ℕ → ℕ → Task → Type 0) → Type 0
+OfTakerAsking view leg id request says =
+    OfTaker view leg id (λ tile core task. request_of view task leg ≡ request → says tile core task)
+
+-- the task's filter has the notes of its log
+abbrev pub HasOwnNotes : View → Task → Type 0
+HasOwnNotes view task = HasNotes task.lines (notes_of view.settings.line task.log)
 
 -- the task of this id runs on a core, the leg begins at its kept core, and at the leg's end it asks for this
 pub record Asks (view : View) (leg : LegValue) (id : ℕ) (request : Request) : Type 0 where

@@ -1,15 +1,12 @@
 //! Loads and stores. Each takes its memory first, so that nothing has changed where memory runs
 //! out.
 
-ghost use Rattle.std.specs.Prelude.{◌≡◌, ℕ, IsOk, IsSome, OnOk, OnErr};
-ghost use Rattle.memory_law.specs.Notes.{notes_of};
+ghost use Rattle.std.specs.Prelude.{◌≡◌, IsOk, IsSome, OnOk, OnErr};
 ghost use Rattle.task_request.specs.declared.request.Request.TheVariants.{Load, Store};
-ghost use Rattle.spec_state.specs.declared.task.Task.{Task};
 ghost use Rattle.spec_state.specs.View.{task_at};
 ghost use Rattle.spec_state.specs.StateValue.{CoversLog};
-ghost use Rattle.spec_state.specs.Filters.{HasNotes};
-ghost use Rattle.spec_state.specs.Changes.{TakesLeg, LoadsFrom, StoresTo};
-ghost use Rattle.spec_access.specs.Asking.{Asks};
+ghost use Rattle.spec_state.specs.Changes.{LoadsFrom, StoresTo};
+ghost use Rattle.spec_access.specs.Asking.{Asks, HasOwnNotes, OfTaker};
 
 use crate::calling::put_behind;
 use rv_core::{Leg, Naming, width_of_load};
@@ -46,10 +43,9 @@ pub fn load_reserved<N: Naming>(
 )
     requires asks { Asks state.old.view leg.now id.0 (Load width rd offset) }
     requires covers { CoversLog state.old id.0 }
-    ensures loads { (tile core : ℕ) (task : Task)
-        → TakesLeg state.old.view tile core leg.now id.0 task
-        → HasNotes task.lines (notes_of state.old.view.settings.line task.log)
-        → LoadsFrom id.0 task leg.now width rd offset state.old.view state.new.view }
+    ensures loads { OfTaker state.old.view leg.now id.0 (λ tile core task.
+        HasOwnNotes state.old.view task
+        → LoadsFrom id.0 task leg.now width rd offset state.old.view state.new.view) }
     ensures effect { state.new.effect ≡ state.old.effect }
     ensures spare { state.new.spare ≡ record state.old.spare { log = state.new.spare.log } }
 {
@@ -79,10 +75,9 @@ pub(crate) fn load_at<N: Naming>(
     offset: u32,
 ) -> Result<(), AllocError>
     requires asks { Asks state.old.view leg.now id.0 (Load width rd offset) }
-    ensures loads { OnOk result ((tile core : ℕ) (task : Task)
-        → TakesLeg state.old.view tile core leg.now id.0 task
-        → HasNotes task.lines (notes_of state.old.view.settings.line task.log)
-        → LoadsFrom id.0 task leg.now width rd offset state.old.view state.new.view) }
+    ensures loads { OnOk result (OfTaker state.old.view leg.now id.0 (λ tile core task.
+        HasOwnNotes state.old.view task
+        → LoadsFrom id.0 task leg.now width rd offset state.old.view state.new.view)) }
     ensures err { OnErr result (state.new ≡ state.old) }
     ensures covered { CoversLog state.old id.0 → IsOk result }
     ensures effect { state.new.effect ≡ state.old.effect }
@@ -107,10 +102,9 @@ pub fn store_reserved<N: Naming>(
 )
     requires asks { Asks state.old.view leg.now id.0 (Store offset width value) }
     requires covers { CoversLog state.old id.0 }
-    ensures stores { (tile core : ℕ) (task : Task)
-        → TakesLeg state.old.view tile core leg.now id.0 task
-        → HasNotes task.lines (notes_of state.old.view.settings.line task.log)
-        → StoresTo id.0 task leg.now offset width value state.old.view state.new.view }
+    ensures stores { OfTaker state.old.view leg.now id.0 (λ tile core task.
+        HasOwnNotes state.old.view task
+        → StoresTo id.0 task leg.now offset width value state.old.view state.new.view) }
     ensures effect { state.new.effect ≡ state.old.effect }
     ensures spare { state.new.spare ≡ record state.old.spare { log = state.new.spare.log } }
 {
@@ -142,10 +136,9 @@ pub(crate) fn store_at<N: Naming>(
     value: u32,
 ) -> Result<(), AllocError>
     requires asks { Asks state.old.view leg.now id.0 (Store offset width value) }
-    ensures stores { OnOk result ((tile core : ℕ) (task : Task)
-        → TakesLeg state.old.view tile core leg.now id.0 task
-        → HasNotes task.lines (notes_of state.old.view.settings.line task.log)
-        → StoresTo id.0 task leg.now offset width value state.old.view state.new.view) }
+    ensures stores { OnOk result (OfTaker state.old.view leg.now id.0 (λ tile core task.
+        HasOwnNotes state.old.view task
+        → StoresTo id.0 task leg.now offset width value state.old.view state.new.view)) }
     ensures err { OnErr result (state.new ≡ state.old) }
     ensures covered { CoversLog state.old id.0 → IsOk result }
     ensures effect { state.new.effect ≡ state.old.effect }

@@ -5,9 +5,8 @@ ghost use Rattle.rv_core.specs.Legs.{after_other_of};
 ghost use Rattle.task_request.specs.declared.request.Request.TheVariants.{Continue, MakeSub};
 ghost use Rattle.task_request.specs.declared.request.Request.TheVariants.{Emit, Trap};
 ghost use Rattle.spec_state.specs.declared.task.Status.TheVariants.{Running};
-ghost use Rattle.spec_state.specs.declared.task.Task.{Task};
-ghost use Rattle.spec_state.specs.Changes.{TakesLeg, KeepsQuantum, KeepsTrap, MakesSub, Emits};
-ghost use Rattle.spec_access.specs.Asking.{Asks};
+ghost use Rattle.spec_state.specs.Changes.{KeepsQuantum, KeepsTrap, MakesSub, Emits};
+ghost use Rattle.spec_access.specs.Asking.{Asks, OfTaker};
 
 use guest_image::Kind;
 use rv_core::{Leg, Naming, NotedCore};
@@ -40,9 +39,8 @@ pub(crate) fn put_behind<N: Naming>(core: &mut NotedCore, budget: u32, leg: &Leg
 #[inline]
 pub fn end_quantum<N: Naming>(state: &mut State<N>, id: TaskId, leg: &Leg<N>)
     requires asks { Asks state.old.view leg.now id.0 Continue }
-    ensures goes_on { (tile core : ℕ) (task : Task)
-        → TakesLeg state.old.view tile core leg.now id.0 task
-        → KeepsQuantum id.0 task leg.now state.old.view state.new.view }
+    ensures goes_on { OfTaker state.old.view leg.now id.0 (λ tile core task.
+        KeepsQuantum id.0 task leg.now state.old.view state.new.view) }
     ensures effect { state.new.effect ≡ state.old.effect }
     ensures spare { state.new.spare ≡ state.old.spare }
 {
@@ -52,9 +50,8 @@ pub fn end_quantum<N: Naming>(state: &mut State<N>, id: TaskId, leg: &Leg<N>)
 /// A task that came to a trap keeps the cause, 1 to 17, and its core as it was at the end of the leg.
 pub fn call_trap<N: Naming>(state: &mut State<N>, id: TaskId, leg: &Leg<N>, cause: u8)
     requires asks { Asks state.old.view leg.now id.0 (Trap cause) }
-    ensures traps { (tile core : ℕ) (task : Task)
-        → TakesLeg state.old.view tile core leg.now id.0 task
-        → KeepsTrap id.0 task leg.now core cause state.old.view state.new.view }
+    ensures traps { OfTaker state.old.view leg.now id.0 (λ tile core task.
+        KeepsTrap id.0 task leg.now core cause state.old.view state.new.view) }
     ensures effect { state.new.effect ≡ state.old.effect }
     ensures spare { state.new.spare ≡ state.old.spare }
 {
@@ -67,9 +64,8 @@ pub fn call_trap<N: Naming>(state: &mut State<N>, id: TaskId, leg: &Leg<N>, caus
 /// A task makes its subdomain, of this kind.
 pub fn open_sub<N: Naming>(state: &mut State<N>, id: TaskId, leg: &Leg<N>, kind: Kind)
     requires asks { Asks state.old.view leg.now id.0 (MakeSub kind) }
-    ensures makes { (tile core : ℕ) (task : Task)
-        → TakesLeg state.old.view tile core leg.now id.0 task
-        → MakesSub id.0 task leg.now kind state.old.view state.new.view }
+    ensures makes { OfTaker state.old.view leg.now id.0 (λ tile core task.
+        MakesSub id.0 task leg.now kind state.old.view state.new.view) }
     ensures effect { state.new.effect ≡ state.old.effect }
     ensures spare { state.new.spare ≡ state.old.spare }
 {
@@ -82,9 +78,8 @@ pub fn open_sub<N: Naming>(state: &mut State<N>, id: TaskId, leg: &Leg<N>, kind:
 /// A task emits a byte.
 pub fn put_byte<N: Naming>(state: &mut State<N>, id: TaskId, leg: &Leg<N>, byte: u8)
     requires asks { Asks state.old.view leg.now id.0 (Emit byte) }
-    ensures emits { (tile core : ℕ) (task : Task)
-        → TakesLeg state.old.view tile core leg.now id.0 task
-        → Emits id.0 task leg.now byte state.old.view state.new.view }
+    ensures emits { OfTaker state.old.view leg.now id.0 (λ tile core task.
+        Emits id.0 task leg.now byte state.old.view state.new.view) }
     ensures effect { state.new.effect ≡ state.old.effect }
     ensures spare { state.new.spare ≡ state.old.spare }
 {

@@ -2,19 +2,17 @@
 
 ghost use Rattle.std.specs.Prelude.{◌≡◌, ◌<◌, ℕ, IsOk, OnOk, OnErr};
 ghost use Rattle.guest_image.specs.declared.image.Kind.{Kind};
-ghost use Rattle.memory_law.specs.Notes.{notes_of};
 ghost use Rattle.rv_table.specs.declared.instr.LoadWidth.{LoadWidth};
 ghost use Rattle.task_desc.specs.declared.desc.Spawn.{Spawn};
 ghost use Rattle.task_request.specs.declared.request.Request.TheVariants.{Continue, Load, Store};
 ghost use Rattle.task_request.specs.declared.request.Request.TheVariants.{Enqueue, MakeSub, Emit, Trap};
-ghost use Rattle.spec_state.specs.declared.task.Task.{Task};
 ghost use Rattle.spec_state.specs.StateValue.{CoversLog, CoversChild};
-ghost use Rattle.spec_state.specs.Filters.{HasNotes};
 ghost use Rattle.spec_state.specs.Room.{QueueHasRoom};
-ghost use Rattle.spec_state.specs.Changes.{TakesLeg, request_of, LoadsFrom, StoresTo};
+ghost use Rattle.spec_state.specs.Changes.{LoadsFrom, StoresTo};
 ghost use Rattle.spec_state.specs.Changes.{MakesSub, Emits, KeepsQuantum, KeepsTrap};
 ghost use Rattle.spec_access.specs.Asking.{AsksToLoad, AsksToStore, AsksForChild};
 ghost use Rattle.spec_access.specs.Asking.{AsksForSubdomain, AsksToEmit, AsksForNothing};
+ghost use Rattle.spec_access.specs.Asking.{HasOwnNotes, OfTakerAsking};
 ghost use Rattle.spec_access.specs.Telling.{EnqueuesTold};
 
 use crate::accessing::{load_at, store_at};
@@ -29,11 +27,9 @@ use std::alloc::AllocError;
 /// its log and its lines. `AllocError` where memory runs out; nothing has changed then.
 pub fn read<N: Naming>(state: &mut State<N>, task: TaskId, leg: &Leg<N>) -> Result<(), AllocError>
     requires asks { AsksToLoad state.old.view leg.now task.0 }
-    ensures loads { OnOk result ((tile core : ℕ) (t : Task) (width : LoadWidth) (rd offset : ℕ)
-        → TakesLeg state.old.view tile core leg.now task.0 t
-        → request_of state.old.view t leg.now ≡ Load width rd offset
-        → HasNotes t.lines (notes_of state.old.view.settings.line t.log)
-        → LoadsFrom task.0 t leg.now width rd offset state.old.view state.new.view) }
+    ensures loads { OnOk result ((width : LoadWidth) (rd offset : ℕ)
+        → OfTakerAsking state.old.view leg.now task.0 (Load width rd offset) (λ tile core t.
+        HasOwnNotes state.old.view t → LoadsFrom task.0 t leg.now width rd offset state.old.view state.new.view)) }
     ensures err { OnErr result (state.new ≡ state.old) }
     ensures covered { CoversLog state.old task.0 → IsOk result }
     ensures effect { state.new.effect ≡ state.old.effect }
@@ -47,11 +43,9 @@ pub fn read<N: Naming>(state: &mut State<N>, task: TaskId, leg: &Leg<N>) -> Resu
 /// its lines. `AllocError` where memory runs out; nothing has changed then.
 pub fn write<N: Naming>(state: &mut State<N>, task: TaskId, leg: &Leg<N>) -> Result<(), AllocError>
     requires asks { AsksToStore state.old.view leg.now task.0 }
-    ensures stores { OnOk result ((tile core : ℕ) (t : Task) (offset width value : ℕ)
-        → TakesLeg state.old.view tile core leg.now task.0 t
-        → request_of state.old.view t leg.now ≡ Store offset width value
-        → HasNotes t.lines (notes_of state.old.view.settings.line t.log)
-        → StoresTo task.0 t leg.now offset width value state.old.view state.new.view) }
+    ensures stores { OnOk result ((offset width value : ℕ)
+        → OfTakerAsking state.old.view leg.now task.0 (Store offset width value) (λ tile core t.
+        HasOwnNotes state.old.view t → StoresTo task.0 t leg.now offset width value state.old.view state.new.view)) }
     ensures err { OnErr result (state.new ≡ state.old) }
     ensures covered { CoversLog state.old task.0 → IsOk result }
     ensures effect { state.new.effect ≡ state.old.effect }
@@ -72,10 +66,9 @@ pub fn spawn<N: Naming>(
     requires asks { AsksForChild state.old.view leg.now task.0 }
     requires tile { tile < state.old.view.settings.tiles }
     requires free { QueueHasRoom state.old.view tile }
-    ensures enqueues { OnOk result ((from core : ℕ) (t : Task) (child : Spawn)
-        → TakesLeg state.old.view from core leg.now task.0 t
-        → request_of state.old.view t leg.now ≡ Enqueue child
-        → EnqueuesTold task.0 t leg.now child tile state.old.view state.new.view state.new.effect.arrived) }
+    ensures enqueues { OnOk result ((child : Spawn)
+        → OfTakerAsking state.old.view leg.now task.0 (Enqueue child) (λ from core t.
+        EnqueuesTold task.0 t leg.now child tile state.old.view state.new.view state.new.effect.arrived)) }
     ensures err { OnErr result (state.new ≡ state.old) }
     ensures covered { CoversChild state.old task.0 → IsOk result }
     ensures effect { state.new.effect ≡ record state.old.effect { arrived = state.new.effect.arrived } }
@@ -88,10 +81,8 @@ pub fn spawn<N: Naming>(
 /// Makes the subdomain that a task asks for at its leg's end.
 pub fn make_sub<N: Naming>(state: &mut State<N>, task: TaskId, leg: &Leg<N>)
     requires asks { AsksForSubdomain state.old.view leg.now task.0 }
-    ensures makes { (tile core : ℕ) (t : Task) (kind : Kind)
-        → TakesLeg state.old.view tile core leg.now task.0 t
-        → request_of state.old.view t leg.now ≡ MakeSub kind
-        → MakesSub task.0 t leg.now kind state.old.view state.new.view }
+    ensures makes { (kind : Kind) → OfTakerAsking state.old.view leg.now task.0 (MakeSub kind) (λ tile core t.
+        MakesSub task.0 t leg.now kind state.old.view state.new.view) }
     ensures effect { state.new.effect ≡ state.old.effect }
     ensures spare { state.new.spare ≡ state.old.spare }
 {
@@ -102,10 +93,8 @@ pub fn make_sub<N: Naming>(state: &mut State<N>, task: TaskId, leg: &Leg<N>)
 /// Emits the byte that a task asks to emit at its leg's end.
 pub fn emit<N: Naming>(state: &mut State<N>, task: TaskId, leg: &Leg<N>)
     requires asks { AsksToEmit state.old.view leg.now task.0 }
-    ensures emits { (tile core : ℕ) (t : Task) (byte : ℕ)
-        → TakesLeg state.old.view tile core leg.now task.0 t
-        → request_of state.old.view t leg.now ≡ Emit byte
-        → Emits task.0 t leg.now byte state.old.view state.new.view }
+    ensures emits { (byte : ℕ) → OfTakerAsking state.old.view leg.now task.0 (Emit byte) (λ tile core t.
+        Emits task.0 t leg.now byte state.old.view state.new.view) }
     ensures effect { state.new.effect ≡ state.old.effect }
     ensures spare { state.new.spare ≡ state.old.spare }
 {
@@ -117,14 +106,10 @@ pub fn emit<N: Naming>(state: &mut State<N>, task: TaskId, leg: &Leg<N>)
 /// as it was at the end of the leg.
 pub fn keep<N: Naming>(state: &mut State<N>, task: TaskId, leg: &Leg<N>)
     requires asks { AsksForNothing state.old.view leg.now task.0 }
-    ensures goes_on { (tile core : ℕ) (t : Task)
-        → TakesLeg state.old.view tile core leg.now task.0 t
-        → request_of state.old.view t leg.now ≡ Continue
-        → KeepsQuantum task.0 t leg.now state.old.view state.new.view }
-    ensures traps { (tile core cause : ℕ) (t : Task)
-        → TakesLeg state.old.view tile core leg.now task.0 t
-        → request_of state.old.view t leg.now ≡ Trap cause
-        → KeepsTrap task.0 t leg.now core cause state.old.view state.new.view }
+    ensures goes_on { OfTakerAsking state.old.view leg.now task.0 Continue (λ tile core t.
+        KeepsQuantum task.0 t leg.now state.old.view state.new.view) }
+    ensures traps { (cause : ℕ) → OfTakerAsking state.old.view leg.now task.0 (Trap cause) (λ tile core t.
+        KeepsTrap task.0 t leg.now core cause state.old.view state.new.view) }
     ensures effect { state.new.effect ≡ state.old.effect }
     ensures spare { state.new.spare ≡ state.old.spare }
 {

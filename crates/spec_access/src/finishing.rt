@@ -3,11 +3,10 @@
 ghost use Rattle.std.specs.Prelude.{◌≡◌, ◌<◌, ◌∷◌, ◌++◌, [], ℕ, All, Contains, None, length, map};
 ghost use Rattle.std.specs.Prelude.{vec_len, slice_index_or, slice_set};
 ghost use Rattle.task_request.specs.declared.request.Request.TheVariants.{End};
-ghost use Rattle.spec_state.specs.declared.task.Task.{Task};
 ghost use Rattle.spec_state.specs.Fits.{ids_in};
 ghost use Rattle.spec_state.specs.View.{core_ids};
-ghost use Rattle.spec_state.specs.Changes.{TakesLeg, Finishes};
-ghost use Rattle.spec_access.specs.Asking.{Asks, CommitQueueHasRoom};
+ghost use Rattle.spec_state.specs.Changes.{Finishes};
+ghost use Rattle.spec_access.specs.Asking.{Asks, CommitQueueHasRoom, OfTaker};
 
 use crate::calling::{held_core, put_behind};
 use rv_core::{Leg, Naming};
@@ -59,9 +58,8 @@ fn free_core(cores: &mut Vec<Vec<Option<TaskId>>>, tile: usize, core: usize)
 pub fn finish<N: Naming>(state: &mut State<N>, id: TaskId, leg: &Leg<N>)
     requires asks { Asks state.old.view leg.now id.0 End }
     requires free { CommitQueueHasRoom state.old.view id.0 }
-    ensures finishes { (tile core : ℕ) (task : Task)
-        → TakesLeg state.old.view tile core leg.now id.0 task
-        → Finishes tile core id.0 task leg.now state.old.view state.new.view }
+    ensures finishes { OfTaker state.old.view leg.now id.0 (λ tile core task.
+        Finishes tile core id.0 task leg.now state.old.view state.new.view) }
     ensures effect { state.new.effect ≡ state.old.effect }
     ensures spare { state.new.spare ≡ state.old.spare }
 {

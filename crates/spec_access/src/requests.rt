@@ -7,9 +7,7 @@ ghost use Rattle.rv_table.specs.declared.instr.LoadWidth.{LoadWidth};
 ghost use Rattle.task_desc.specs.declared.desc.Spawn.{Spawn};
 ghost use Rattle.task_request.specs.declared.request.Request.TheVariants.{Continue, Load, Store};
 ghost use Rattle.task_request.specs.declared.request.Request.TheVariants.{Enqueue, MakeSub, Emit, Trap};
-ghost use Rattle.spec_state.specs.declared.task.Task.{Task};
-ghost use Rattle.spec_state.specs.Changes.{TakesLeg};
-ghost use Rattle.spec_access.specs.Asking.{Asks};
+ghost use Rattle.spec_access.specs.Asking.{Asks, HasTaker};
 
 use guest_image::Kind;
 use rv_core::{Leg, Naming};
@@ -20,8 +18,7 @@ use task_request::{Request, request_of, request_of_stop};
 
 /// What a task asks for at the end of the leg that it takes.
 pub fn request_of_task<N: Naming>(state: &State<N>, id: TaskId, leg: &Leg<N>) -> Request
-    requires takes { let view = state.now.view in
-        (tile core : ℕ) × (task : Task) × TakesLeg view tile core leg.now id.0 task }
+    requires takes { HasTaker state.now.view leg.now id.0 }
     ensures { Asks state.now.view leg.now id.0 result }
 {
     match request_of_stop(&leg.stop()) {

@@ -1,13 +1,13 @@
 //! An enqueue. It takes its memory first, so that nothing has changed where memory runs out.
 
-ghost use Rattle.std.specs.Prelude.{◌≡◌, ◌<◌, ◌∷◌, ◌++◌, [], ℕ, length, IsOk, IsSome, OnOk, OnErr};
+ghost use Rattle.std.specs.Prelude.{◌≡◌, ◌<◌, ◌∷◌, ◌++◌, [], IsOk, IsSome, OnOk, OnErr};
 ghost use Rattle.task_request.specs.declared.request.Request.TheVariants.{Enqueue};
 ghost use Rattle.spec_state.specs.declared.task.Task.{Task};
 ghost use Rattle.spec_state.specs.View.{task_at};
 ghost use Rattle.spec_state.specs.StateValue.{CoversChild};
 ghost use Rattle.spec_state.specs.Room.{QueueHasRoom};
-ghost use Rattle.spec_state.specs.Changes.{TakesLeg, Keeps, task_past_leg};
-ghost use Rattle.spec_access.specs.Asking.{Asks};
+ghost use Rattle.spec_state.specs.Changes.{Keeps, task_past_leg};
+ghost use Rattle.spec_access.specs.Asking.{Asks, OfTaker};
 ghost use Rattle.spec_access.specs.Telling.{EnqueuesTold};
 
 use crate::calling::put_behind;
@@ -60,9 +60,8 @@ fn spawn_reserved<N: Naming>(
     requires tile { tile < state.old.view.settings.tiles }
     requires free { QueueHasRoom state.old.view tile }
     requires covers { CoversChild state.old id.0 }
-    ensures enqueues { (from core : ℕ) (task : Task)
-        → TakesLeg state.old.view from core leg.now id.0 task
-        → EnqueuesTold id.0 task leg.now spawn tile state.old.view state.new.view state.new.effect.arrived }
+    ensures enqueues { OfTaker state.old.view leg.now id.0 (λ from core task.
+        EnqueuesTold id.0 task leg.now spawn tile state.old.view state.new.view state.new.effect.arrived) }
     ensures effect { state.new.effect ≡ record state.old.effect { arrived = state.new.effect.arrived } }
     ensures spare { state.new.spare ≡ record state.old.spare { spawns = state.new.spare.spawns } }
 {
@@ -83,9 +82,8 @@ pub fn enqueue_child<N: Naming>(
     requires asks { Asks state.old.view leg.now id.0 (Enqueue spawn) }
     requires tile { tile < state.old.view.settings.tiles }
     requires free { QueueHasRoom state.old.view tile }
-    ensures enqueues { OnOk result ((from core : ℕ) (task : Task)
-        → TakesLeg state.old.view from core leg.now id.0 task
-        → EnqueuesTold id.0 task leg.now spawn tile state.old.view state.new.view state.new.effect.arrived) }
+    ensures enqueues { OnOk result (OfTaker state.old.view leg.now id.0 (λ from core task.
+        EnqueuesTold id.0 task leg.now spawn tile state.old.view state.new.view state.new.effect.arrived)) }
     ensures err { OnErr result (state.new ≡ state.old) }
     ensures covered { CoversChild state.old id.0 → IsOk result }
     ensures effect { state.new.effect ≡ record state.old.effect { arrived = state.new.effect.arrived } }

@@ -1,6 +1,6 @@
-use Rattle.std.proofs.Common.{sym, subst, ◌∙◌}
+use Rattle.std.proofs.Common.{subst}
 use Rattle.spec_access.specs.Asking.{Asks}
-use Rattle.spec_access.proofs.Found.{one_request, found_is, same_byte}
+use Rattle.spec_access.proofs.Found.{one_request, emits_found}
 use Rattle.spec_access.proofs.calls.emit.Goals as goal
 
 pub request_of_task-requires : goal.request_of_task-requires
@@ -20,9 +20,6 @@ put_byte-requires g c = record {
 }
 
 pub returns-clause-emits : goal.returns-clause-emits
-returns-clause-emits g c tile core t byte takes is =
-    let leg = c.args.leg.now in
-    let view = c.args.state.now.view in
-    let found = found_is view leg c.args.task.0 _ c.request_of_task.ensures tile core t _ takes is in
-    same_byte c.args.task.0 t leg view _ _ _ (sym c.byte_of-byte.ensures ∙ found)
-    (c.put_byte.ensures.emits tile core t takes)
+returns-clause-emits g c =
+    emits_found c.args.state.now.view _ c.args.leg.now c.args.task.0 _ c.request_of_task.ensures _
+    c.byte_of-byte.ensures c.put_byte.ensures.emits

@@ -1,6 +1,6 @@
-use Rattle.std.proofs.Common.{sym, subst, ◌∙◌}
+use Rattle.std.proofs.Common.{subst}
 use Rattle.spec_access.specs.Asking.{Asks}
-use Rattle.spec_access.proofs.Found.{one_request, found_is, same_sub}
+use Rattle.spec_access.proofs.Found.{one_request, makes_found}
 use Rattle.spec_access.proofs.calls.make_sub.Goals as goal
 
 pub request_of_task-requires : goal.request_of_task-requires
@@ -20,9 +20,6 @@ open_sub-requires g c = record {
 }
 
 pub returns-clause-makes : goal.returns-clause-makes
-returns-clause-makes g c tile core t kind takes is =
-    let leg = c.args.leg.now in
-    let view = c.args.state.now.view in
-    let found = found_is view leg c.args.task.0 _ c.request_of_task.ensures tile core t _ takes is in
-    same_sub c.args.task.0 t leg view _ _ _ (sym c.kind_of-kind.ensures ∙ found)
-    (c.open_sub.ensures.makes tile core t takes)
+returns-clause-makes g c =
+    makes_found c.args.state.now.view _ c.args.leg.now c.args.task.0 _ c.request_of_task.ensures _
+    c.kind_of-kind.ensures c.open_sub.ensures.makes
