@@ -1,5 +1,5 @@
 -- What comes of an abort.
-use Rattle.std.proofs.Common.{ℕ, ◌≡◌, None, refl, sym, ap, subst}
+use Rattle.std.proofs.Common.{ℕ, ◌≡◌, None, Some, refl, sym, ap, subst, ◌∙◌}
 use Rattle.guest_image.specs.ImageValue.{ImageValue}
 use Rattle.trace_tap.specs.declared.record.Deed.TheVariants as deed
 use Rattle.trace_tap.specs.declared.record.Record.{Record}
@@ -7,19 +7,37 @@ use Rattle.spec_state.specs.declared.task.Task.{Task}
 use Rattle.spec_state.specs.View.{View}
 use Rattle.spec_state.specs.Aborts.{Aborts, OnlyNode}
 use Rattle.spec_state.specs.Effects.{EffectValue, nothing}
-use Rattle.spec_state.specs.Least.{IsTheLeast}
+use Rattle.spec_state.specs.Least.{IsLeastTask, IsTheLeast}
 use Rattle.spec_state.specs.Queries.{IsLatestDispatched}
 use Rattle.spec_state.specs.Told.{TellsBack}
 use Rattle.spec_law.specs.Sound.{Sound}
-use Rattle.event_def.specs.declared.event.Came.TheVariants.{Made}
+use Rattle.event_def.specs.declared.event.Came.TheVariants.{Made, Refused}
 use Rattle.event_def.specs.declared.event.Event.TheVariants as event
+use Rattle.event_def.specs.declared.event.Reply.TheVariants as reply
+use Rattle.event_def.specs.Causes.{LatestIsLeast}
 use Rattle.event_def.specs.End.{IsOver}
 use Rattle.event_def.specs.Trace.{record_of}
 use Rattle.event_def.specs.Book.{book_of}
+use Rattle.event_lemma.proofs.Causes.{firm_is_refused}
 use Rattle.event_lemma.proofs.Proved.{abort_is_granted, latest_is_not_least}
 use Rattle.event_move.specs.Moving.{ComesSo}
 
 module _ (N : Type 0) (view : View) (going : IsOver view → ⊥) (tile : ℕ) where
+  -- the latest one is the least task, and stays
+  pub least_stays : (id : ℕ) (task : Task) (effect : EffectValue) → effect ≡ nothing
+      → IsLatestDispatched view tile id task → IsTheLeast view id
+      → ComesSo N view (event.Abort tile) (Refused reply.Firm) view effect
+  least_stays id task effect fresh latest least placers taps steps =
+      let both : Some least.0 ≡ Some task = sym least.1.queued_at.there ∙ latest.of_kind.there in
+      let same : least.0 ≡ task = cc in
+      let firm : LatestIsLeast view tile = record {
+        id = id;
+        task = task;
+        latest = latest;
+        least = subst (IsLeastTask view id) same least.1;
+      } in
+      ((firm_is_refused N (book_of view placers taps steps) going tile firm, (refl, refl)), fresh)
+
   -- the latest one is taken back, and its cascade is told
   pub aborted_latest : (image : ImageValue) (id aborted : ℕ) (task : Task) (new : View) (effect : EffectValue)
       (seen : Record) → Sound image view

@@ -1,6 +1,6 @@
 -- What comes of a dispatch.
 use Rattle.std.proofs.Common.{ℕ, ◌≡◌, Bool, true, false, None, refl, sym, subst}
-use Rattle.std.specs.Prelude.{◌↔◌, IsTrue, not}
+use Rattle.std.specs.Prelude.{◌↔◌, IsFalse, IsTrue, not}
 use Rattle.trace_tap.specs.declared.record.Deed.TheVariants as deed
 use Rattle.trace_tap.specs.declared.record.Record.{Record}
 use Rattle.spec_state.specs.declared.task.Task.{Task}
@@ -28,6 +28,12 @@ busy_by view tile id task true idle held is =
     (λ no. absurd (cc (no)), λ busy. absurd (least_is_not_busy view tile id task idle (is.0 refl) busy))
 busy_by view tile id task false idle held is =
     (λ b. record { held = held; id = id; task = task; idle = idle; not_least = λ least. absurd (cc (is.1 least)) }, λ busy. refl)
+
+-- where such a tile isn't busy, that task is the least one
+pub least_unless_busy : (view : View) (id : ℕ) (least : Bool) → IsTrue least ↔ IsTheLeast view id → IsFalse (not least)
+    → IsTheLeast view id
+least_unless_busy view id true is free = is.0 refl
+least_unless_busy view id false is free = absurd (cc (free))
 
 module _ (N : Type 0) (view : View) (going : IsOver view → ⊥) (tile : ℕ) where
   -- its least idle task is dispatched, and it is told who was taken back for its core

@@ -13,7 +13,7 @@ ghost use Rattle.event_move.specs.Moving.{ComesSo};
 
 use crate::recording::record_of;
 use event_def::{Came, Reply};
-use event_room::{end_of, is_least};
+use event_room::{is_at, least_going};
 use rv_core::Naming;
 use spec_rollback::abort as take_back;
 use spec_state::{State, TaskId};
@@ -39,13 +39,13 @@ pub fn abort<N: Naming>(state: &mut State<N>, tile: u32) -> Came
     requires fresh { state.old.effect ≡ nothing }
     ensures { ComesSo N state.old.view (event.Abort tile) result state.new.view state.new.effect }
 {
-    if end_of(state).is_some() {
+    let Some(least) = least_going(state) else {
         return Came::Refused(Reply::Ended);
-    }
+    };
     match state.latest(tile) {
         None => Came::Refused(Reply::Empty),
         Some(id) => {
-            if is_least(state, id) {
+            if is_at(least, id) {
                 Came::Refused(Reply::Firm)
             } else {
                 Came::Made(make_abort(state, tile, id))

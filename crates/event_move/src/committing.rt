@@ -1,19 +1,17 @@
 //! The commit of the least task.
 
-ghost use Rattle.std.specs.Prelude.{◌≡◌, ◌≢◌, ℕ, IsNone, IfSome};
+ghost use Rattle.std.specs.Prelude.{◌≡◌, IsNone, IfSome};
 ghost use Rattle.spec_law.specs.Sound.{Sound};
-ghost use Rattle.spec_state.specs.declared.task.Status.TheVariants as status;
-ghost use Rattle.spec_state.specs.declared.task.Task.{Task};
 ghost use Rattle.spec_state.specs.declared.task.Where.TheVariants.{Finished};
 ghost use Rattle.spec_state.specs.Effects.{nothing};
-ghost use Rattle.spec_state.specs.Least.{IsLeast, IsLeastTask};
+ghost use Rattle.spec_state.specs.Least.{IsLeast};
 ghost use Rattle.event_lemma.specs.Whereabouts.{IsUnfinished};
 ghost use Rattle.event_def.specs.End.{IsOver};
 ghost use Rattle.event_move.specs.Moving.{CommitComes};
 
 use crate::recording::record_of;
 use event_def::{Came, Reply};
-use event_room::end_of;
+use event_room::least_going;
 use rv_core::Naming;
 use spec_commit::commit_task;
 use spec_state::{State, TaskId, Where};
@@ -27,18 +25,6 @@ fn finished_in(least: Where) -> Option<TaskId>
     match least {
         Where::Finished(id) => Some(id),
         Where::Idle(_) | Where::Running(_) | Where::Trapped(_) | Where::Spilled(_) => None,
-    }
-}
-
-/// The least task, where it is finished.
-fn finished_least<N: Naming>(state: &State<N>) -> Option<TaskId>
-    ensures some { IfSome result (λ id. IsLeast state.now.view (Finished id)) }
-    ensures none { IsNone result → (id : ℕ) (task : Task) → IsLeastTask state.now.view id task
-        → task.status ≢ status.Finished }
-{
-    match state.least() {
-        None => None,
-        Some(least) => finished_in(least),
     }
 }
 
@@ -63,10 +49,10 @@ pub fn commit<N: Naming>(state: &mut State<N>) -> Came
     requires fresh { state.old.effect ≡ nothing }
     ensures { CommitComes N state.old.view result state.new.view state.new.effect }
 {
-    if end_of(state).is_some() {
+    let Some(least) = least_going(state) else {
         return Came::Refused(Reply::Ended);
-    }
-    match finished_least(state) {
+    };
+    match finished_in(least) {
         Some(id) => make_commit(state, id),
         None => Came::Refused(Reply::Empty),
     }

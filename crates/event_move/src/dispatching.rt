@@ -4,7 +4,7 @@ ghost use Rattle.std.specs.Prelude.{◌≡◌, ◌<◌, ◌↔◌, IsTrue, IsFal
 ghost use Rattle.spec_law.specs.Sound.{Sound};
 ghost use Rattle.spec_state.specs.declared.task.Task.{Task};
 ghost use Rattle.spec_state.specs.Effects.{nothing};
-ghost use Rattle.spec_state.specs.Least.{IsTheLeast};
+ghost use Rattle.spec_state.specs.Least.{IsLeast, IsTheLeast};
 ghost use Rattle.spec_state.specs.Queries.{IsLeastIdle};
 ghost use Rattle.event_def.specs.declared.event.Came.TheVariants.{Made};
 ghost use Rattle.event_def.specs.declared.event.Event.TheVariants as event;
@@ -16,23 +16,24 @@ ghost use Rattle.event_move.specs.Moving.{ComesSo};
 
 use crate::recording::record_of;
 use event_def::{Came, Reply};
-use event_room::{end_of, is_least};
+use event_room::{is_at, least_going};
 use rv_core::Naming;
 use spec_dispatch::{dispatch_task, free_core};
 use spec_rollback::abort;
-use spec_state::{State, TaskId};
+use spec_state::{State, TaskId, Where};
 use trace_tap::{Deed, Record};
 
 /// Whether a tile has no free core for its least idle task, which is not the least task.
-fn is_busy<N: Naming>(state: &State<N>, tile: u32, id: TaskId) -> bool
+fn is_busy<N: Naming>(state: &State<N>, tile: u32, id: TaskId, least: Where) -> bool
     requires tile { tile < state.now.view.settings.tiles }
+    requires least { IsLeast state.now.view least }
     requires idle { (task : Task) × IsLeastIdle state.now.view tile id.0 task }
     ensures busy { IsTrue result ↔ IsBusy state.now.view tile }
     ensures may { IsFalse result → AllCoresHeld state.now.view tile → IsTheLeast state.now.view id.0 }
 {
     match free_core(state, tile) {
         Some(_) => false,
-        None => !is_least(state, id),
+        None => !is_at(least, id),
     }
 }
 
@@ -92,13 +93,13 @@ pub fn dispatch<N: Naming>(state: &mut State<N>, tile: u32) -> Came
     requires fresh { state.old.effect ≡ nothing }
     ensures { ComesSo N state.old.view (event.Dispatch tile) result state.new.view state.new.effect }
 {
-    if end_of(state).is_some() {
+    let Some(least) = least_going(state) else {
         return Came::Refused(Reply::Ended);
-    }
+    };
     match state.idle(tile) {
         None => Came::Refused(Reply::Empty),
         Some(id) => {
-            if is_busy(state, tile, id) {
+            if is_busy(state, tile, id, least) {
                 Came::Refused(Reply::Busy)
             } else {
                 Came::Made(make_dispatch(state, tile, id))

@@ -1,6 +1,6 @@
 //! Coalescing, by which tasks go into a tile's block, and splits, by which they come back.
 
-ghost use Rattle.std.specs.Prelude.{◌≡◌, ◌≢◌, ◌<◌, ◌⊎◌, ◌↔◌, [], ℕ, IsTrue};
+ghost use Rattle.std.specs.Prelude.{◌≡◌, ◌≢◌, ◌<◌, ◌⊎◌, [], ℕ};
 ghost use Rattle.spec_law.specs.Sound.{Sound};
 ghost use Rattle.spec_state.specs.declared.reserving.TheConstants.{MAX_MOVED};
 ghost use Rattle.spec_state.specs.Effects.{nothing};
@@ -15,7 +15,7 @@ ghost use Rattle.event_move.specs.Moving.{ComesSo};
 
 use crate::recording::record_of;
 use event_def::{Came, Reply};
-use event_room::{end_of, is_least_spilled, make_room};
+use event_room::{end_of, least_going, make_room, may_return};
 use rv_core::Naming;
 use spec_commit::{coalesce as spill, split as return_least};
 use spec_state::State;
@@ -86,14 +86,6 @@ pub fn make_split<N: Naming>(state: &mut State<N>, tile: u32) -> Came
     }
 }
 
-/// Whether the least task of a tile's block may come back: the task queue has a free place, or it is the least task.
-fn may_return<N: Naming>(state: &State<N>, tile: u32) -> bool
-    requires tile { tile < state.now.view.settings.tiles }
-    ensures { IsTrue result ↔ (QueueHasRoom state.now.view tile ⊎ IsLeastSpilled state.now.view tile) }
-{
-    state.queue_has_room(tile) || is_least_spilled(state, tile)
-}
-
 /// The event `Split`: the least spilled task of a tile comes back to its task queue. Where that is full and the
 /// task is the least one, the queue makes room. Refused with `Ended`, `Empty`, `Stall` or `Memory`.
 pub fn split<N: Naming>(state: &mut State<N>, tile: u32) -> Came
@@ -102,13 +94,13 @@ pub fn split<N: Naming>(state: &mut State<N>, tile: u32) -> Came
     requires fresh { state.old.effect ≡ nothing }
     ensures { ComesSo N state.old.view (event.Split tile) result state.new.view state.new.effect }
 {
-    if end_of(state).is_some() {
+    let Some(least) = least_going(state) else {
         return Came::Refused(Reply::Ended);
-    }
+    };
     if state.block_len(tile) == 0 {
         return Came::Refused(Reply::Empty);
     }
-    if may_return(state, tile) {
+    if may_return(state, tile, least) {
         make_split(state, tile)
     } else {
         Came::Refused(Reply::Stall)

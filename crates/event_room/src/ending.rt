@@ -82,6 +82,19 @@ pub fn end_with<N: Naming>(state: &State<N>, least: Option<Where>) -> Option<End
     }
 }
 
+/// The least task, where the run goes on; None exactly where it is over. It costs what `least` does.
+pub fn least_going<N: Naming>(state: &State<N>) -> Option<Where>
+    requires sound { Sound N.image state.now.view }
+    ensures some { IfSome result (λ least. (IsOver state.now.view → ⊥) × IsLeast state.now.view least) }
+    ensures none { IsNone result → IsOver state.now.view }
+{
+    let least = state.least();
+    match end_with(state, least) {
+        Some(_) => None,
+        None => least,
+    }
+}
+
 /// How the run ended: with no task uncommitted, with as many committed as may, or at a trap of the least task; None
 /// exactly where it goes on. It costs what `least` does.
 pub fn end_of<N: Naming>(state: &State<N>) -> Option<End>

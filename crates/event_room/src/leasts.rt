@@ -17,15 +17,15 @@ fn queued_in(least: Where) -> Option<TaskId>
     }
 }
 
-/// Whether the least task is the one of this id.
-fn is_at(least: Where, id: TaskId) -> bool
+/// Whether the least task is the one of this id, as `least` tells where it stands.
+pub fn is_at(least: Where, id: TaskId) -> bool
     ensures { IsTrue result ↔ (queued_in least ≡ Some id.0) }
 {
     queued_in(least) == Some(id)
 }
 
 /// Whether the least task is spilled in this tile.
-fn is_spilled_at(least: Where, tile: u32) -> bool
+pub(crate) fn is_spilled_at(least: Where, tile: u32) -> bool
     ensures { IsTrue result ↔ (spilled_in least ≡ Some tile) }
 {
     match least {
@@ -35,7 +35,7 @@ fn is_spilled_at(least: Where, tile: u32) -> bool
 }
 
 /// Whether the task of this id is the least uncommitted one. It costs what `least` does.
-pub fn is_least<N: Naming>(state: &State<N>, id: TaskId) -> bool
+pub(crate) fn is_least<N: Naming>(state: &State<N>, id: TaskId) -> bool
     ensures { IsTrue result ↔ IsTheLeast state.now.view id.0 }
 {
     match state.least() {
@@ -45,7 +45,7 @@ pub fn is_least<N: Naming>(state: &State<N>, id: TaskId) -> bool
 }
 
 /// Whether the least uncommitted task is spilled in this tile. It costs what `least` does.
-pub fn is_least_spilled<N: Naming>(state: &State<N>, tile: u32) -> bool
+pub(crate) fn is_least_spilled<N: Naming>(state: &State<N>, tile: u32) -> bool
     ensures { IsTrue result ↔ IsLeastSpilled state.now.view tile }
 {
     match state.least() {

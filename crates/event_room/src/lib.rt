@@ -10,6 +10,6 @@ mod ending;
 mod leasts;
 mod rooming;
 
-pub use ending::{end_of, end_with};
-pub use leasts::{is_least, is_least_spilled};
-pub use rooming::{make_room, stalls};
+pub use ending::{end_of, end_with, least_going};
+pub use leasts::is_at;
+pub use rooming::{make_room, may_return, stalls};

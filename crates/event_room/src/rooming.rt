@@ -1,22 +1,23 @@
 //! A free place in a task queue, for a child or for a spilled task that comes back.
 
-ghost use Rattle.std.specs.Prelude.{◌≡◌, ◌<◌, ◌↔◌, ℕ, IsTrue, IsFalse, None, option_map};
+ghost use Rattle.std.specs.Prelude.{◌≡◌, ◌<◌, ◌⊎◌, ◌↔◌, ℕ, IsTrue, IsFalse, None, option_map};
 ghost use Rattle.spec_law.specs.Sound.{Sound};
 ghost use Rattle.spec_commit.specs.Spilling.{KeepsOtherSpare};
 ghost use Rattle.spec_state.specs.declared.reserving.TheConstants.{MAX_MOVED};
 ghost use Rattle.spec_state.specs.StateValue.{CoversPushes};
+ghost use Rattle.spec_state.specs.Least.{IsLeast, IsLeastSpilled};
 ghost use Rattle.spec_state.specs.Room.{IsFull, IsMovable, NoneMoves, IsLeastAsker, Stalls, Coalesces, MakesRoom};
-ghost use Rattle.spec_state.specs.Room.{asker_of};
+ghost use Rattle.spec_state.specs.Room.{QueueHasRoom, asker_of};
 ghost use Rattle.spec_state.specs.Effects.{nothing};
 ghost use Rattle.event_def.specs.Telling.{TellsRoom, TellsSpilled};
 ghost use Rattle.event_lemma.specs.Forcing.{RunsIfTask};
 ghost use Rattle.event_room.specs.Entering.{MayEnter};
 
-use crate::leasts::{is_least, is_least_spilled};
+use crate::leasts::{is_least, is_least_spilled, is_spilled_at};
 use rv_core::Naming;
 use spec_commit::{coalesce, creator_of, victim_of};
 use spec_rollback::abort;
-use spec_state::{State, TaskId};
+use spec_state::{State, TaskId, Where};
 
 /// Whether who asks for room is the least task, or asks for it.
 fn asks_as_least<N: Naming>(state: &State<N>, tile: u32, asker: Option<TaskId>) -> bool
@@ -44,6 +45,16 @@ pub fn stalls<N: Naming>(state: &State<N>, tile: u32, asker: Option<TaskId>) -> 
         return false;
     }
     !asks_as_least(state, tile, asker)
+}
+
+/// Whether the least task of a tile's block may come back: the task queue has a free place, or it is the least task,
+/// as `least` tells where that stands.
+pub fn may_return<N: Naming>(state: &State<N>, tile: u32, least: Where) -> bool
+    requires tile { tile < state.now.view.settings.tiles }
+    requires least { IsLeast state.now.view least }
+    ensures { IsTrue result ↔ (QueueHasRoom state.now.view tile ⊎ IsLeastSpilled state.now.view tile) }
+{
+    state.queue_has_room(tile) || is_spilled_at(least, tile)
 }
 
 /// Moves idle firm tasks of a tile, which has one, into its block, which has the pushes to spare.

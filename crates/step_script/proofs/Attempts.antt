@@ -1,8 +1,7 @@
 -- What acts come to.
 use Rattle.std.proofs.Common.{◌≡◌, ◌⊎◌, ◌≤◌, ◌<◌, ℕ, List, [], length, Some, None}
 use Rattle.std.proofs.Common.{Result, inl, inr, refl, sym, ap, subst, ◌∙◌}
-use Rattle.std.specs.Prelude.{IfOk, IfSome, OnErr, slice_get}
-use Rattle.std.specs.declared.option.Option.{Option}
+use Rattle.std.specs.Prelude.{IfOk, OnErr, slice_get}
 use Rattle.std.proofs.lemmas.Bool.{cases_lt}
 use Rattle.std.proofs.lemmas.List.{get_or_past}
 use Rattle.std.proofs.lemmas.Option.{slice_get_within}
@@ -185,16 +184,6 @@ module _ (image : ImageValue) (seen view : View) (same : seen ≡ view) (sound :
     pub seen_leg : (N : Type 0) → (IsOver view → ⊥) → IsLeast view (where_.Running id) → (leg : LegValue)
         → HasLegAt image view tile core leg → IsNextEvent {N = N} image view (event.Step tile core leg)
     seen_leg = next_is_leg image view here id tile core task stands_here runs read_here
-
--- the run goes on where it isn't over, also as the state is read
-pub least_goes : (seen view : View) → seen ≡ view → (least : Option Where) → (IsOver seen → ⊥)
-    → IfSome least (IsLeast seen) → IfSome least (λ w. (IsOver view → ⊥) × IsLeast view w)
-least_goes seen view same least going is =
-    subst (λ v. IfSome least (λ w. (IsOver v → ⊥) × IsLeast v w)) same (both least is)
-  where
-    both : (l : Option Where) → IfSome l (IsLeast seen) → IfSome l (λ w. (IsOver seen → ⊥) × IsLeast seen w)
-    both None h = tt
-    both (Some w) h = (going, h)
 
 -- the event for the least task, while the run goes on
 module _ (image : ImageValue) (view : View) (sound : Sound image view) (w : Where)

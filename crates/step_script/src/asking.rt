@@ -14,7 +14,7 @@ use crate::holding::{Held, forget, hand_out, hold};
 use crate::running::{leg_at, run_at};
 use conflict_book::{Book, Legless};
 use event_def::Reply;
-use event_room::end_with;
+use event_room::least_going;
 use guest_image::Image;
 use place_policy::Placer;
 use rv_core::{Leg, Naming};
@@ -134,17 +134,12 @@ fn ask_running<N: Naming, P: Placer, T: Tap>(
 }
 
 /// The least task, while a run goes on, for which it looks once; None where the run is over.
-fn least_going<N: Naming, P: Placer, T: Tap>(book: &Book<N, P, T>) -> Option<Where>
+fn least_of<N: Naming, P: Placer, T: Tap>(book: &Book<N, P, T>) -> Option<Where>
     ensures some { let view = machine_view book.now in
         IfSome result (λ least. (IsOver view → ⊥) × IsLeast view least) }
     ensures none { IsNone result → IsOver (machine_view book.now) }
 {
-    let state = book.state();
-    let least = state.least();
-    if end_with(state, least).is_some() {
-        return None;
-    }
-    least
+    least_going(book.state())
 }
 
 /// `advance`: what brings the least task on.
@@ -160,7 +155,7 @@ pub(crate) fn ask_advance<N: Naming, P: Placer, T: Tap>(
     ensures within { AskedIsInRange N (machine_view book.now).settings result }
 {
     book.is_sound();
-    match least_going(book) {
+    match least_of(book) {
         None => Asked::Says(Reply::Ended),
         Some(Where::Idle(id)) => Asked::Legless(Legless::Dispatch {
             tile: book.state().tile_of(id),

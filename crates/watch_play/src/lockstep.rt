@@ -4,6 +4,8 @@ ghost use Rattle.std.specs.Prelude.{◌≡◌, ◌≢◌, ◌↔◌, ◌<◌, �
 ghost use Rattle.std.specs.Prelude.{OnOk, ◌==◌, if◌then◌else◌, length, map, replicate};
 ghost use Rattle.std.specs.List.{flat_map, range_with_len};
 ghost use Rattle.conflict_book.specs.BookViews.{machine_view, view_of};
+ghost use Rattle.spec_state.specs.Least.{IsLeast};
+ghost use Rattle.spec_state.specs.View.{View};
 ghost use Rattle.step_script.specs.Ranges.{ActIsInRange};
 ghost use Rattle.event_def.specs.End.{IsOver};
 ghost use Rattle.watch_play.specs.Courses.{IsAskedInRound, OfRounds, next_draw, next_order, round_acts, shuffled};
@@ -16,7 +18,7 @@ use crate::playing::tell_act;
 use crate::stop::StoryStop;
 use crate::watch::Watch;
 use conflict_book::Book;
-use event_room::{is_least, is_least_spilled};
+use event_room::{is_at, least_going, may_return};
 use guest_image::Image;
 use place_policy::Placer;
 use rv_core::Naming;
@@ -139,47 +141,57 @@ fn next_order(acts: &mut [Act], drawn: u32, seed: u32) -> u32
     }
 }
 
-fn is_dispatch_asked<N: Naming, P: Placer, T: Tap>(book: &Book<N, P, T>, tile: u32) -> bool
-    requires { tile < (machine_view book.now).settings.tiles }
+fn is_dispatch_asked<N: Naming, P: Placer, T: Tap>(
+    book: &Book<N, P, T>,
+    tile: u32,
+    least: Where,
+) -> bool
+    requires tile { tile < (machine_view book.now).settings.tiles }
+    requires least { IsLeast (machine_view book.now) least }
     ensures { IsTrue result ↔ IsAskedInRound (machine_view book.now) (Act.Dispatch tile) }
 {
     match book.state().idle(tile) {
         None => false,
-        Some(id) => book.ready(tile) || is_least(book.state(), id),
+        Some(id) => book.ready(tile) || is_at(least, id),
     }
 }
 
-fn is_commit_asked<N: Naming>(state: &State<N>) -> bool
-    ensures { IsTrue result ↔ IsAskedInRound state.now.view Act.Commit }
+fn is_commit_asked(least: Where) -> bool
+    ensures { (view : View) → IsLeast view least → IsTrue result ↔ IsAskedInRound view Act.Commit }
 {
-    match state.least() {
-        Some(Where::Finished(_)) => true,
-        Some(Where::Idle(_)) => false,
-        Some(Where::Running(_)) => false,
-        Some(Where::Trapped(_)) => false,
-        Some(Where::Spilled(_)) => false,
-        None => false,
+    match least {
+        Where::Finished(_) => true,
+        Where::Idle(_) => false,
+        Where::Running(_) => false,
+        Where::Trapped(_) => false,
+        Where::Spilled(_) => false,
     }
 }
 
-fn is_split_asked<N: Naming>(state: &State<N>, tile: u32) -> bool
-    requires { tile < state.now.view.settings.tiles }
+fn is_split_asked<N: Naming>(state: &State<N>, tile: u32, least: Where) -> bool
+    requires tile { tile < state.now.view.settings.tiles }
+    requires least { IsLeast state.now.view least }
     ensures { IsTrue result ↔ IsAskedInRound state.now.view (Act.Split tile) }
 {
-    state.block_len(tile) > 0 && (state.queue_has_room(tile) || is_least_spilled(state, tile))
+    state.block_len(tile) > 0 && may_return(state, tile, least)
 }
 
-/// Whether an act of a round is asked for, while the run goes on.
-fn is_asked_in_round<N: Naming, P: Placer, T: Tap>(book: &Book<N, P, T>, act: Act) -> bool
-    requires { let settings = (machine_view book.now).settings in
+/// Whether an act of a round is asked for, while the run goes on, where this is the least task.
+fn is_asked_in_round<N: Naming, P: Placer, T: Tap>(
+    book: &Book<N, P, T>,
+    act: Act,
+    least: Where,
+) -> bool
+    requires within { let settings = (machine_view book.now).settings in
         ActIsInRange settings.tiles settings.cores act }
+    requires least { IsLeast (machine_view book.now) least }
     ensures { IsTrue result ↔ IsAskedInRound (machine_view book.now) act }
 {
     match act {
-        Act::Dispatch(tile) => is_dispatch_asked(book, tile),
+        Act::Dispatch(tile) => is_dispatch_asked(book, tile, least),
         Act::Step(tile, core) => book.core_at(tile, core).is_some(),
-        Act::Commit => is_commit_asked(book.state()),
-        Act::Split(tile) => is_split_asked(book.state(), tile),
+        Act::Commit => is_commit_asked(least),
+        Act::Split(tile) => is_split_asked(book.state(), tile, least),
         Act::Take(_, _) => false,
         Act::Give(_, _) => false,
         Act::Abort(_) => false,
@@ -195,7 +207,10 @@ fn is_asked<N: Naming, P: Placer, T: Tap>(book: &Book<N, P, T>, act: Act) -> boo
     ensures { let view = machine_view book.now in
         IsTrue result ↔ ((IsOver view → ⊥) × IsAskedInRound view act) }
 {
-    book.end().is_none() && is_asked_in_round(book, act)
+    match least_going(book.state()) {
+        Some(least) => is_asked_in_round(book, act, least),
+        None => false,
+    }
 }
 
 /// Plays an act of a round, with so many acts before it, where it is asked for.

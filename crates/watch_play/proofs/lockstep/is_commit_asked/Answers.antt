@@ -1,31 +1,22 @@
-use Rattle.std.proofs.Common.{rules}
 use Rattle.spec_state.specs.declared.task.Where.TheVariants as where_
-use Rattle.watch_play.proofs.Chosen.{no_commit_asked, none_left_to_commit}
+use Rattle.watch_play.proofs.Chosen.{commit_asked, no_commit_asked}
 use Rattle.watch_play.proofs.lockstep.is_commit_asked.Goals as goal
 
-pub returns-in-Some-Idle : goal.returns-in-Some-Idle
-returns-in-Some-Idle g c =
-    no_commit_asked c.args.state.now.view c.in-Some-Idle.field-0 (where_.Idle c.in-Some-Idle.field-0-0)
-    c.in-Some-Idle.ensures.some
-    c.in-Some-Idle.field-0-is tt
+pub returns-in-Finished : goal.returns-in-Finished
+returns-in-Finished c view is = commit_asked view c.args.least c.in-Finished.field-0 is c.in-Finished.is
 
-pub returns-in-Some-Running : goal.returns-in-Some-Running
-returns-in-Some-Running g c =
-    no_commit_asked c.args.state.now.view c.in-Some-Running.field-0 (where_.Running c.in-Some-Running.field-0-0)
-    c.in-Some-Running.ensures.some
-    c.in-Some-Running.field-0-is tt
+pub returns-in-Idle : goal.returns-in-Idle
+returns-in-Idle c view is =
+    no_commit_asked view c.args.least (where_.Idle c.in-Idle.field-0) is c.in-Idle.is tt
 
-pub returns-in-Some-Trapped : goal.returns-in-Some-Trapped
-returns-in-Some-Trapped g c =
-    no_commit_asked c.args.state.now.view c.in-Some-Trapped.field-0 (where_.Trapped c.in-Some-Trapped.field-0-0)
-    c.in-Some-Trapped.ensures.some
-    c.in-Some-Trapped.field-0-is tt
+pub returns-in-Running : goal.returns-in-Running
+returns-in-Running c view is =
+    no_commit_asked view c.args.least (where_.Running c.in-Running.field-0) is c.in-Running.is tt
 
-pub returns-in-Some-Spilled : goal.returns-in-Some-Spilled
-returns-in-Some-Spilled g c =
-    no_commit_asked c.args.state.now.view c.in-Some-Spilled.field-0 (where_.Spilled c.in-Some-Spilled.field-0-0)
-    c.in-Some-Spilled.ensures.some
-    c.in-Some-Spilled.field-0-is tt
+pub returns-in-Trapped : goal.returns-in-Trapped
+returns-in-Trapped c view is =
+    no_commit_asked view c.args.least (where_.Trapped c.in-Trapped.field-0) is c.in-Trapped.is tt
 
-pub returns-in-None : goal.returns-in-None
-returns-in-None g c = none_left_to_commit c.args.state.now.view (search rules)
+pub returns-in-Spilled : goal.returns-in-Spilled
+returns-in-Spilled c view is =
+    no_commit_asked view c.args.least (where_.Spilled c.in-Spilled.field-0) is c.in-Spilled.is tt
