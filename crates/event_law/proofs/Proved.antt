@@ -26,3 +26,8 @@ pub use Rattle.event_law.proofs.Serials.Free.{all_committed}
 pub use Rattle.event_law.proofs.Rests.RestOne.{some_rest}
 pub use Rattle.event_law.proofs.Openings.Sizes.{none_held}
 pub use Rattle.event_law.proofs.Stays.{Stays, event_stays}
+pub use Rattle.event_law.proofs.Ends.{end_is_one}
+pub use Rattle.event_law.proofs.Keeps.Events.{happens_keeps}
+pub use Rattle.event_law.proofs.Keeps.Idle.{least_idle}
+pub use Rattle.event_law.proofs.Openings.Queued.{last_was}
+pub use Rattle.event_law.proofs.Replies.{refusals_change_nothing, reply_is_one}

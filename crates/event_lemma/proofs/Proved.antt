@@ -16,3 +16,4 @@ pub use Rattle.event_lemma.proofs.LeastRead.{untrapped_goes_on}
 pub use Rattle.event_lemma.proofs.Rooms.{least_in_block, room_leaves, room_leaves_asker, room_leaves_block, taken_is_live, taker_asks}
 pub use Rattle.event_lemma.proofs.Rooms.{victim_moves}
 pub use Rattle.event_lemma.proofs.Views.{least_is_committed, sound_by_key, sound_named, sound_numbers, trap_ends}
+pub use Rattle.event_lemma.proofs.Causes.{firm_is_refused, split_is_granted}

@@ -31,8 +31,7 @@ use Rattle.program_call.specs.Given.{ReadsAsAsked}
 use Rattle.program_call.specs.Outcomes.{closed_of}
 use Rattle.program_call.specs.Program.{IsDue, TellsOutcome}
 use Rattle.program_call.specs.Runs.{HoldsRunOfInput, HoldsRunOrNothing}
-use Rattle.program_call.proofs.Fronts.{holds_lawful}
-use Rattle.program_call.proofs.Reading.{left_alone, read_as_asked}
+use Rattle.program_call.proofs.Proved.{holds_lawful, left_alone, read_as_asked}
 use Rattle.fractal_sim.specs.declared.finding.Saving.{Saving}
 use Rattle.fractal_sim.specs.declared.finding.Saving.TheVariants as saving
 use Rattle.fractal_sim.specs.Given.{HasImage, IsRead, IsGenerated, front}

@@ -6,7 +6,7 @@ use Rattle.run_journal.specs.declared.end.End.{End}
 use Rattle.program_call.specs.Call.{Input}
 use Rattle.program_call.specs.Complete.{BeginsWithImage, IsKnown}
 use Rattle.program_call.specs.Program.{IsDue}
-use Rattle.program_call.proofs.Reading.{begins}
+use Rattle.program_call.proofs.Proved.{begins}
 use Rattle.fractal_sim.specs.declared.finding.Finding.{Finding}
 use Rattle.fractal_sim.specs.declared.finding.Finding.TheVariants as finding
 use Rattle.fractal_sim.specs.declared.finding.Saving.{Saving}

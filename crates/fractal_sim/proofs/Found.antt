@@ -17,7 +17,7 @@ use Rattle.run_journal.specs.declared.end.End.{End}
 use Rattle.run_journal.specs.declared.end.End.TheVariants as ends
 use Rattle.program_call.specs.Call.{Input}
 use Rattle.program_call.specs.Given.{ReadsImage}
-use Rattle.program_call.proofs.Reading.{read_as_asked}
+use Rattle.program_call.proofs.Proved.{read_as_asked}
 use Rattle.fractal_sim.specs.declared.finding.Finding.{Finding}
 use Rattle.fractal_sim.specs.declared.finding.Finding.TheVariants as finding
 use Rattle.fractal_sim.specs.Given.{front}

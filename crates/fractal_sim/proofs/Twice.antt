@@ -10,11 +10,11 @@ use Rattle.run_journal.specs.declared.end.End.{End}
 use Rattle.spec_state.specs.Settings.{IsValid}
 use Rattle.step_script.specs.declared.act.Act.{Act}
 use Rattle.step_script.specs.declared.saying.Said.{Said}
-use Rattle.step_script.proofs.Ranges.{acts_within}
+use Rattle.step_script.proofs.Proved.{acts_within}
 use Rattle.place_policy.specs.Policy.{Policy}
 use Rattle.trace_tap.specs.TapValue.{TapValue}
 use Rattle.machine_run.specs.Played.{IsPlayedRun, IsTracedRun}
-use Rattle.machine_run.proofs.One.{played_run_is_one, traced_run_is_one}
+use Rattle.machine_run.proofs.Proved.{played_run_is_one, traced_run_is_one}
 use Rattle.command_line.specs.declared.request.Command.{Command}
 use Rattle.command_line.specs.declared.request.Command.TheVariants as commands
 use Rattle.command_line.specs.declared.request.Request.{Request}
@@ -31,7 +31,7 @@ use Rattle.fractal_sim.specs.Given.{front}
 use Rattle.fractal_sim.specs.Program.{program}
 use Rattle.fractal_sim.specs.Checks.{IsNoScriptAt}
 use Rattle.program_call.specs.Outcomes.{IsEmpty, closed_of}
-use Rattle.program_call.proofs.Reading.{asks_all, begins, past_all}
+use Rattle.program_call.proofs.Proved.{asks_all, begins, past_all}
 use Rattle.fractal_sim.specs.Runs.{IsReported, IsScript, PlaysScript}
 use Rattle.fractal_sim.specs.Texts.{image_fault_line, script_fault_line, played_status, played_text}
 use Rattle.fractal_sim.specs.Twice.{EndsWell, ScriptCallsAreOne}

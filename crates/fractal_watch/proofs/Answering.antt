@@ -5,8 +5,7 @@ use Rattle.program_call.specs.declared.outcome.Outcome.{Outcome}
 use Rattle.program_call.specs.Call.{Input, call_on}
 use Rattle.program_call.specs.Outcomes.{TellsMadeLine}
 use Rattle.program_call.specs.Program.{Answers}
-use Rattle.program_call.proofs.Fronts.{made_answers}
-use Rattle.program_call.proofs.Reading.{begins, read_as_asked}
+use Rattle.program_call.proofs.Proved.{made_answers, begins, read_as_asked}
 use Rattle.fractal_watch.specs.Answers as table
 use Rattle.fractal_watch.specs.Complete as due
 use Rattle.fractal_watch.specs.Given.{IsWatchNoScript, front}

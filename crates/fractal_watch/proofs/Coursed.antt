@@ -10,7 +10,7 @@ use Rattle.watch_play.specs.declared.stop.StoryStop.TheVariants as stops
 use Rattle.watch_play.specs.Courses.{course_word, first_stage}
 use Rattle.watch_play.specs.Stories.{begun}
 use Rattle.watch_play.specs.Telling.{HasStory, Plan, Tells, TellsOpening}
-use Rattle.watch_play.proofs.Tellings.{lines_begin}
+use Rattle.watch_play.proofs.Proved.{lines_begin}
 use Rattle.watch_text.specs.declared.head.CourseWord.{CourseWord}
 use Rattle.watch_text.specs.declared.head.CourseWord.TheVariants as courses
 use Rattle.fractal_watch.specs.Watched.{course_of}

@@ -16,7 +16,7 @@ use Rattle.trace_tap.specs.TapValue.{TapValue}
 use Rattle.event_def.specs.Book.{BookView}
 use Rattle.event_def.specs.Opening.{IsOpening}
 use Rattle.machine_run.specs.Leaving.{LeavesRun}
-use Rattle.machine_run.proofs.Leaving.{run_left}
+use Rattle.machine_run.proofs.Proved.{run_left}
 use Rattle.step_script.specs.declared.act.Act.{Act}
 use Rattle.watch_play.specs.declared.stop.StoryStop.{StoryStop}
 use Rattle.watch_play.specs.declared.stop.StoryStop.TheVariants as stops
@@ -28,8 +28,7 @@ use Rattle.program_call.specs.Call.{Input, call_on}
 use Rattle.program_call.specs.Given.{ReadsImage}
 use Rattle.program_call.specs.Program.{Answers, IsComplete, TellsOutcome}
 use Rattle.program_call.specs.Runs.{HoldsRunOrNothing}
-use Rattle.program_call.proofs.Fronts.{holds_lawful, want_answers}
-use Rattle.program_call.proofs.Reading.{begins, read_as_asked}
+use Rattle.program_call.proofs.Proved.{holds_lawful, want_answers, begins, read_as_asked}
 use Rattle.fractal_watch.specs.declared.words.Asking.{Asking}
 use Rattle.fractal_watch.specs.Answers as table
 use Rattle.fractal_watch.specs.Answers.{IsAnswer, IsPlayed, OfEnd, OfStory}

@@ -6,3 +6,4 @@ pub mod Least
 pub mod Scripts
 pub mod TapLists
 pub mod One
+pub mod Proved

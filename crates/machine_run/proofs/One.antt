@@ -14,8 +14,7 @@ use Rattle.spec_state.specs.Settings.{IsValid}
 use Rattle.spec_state.specs.View.{View}
 use Rattle.event_def.specs.Book.{BookView}
 use Rattle.event_def.specs.End.{HasEnd, IsOver}
-use Rattle.event_law.proofs.Ends.{end_is_one}
-use Rattle.event_law.proofs.Proved.{opening_is_sound}
+use Rattle.event_law.proofs.Proved.{end_is_one, opening_is_sound}
 use Rattle.step_script.specs.declared.act.Act.{Act}
 use Rattle.step_script.specs.declared.saying.Said.{Said}
 use Rattle.step_script.specs.Ranges.{ActIsInRange}

@@ -7,7 +7,7 @@ use Rattle.std.proofs.lemmas.Option.{get_or_from_slice_get}
 use Rattle.guest_image.specs.ImageValue.{ImageValue}
 use Rattle.spec_state.specs.declared.task.TaskId.{TaskId}
 use Rattle.spec_law.specs.Sound.{Sound}
-use Rattle.spec_law.proofs.Tasks.Places.{get_contains}
+use Rattle.spec_law.proofs.Proved.{get_contains}
 use Rattle.std.proofs.lemmas.Bool.{cases_eq}
 use Rattle.std.proofs.lemmas.Bool.Decides.{nat_tests}
 use Rattle.spec_state.specs.declared.task.Creator.{Creator}

@@ -9,8 +9,7 @@ use Rattle.event_def.specs.Advancing.{AdvancesBy}
 use Rattle.event_def.specs.Book.{BookView}
 use Rattle.event_def.specs.Events.{IsGiven}
 use Rattle.event_def.specs.Happens.{Happens}
-use Rattle.event_law.proofs.Keeps.Events.{event_stays_sound, happens_keeps}
-use Rattle.event_law.proofs.Given.{next_event_is_given}
+use Rattle.event_law.proofs.Proved.{event_stays_sound, happens_keeps, next_event_is_given}
 use Rattle.outcome_law.specs.Laws.{AreSameBooks, EventsAreOne, LeastRunIsOne, CloseIsOne}
 use Rattle.outcome_law.proofs.Aborts.{undone_alike}
 use Rattle.outcome_law.proofs.Nexts.{next_one}

@@ -23,7 +23,7 @@ use Rattle.spec_state.specs.Changes.{Enqueues, task_past_leg}
 use Rattle.spec_state.specs.Least.{HasName}
 use Rattle.spec_state.specs.Room.{Splits}
 use Rattle.spec_state.proofs.Proved.{one_least}
-use Rattle.spec_law.proofs.Tasks.Places.{get_contains}
+use Rattle.spec_law.proofs.Proved.{get_contains}
 use Rattle.outcome_law.specs.Alike.{Renaming, renamed_creator, IsAlikeTask, IsAlikeAt, AreAlike}
 use Rattle.outcome_law.proofs.Alike.{partner}
 use Rattle.outcome_law.proofs.Aborts.{one_to}

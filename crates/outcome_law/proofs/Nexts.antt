@@ -14,7 +14,7 @@ use Rattle.spec_state.specs.declared.task.Task.{Task}
 use Rattle.spec_state.specs.View.{View, task_at}
 use Rattle.spec_state.specs.Least.{Spot, Queued, Spilled_at, IsLeastTask, IsLeastSpilled}
 use Rattle.spec_state.proofs.Proved.{one_least}
-use Rattle.spec_law.proofs.Tasks.Ranked.{least_is_one}
+use Rattle.spec_law.proofs.Proved.{least_is_one}
 use Rattle.event_def.specs.declared.event.Event.{Event}
 use Rattle.event_def.specs.declared.event.Event.TheVariants as event
 use Rattle.event_def.specs.Advancing.{IsLegFrom, IsLeastLeg, IsLeastEvent}

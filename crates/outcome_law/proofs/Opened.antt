@@ -17,14 +17,11 @@ use Rattle.spec_state.specs.Tasks.{idle_task}
 use Rattle.spec_state.specs.Groups.{room_tasks, live_creator}
 use Rattle.spec_state.specs.Opening.{IsEmptyView}
 use Rattle.spec_state.specs.Room.{QueueHasRoom, IsFull, Coalesces}
-use Rattle.spec_law.proofs.Tasks.Filtered.{queue_filtered, filter_is}
-use Rattle.spec_law.proofs.Proved.{contains_in, in_contains}
+use Rattle.spec_law.proofs.Proved.{queue_filtered, filter_is, contains_in, in_contains}
 use Rattle.event_def.specs.Book.{BookView, picked_tile}
 use Rattle.event_def.specs.Opening.{PlacesImageTask, PlacesAll, opening_book, image_descriptor}
-use Rattle.event_law.proofs.Openings.Queued.{kept_at, last_was}
+use Rattle.event_law.proofs.Proved.{kept_at, last_was, opening_is_sound, there_of, none_held}
 use Rattle.outcome_law.specs.Alike.{Renaming, IsAlikeAt, AreAlike, AreAlikeBooks}
-use Rattle.event_law.proofs.Openings.Opened.{opening_is_sound}
-use Rattle.event_law.proofs.Proved.{there_of, none_held}
 use Rattle.outcome_law.specs.Laws.{AreSameBooks, OpeningIsOne, ScriptIsOne}
 use Rattle.outcome_law.proofs.Closes.{close_is_one}
 use Rattle.outcome_law.proofs.Leasts.{end_is_alike}

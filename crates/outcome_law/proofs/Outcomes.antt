@@ -19,7 +19,7 @@ use Rattle.event_def.specs.Book.{BookView, next_count}
 use Rattle.event_def.specs.Causes.{IsRefused, IsGranted}
 use Rattle.event_def.specs.Happens.{Happens, IsMade, Refuses, IsUnchanged}
 use Rattle.event_def.specs.Trace.{IsRecord, record_of, deed_of, line_of_request}
-use Rattle.event_law.proofs.Replies.{reply_is_one, refusals_change_nothing}
+use Rattle.event_law.proofs.Proved.{reply_is_one, refusals_change_nothing}
 use Rattle.outcome_law.specs.Alike.{Renaming, inverse_of, IsAlikeTask, AreAlike, AreAlikeBooks}
 use Rattle.outcome_law.specs.Laws.{AreSameBooks, IsSameOutcome, OutcomeIsOne}
 use Rattle.outcome_law.proofs.Alike.{alike_turned}

@@ -8,8 +8,7 @@ use Rattle.spec_state.specs.View.{View, task_at}
 use Rattle.spec_state.specs.Tasks.{is_dispatched}
 use Rattle.spec_state.specs.Queries.{IsLatest, IsLowestFree}
 use Rattle.spec_law.specs.Sound.{SoundOrder}
-use Rattle.spec_law.proofs.Dispatches.Below.{no_tie}
-use Rattle.spec_law.proofs.Tasks.Ranked.{not_greater_ties}
+use Rattle.spec_law.proofs.Proved.{no_tie, not_greater_ties}
 
 pub lowest_free_one : (view : View) (tile p q : ℕ) → IsLowestFree view tile p → IsLowestFree view tile q → p ≡ q
 lowest_free_one view tile p q one two =

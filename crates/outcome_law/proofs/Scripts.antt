@@ -18,9 +18,7 @@ use Rattle.event_def.specs.Advancing.{AdvanceAnswers, IsNoCommit, IsNextEvent}
 use Rattle.event_def.specs.End.{IsOver}
 use Rattle.event_def.specs.Events.{IsGiven}
 use Rattle.event_def.specs.Happens.{Happens}
-use Rattle.event_law.proofs.Given.{running_within, next_event_is_given}
-use Rattle.event_law.proofs.Keeps.Events.{happens_keeps}
-use Rattle.event_law.proofs.Proved.{leg_is_run}
+use Rattle.event_law.proofs.Proved.{running_within, next_event_is_given, happens_keeps, leg_is_run}
 use Rattle.step_script.specs.declared.act.Act.{Act}
 use Rattle.step_script.specs.declared.act.Act.TheVariants as acts
 use Rattle.step_script.specs.declared.saying.Said.{Said}
@@ -31,7 +29,7 @@ use Rattle.step_script.specs.Playing.{DoesAll}
 use Rattle.step_script.specs.Playing.{step_runs, step_ended, step_stale, take_holds, take_stale, give_hands, give_ended}
 use Rattle.step_script.specs.Playing.{give_stale}
 use Rattle.step_script.specs.Ranges.{ActIsInRange}
-use Rattle.step_script.proofs.HeldLegs.{AreRuns, held_runs, without_runs, ended_runs}
+use Rattle.step_script.proofs.Proved.{AreRuns, held_runs, without_runs, ended_runs}
 use Rattle.outcome_law.specs.Alike.{Renaming, inverse_of, AreAlike}
 use Rattle.outcome_law.specs.Laws.{AreSameBooks, PlayIsOne}
 use Rattle.outcome_law.proofs.Alike.{alike_turned}

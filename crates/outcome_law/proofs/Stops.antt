@@ -9,7 +9,7 @@ use Rattle.spec_state.specs.declared.settings.Settings.{Settings}
 use Rattle.spec_state.specs.Settings.{IsValid}
 use Rattle.event_def.specs.Book.{BookView}
 use Rattle.event_def.specs.Opening.{IsOpening}
-use Rattle.event_law.proofs.Openings.Opened.{opening_is_sound}
+use Rattle.event_law.proofs.Proved.{opening_is_sound}
 use Rattle.step_script.specs.declared.act.Act.{Act}
 use Rattle.step_script.specs.declared.saying.Said.{Said}
 use Rattle.step_script.specs.Playing.{PlayState, DoesAll, Plays}

@@ -52,3 +52,6 @@ pub use Rattle.spec_law.proofs.Tasks.Ranked.{least_is_one, ranked_turned, same_s
 pub use Rattle.spec_law.proofs.Tasks.Turned.{not_both_ways, one_least_idle}
 pub use Rattle.spec_law.proofs.Tasks.Rebound.{below_all}
 pub use Rattle.spec_law.proofs.Tasks.Stacked.{run_stack}
+pub use Rattle.spec_law.proofs.Dispatches.Below.{no_tie}
+pub use Rattle.spec_law.proofs.Tasks.Filtered.{filter_is, get_mapped, queue_filtered}
+pub use Rattle.spec_law.proofs.Tasks.Ranked.{not_greater_ties}

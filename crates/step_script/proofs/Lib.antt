@@ -6,3 +6,4 @@ pub mod Ranges
 pub mod Steps
 pub mod WrittenBack
 pub mod WrittenOnly
+pub mod Proved

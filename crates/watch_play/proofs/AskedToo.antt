@@ -10,10 +10,8 @@ use Rattle.event_def.specs.End.{IsOver}
 use Rattle.step_script.specs.declared.act.Act.{Act}
 use Rattle.step_script.specs.declared.act.Act.TheVariants as acts
 use Rattle.outcome_law.specs.Alike.{AreAlike, IsAlikeTask, Renaming, inverse_of}
-use Rattle.outcome_law.proofs.Proved.{alike_turned, over_too}
-use Rattle.outcome_law.proofs.Leasts.{block_too, least_too, spilled_too, the_least_too}
-use Rattle.outcome_law.proofs.Queries.{free_core_too, least_idle_too, running_too}
-use Rattle.outcome_law.proofs.Rooms.{has_room_too}
+use Rattle.outcome_law.proofs.Proved.{alike_turned, over_too, block_too, least_too, spilled_too, the_least_too}
+use Rattle.outcome_law.proofs.Proved.{free_core_too, least_idle_too, running_too, has_room_too}
 use Rattle.watch_play.specs.Courses.{Course, IsAskedBy, IsAskedInRound, OfLeast, OfRounds, OfScript}
 
 module _ (r : Renaming) (a b : View) (alike : AreAlike r a b) where

@@ -16,7 +16,7 @@ use Rattle.step_script.specs.declared.saying.Word.TheVariants as words
 use Rattle.step_script.specs.Playing.{Does, DoesAdvance, PlayState}
 use Rattle.step_script.specs.Asking.{Attempt, AsksAdvance, AsksFor, ComesOf, Hands, Says}
 use Rattle.step_script.specs.Asking as asking
-use Rattle.step_script.proofs.Does.{HasCome, does_other, said}
+use Rattle.step_script.proofs.Proved.{HasCome, does_other, said}
 use Rattle.watch_text.specs.Moments.{IsMoment, Moment}
 use Rattle.watch_play.specs.Replies.{MomentDoes, advance_word, word_by}
 

@@ -17,7 +17,7 @@ use Rattle.event_def.specs.Book.{BookView}
 use Rattle.event_def.specs.Causes.{Cause, IsGranted}
 use Rattle.event_def.specs.End.{IsOver}
 use Rattle.event_def.specs.Happens.{Happens}
-use Rattle.event_law.proofs.Keeps.Idle.{least_idle}
+use Rattle.event_law.proofs.Proved.{least_idle}
 use Rattle.step_script.specs.declared.act.Act.{Act}
 use Rattle.step_script.specs.declared.act.Act.TheVariants as acts
 use Rattle.step_script.specs.Asking.{AsksStep, Attempt, AttemptComes, Hands, Says, step_ended, step_runs}

@@ -14,3 +14,4 @@ pub mod Scripts
 pub mod Stages
 pub mod Tellings
 pub mod Twice
+pub mod Proved

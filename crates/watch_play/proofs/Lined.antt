@@ -13,7 +13,7 @@ use Rattle.step_script.specs.declared.act.Act.{Act}
 use Rattle.step_script.specs.declared.asked.Asked.{Asked}
 use Rattle.step_script.specs.Playing.{PlayState}
 use Rattle.step_script.specs.Asking.{Attempt, AttemptComes, AttemptTells, AsksFor, asks_of}
-use Rattle.step_script.proofs.Does.{comes_of}
+use Rattle.step_script.proofs.Proved.{comes_of}
 use Rattle.watch_text.specs.Lines.{line_of, rest_text}
 use Rattle.watch_text.specs.Moments.{IsAbout, IsAskedFor, Moment}
 use Rattle.watch_text.specs.Requests.{front_text}

@@ -10,7 +10,7 @@ use Rattle.event_def.specs.Book.{BookView}
 use Rattle.step_script.specs.declared.act.Act.{Act}
 use Rattle.step_script.specs.Playing.{DoesAll, PlayState}
 use Rattle.step_script.specs.Ranges.{ActIsInRange}
-use Rattle.step_script.proofs.Played.{does_more}
+use Rattle.step_script.proofs.Proved.{does_more}
 use Rattle.watch_text.specs.Moments.{Moment}
 use Rattle.watch_play.specs.Courses.{Course, OfScript, Stage, course_act, first_stage, next_stage}
 use Rattle.watch_play.specs.Replies.{StoryPlays, said_by}

@@ -19,7 +19,7 @@ use Rattle.step_script.specs.declared.act.Act.{Act}
 use Rattle.step_script.specs.declared.act.Act.TheVariants as acts
 use Rattle.step_script.specs.Playing.{HasLegAt, HeldLeg, PlayState, without_held_leg}
 use Rattle.step_script.specs.Ranges.{ActIsInRange}
-use Rattle.step_script.proofs.HeldLegs.{AreRuns, held_runs, without_runs, ended_runs}
+use Rattle.step_script.proofs.Proved.{AreRuns, held_runs, without_runs, ended_runs}
 use Rattle.step_script.specs.Asking.{Attempt, AsksAdvance, AsksFor, AsksGive, AsksStep, AsksTake, Hands, HandsEvent}
 use Rattle.step_script.specs.Asking.{ComesOf, Says}
 use Rattle.step_script.specs.Asking as asking

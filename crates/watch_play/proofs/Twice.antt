@@ -20,12 +20,9 @@ use Rattle.step_script.specs.Asking.{Attempt, Hands}
 use Rattle.step_script.specs.Playing.{Does, PlayState}
 use Rattle.step_script.specs.Ranges.{ActIsInRange}
 use Rattle.outcome_law.specs.Laws.{AreSameBooks}
-use Rattle.outcome_law.proofs.Alike.{alike_turned}
-use Rattle.outcome_law.proofs.Leasts.{history_too}
-use Rattle.outcome_law.proofs.Proved.{opening_is_one}
-use Rattle.outcome_law.proofs.Scripts.{GoAlike, all_one}
+use Rattle.outcome_law.proofs.Proved.{alike_turned, history_too, opening_is_one, GoAlike, all_one}
 use Rattle.outcome_law.specs.Alike.{inverse_of}
-use Rattle.machine_run.proofs.Least.{opening_settings}
+use Rattle.machine_run.proofs.Proved.{opening_settings}
 use Rattle.watch_text.specs.Moments.{IsMoment, Moment}
 use Rattle.watch_play.specs.Courses.{Course, IsAskedBy, Stage, course_act, first_stage, next_stage}
 use Rattle.watch_play.specs.Leaving.{IsWithin}

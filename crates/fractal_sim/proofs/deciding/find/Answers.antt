@@ -3,7 +3,7 @@ use Rattle.command_line.specs.Requests.{request_of_words, IsLimited}
 use Rattle.guest_image.proofs.Proved.{size_within}
 use Rattle.program_call.specs.Call.{input_of}
 use Rattle.program_call.specs.Given.{ReadsImage}
-use Rattle.program_call.proofs.Fronts.{fault_given, image_given}
+use Rattle.program_call.proofs.Proved.{fault_given, image_given}
 use Rattle.fractal_sim.specs.Given.{Reads, front}
 use Rattle.fractal_sim.proofs.Found.{found_given}
 use Rattle.fractal_sim.proofs.deciding.find.Goals as goal

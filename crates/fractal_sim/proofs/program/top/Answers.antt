@@ -1,5 +1,5 @@
 use Rattle.program_call.specs.Call.{call_on, input_of}
-use Rattle.program_call.proofs.Fronts.{fault_answers, fault_is_empty}
+use Rattle.program_call.proofs.Proved.{fault_answers, fault_is_empty}
 use Rattle.fractal_sim.specs.Given.{front}
 use Rattle.fractal_sim.specs.Program.{program}
 use Rattle.fractal_sim.proofs.Answering.{finding_answers}

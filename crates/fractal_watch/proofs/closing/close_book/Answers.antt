@@ -1,6 +1,6 @@
 use Rattle.std.proofs.Common.{None}
 use Rattle.conflict_book.specs.BookViews.{view_of}
-use Rattle.machine_run.proofs.Leaving.{left_is_run_of, left_is_sized}
+use Rattle.machine_run.proofs.Proved.{left_is_run_of, left_is_sized}
 use Rattle.fractal_watch.proofs.closing.close_book.Goals as goal
 
 pub returns-clause-run : goal.returns-clause-run

@@ -2,7 +2,7 @@ use Rattle.std.proofs.Common.{◌≡◌, ◌≤◌, [], drop, length, Some, rule
 use Rattle.guest_image.proofs.Proved.{size_within}
 use Rattle.program_call.specs.Call.{input_of}
 use Rattle.program_call.specs.Given.{ReadsImage}
-use Rattle.program_call.proofs.Fronts.{fault_given, image_given}
+use Rattle.program_call.proofs.Proved.{fault_given, image_given}
 use Rattle.fractal_watch.specs.Given.{IsWithin, front}
 use Rattle.fractal_watch.specs.Words.{asking_of_words}
 use Rattle.fractal_watch.proofs.finding.find.Goals as goal

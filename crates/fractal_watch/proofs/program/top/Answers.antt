@@ -1,7 +1,7 @@
 use Rattle.std.proofs.Common.{[], refl, sym, subst}
 use Rattle.std.specs.declared.marker.Brand.{Brand}
 use Rattle.program_call.specs.Call.{input_of}
-use Rattle.program_call.proofs.Fronts.{fault_answers}
+use Rattle.program_call.proofs.Proved.{fault_answers}
 use Rattle.fractal_watch.specs.Finding.{IsWatchFound}
 use Rattle.fractal_watch.specs.Program.{program}
 use Rattle.fractal_watch.specs.Watched.{HasActs}

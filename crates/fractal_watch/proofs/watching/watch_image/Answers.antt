@@ -1,5 +1,5 @@
 use Rattle.std.proofs.Common.{map}
-use Rattle.machine_run.proofs.Least.{opening_settings}
+use Rattle.machine_run.proofs.Proved.{opening_settings}
 use Rattle.fractal_watch.proofs.Told.{book_tells, opening_without_taps, want_tells}
 use Rattle.fractal_watch.proofs.watching.watch_image.Goals as goal
 
