@@ -16,7 +16,7 @@ use Rattle.event_def.specs.declared.event.Event.TheVariants as event
 use Rattle.event_def.specs.Advancing.{IsLegFrom, IsNextEvent}
 use Rattle.event_def.specs.End.{IsOver}
 use Rattle.event_law.proofs.Proved.{running_within}
-use Rattle.event_lemma.proofs.Proved.{least_idle, next_is_commit, next_is_dispatch, next_is_split, next_is_step}
+use Rattle.event_basis.proofs.Proved.{least_idle, next_is_commit, next_is_dispatch, next_is_split, next_is_step}
 
 -- the tile that is read of the task of this id
 abbrev pub ReadsTile : View → TaskId → ℕ → Type 0

@@ -18,7 +18,7 @@ one_more N old mid new events i event answers applied inside at happened happens
     subst (λ es. HappenAll old es (answers ++ applied ∷ []) new) (sym more)
     (events_join N old mid new (take i events) (event ∷ []) answers (applied ∷ []) happened (new, happens, refl))
 
--- with one answer more
+-- with one reply more
 pub longer : (before after : List Applied) (applied : Applied) (n : ℕ) → after ≡ before ++ applied ∷ []
     → length before ≡ n → length after ≡ n + 1
 longer before after applied n more count =

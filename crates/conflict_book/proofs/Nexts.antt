@@ -49,7 +49,7 @@ use Rattle.event_def.specs.declared.event.Event.TheVariants as event
 use Rattle.event_def.specs.declared.event.Halt.{Halt}
 use Rattle.event_def.specs.declared.event.Halt.TheVariants as halts
 use Rattle.event_def.specs.declared.event.Reply.{Reply}
-use Rattle.event_def.specs.declared.event.Reply.TheVariants as reply
+use Rattle.event_def.specs.declared.event.Reply.TheVariants as replies
 use Rattle.event_def.specs.Advancing.{AdvanceAnswers, AdvancesBy, IsNextEvent}
 use Rattle.event_def.specs.Book.{BookView, CountedView}
 use Rattle.event_def.specs.Comes.{IsAsBefore}
@@ -63,7 +63,7 @@ use Rattle.event_law.proofs.Proved.{
   next_event_is_given,
   rest_is_there,
 }
-use Rattle.event_lemma.proofs.Proved.{comes_stays_sound}
+use Rattle.event_basis.proofs.Proved.{comes_stays_sound}
 use Rattle.conflict_book.specs.Halting.{FallsIfMoved, AdvanceGoesOn, NextComes, RunsLeast, advance_by, advance_of}
 use Rattle.conflict_book.specs.Halting.{last_answer}
 use Rattle.conflict_book.specs.BookViews.{going_book, after_event}
@@ -82,14 +82,14 @@ module _ (N : Type 0) (image : ImageValue) (old new : BookView) (aborted : ℕ) 
   -- an event other than a commit was made
   moved_on : (request : Request) → AdvanceTelling N image old (answers.Moved aborted) new effect
       → AdvanceTelling N image old (advance_by (deed_of request) aborted) new effect
-  moved_on Continue answer = answer
-  moved_on (Load width rd offset) answer = answer
-  moved_on (Store offset bytes value) answer = answer
-  moved_on (Enqueue spawn) answer = answer
-  moved_on (MakeSub kind) answer = answer
-  moved_on (Emit byte) answer = answer
-  moved_on End answer = answer
-  moved_on (Trap cause) answer = answer
+  moved_on Continue reply = reply
+  moved_on (Load width rd offset) reply = reply
+  moved_on (Store offset bytes value) reply = reply
+  moved_on (Enqueue spawn) reply = reply
+  moved_on (MakeSub kind) reply = reply
+  moved_on (Emit byte) reply = reply
+  moved_on End reply = reply
+  moved_on (Trap cause) reply = reply
 
 -- what is answered of an event for the least task that was made, and told
 module _ (N : Type 0) (image : ImageValue) (book : BookView) (goes_on : book.stopped ≡ false) (view : View)
@@ -120,7 +120,7 @@ module _ (N : Type 0) (image : ImageValue) (book : BookView) (goes_on : book.sto
       let commit : Event N = event.Commit in
       let happens = happens_made book goes_on commit view placers seen comes.0 in
       subst Answers (ap (λ (r : Record). r.deed) (sym comes.0.2.3))
-      ((next, subst (λ n. Happens book commit reply.Ok n after) comes.0.1.1 happens), comes.1)
+      ((next, subst (λ n. Happens book commit replies.Ok n after) comes.0.1.1 happens), comes.1)
   made_by (event.Abort tile) next comes = absurd next.least
   made_by (event.Coalesce tile) next comes = absurd next.least
 
@@ -131,11 +131,11 @@ module _ (N : Type 0) (image : ImageValue) (book : BookView) (goes_on : book.sto
 -- and of one that was refused
 module _ (N : Type 0) (image : ImageValue) (book : BookView) (sound : Sound image book.view) (view : View)
     (placers : List Policy) (effect : EffectValue) where
-  refused_by : (e : Event N) → IsNextEvent image book.view e → (answer : Reply)
-      → ComesTelling book e (Refused answer) view placers effect
+  refused_by : (e : Event N) → IsNextEvent image book.view e → (reply : Reply)
+      → ComesTelling book e (Refused reply) view placers effect
       → AdvanceTelling N image book answers.Memory (moved book view placers) effect
-  refused_by e next reply.Ok comes = absurd comes.0
-  refused_by e next reply.Memory comes =
+  refused_by e next replies.Ok comes = absurd comes.0
+  refused_by e next replies.Memory comes =
       let same = comes.0.2 in (
         inr (
           e,
@@ -150,22 +150,22 @@ module _ (N : Type 0) (image : ImageValue) (book : BookView) (sound : Sound imag
         ),
         comes.1,
       )
-  refused_by e next reply.Empty comes =
-      absurd (least_event_is_granted N image book e sound next reply.Empty comes.0.0.cause)
-  refused_by e next reply.Busy comes =
-      absurd (least_event_is_granted N image book e sound next reply.Busy comes.0.0.cause)
-  refused_by e next reply.Stall comes =
-      absurd (least_event_is_granted N image book e sound next reply.Stall comes.0.0.cause)
-  refused_by e next reply.Stale comes =
-      absurd (least_event_is_granted N image book e sound next reply.Stale comes.0.0.cause)
-  refused_by e next reply.Firm comes =
-      absurd (least_event_is_granted N image book e sound next reply.Firm comes.0.0.cause)
-  refused_by e next reply.Ended comes =
-      absurd (least_event_is_granted N image book e sound next reply.Ended comes.0.0.cause)
+  refused_by e next replies.Empty comes =
+      absurd (least_event_is_granted N image book e sound next replies.Empty comes.0.0.cause)
+  refused_by e next replies.Busy comes =
+      absurd (least_event_is_granted N image book e sound next replies.Busy comes.0.0.cause)
+  refused_by e next replies.Stall comes =
+      absurd (least_event_is_granted N image book e sound next replies.Stall comes.0.0.cause)
+  refused_by e next replies.Stale comes =
+      absurd (least_event_is_granted N image book e sound next replies.Stale comes.0.0.cause)
+  refused_by e next replies.Firm comes =
+      absurd (least_event_is_granted N image book e sound next replies.Firm comes.0.0.cause)
+  refused_by e next replies.Ended comes =
+      absurd (least_event_is_granted N image book e sound next replies.Ended comes.0.0.cause)
 
-  pub answers_refused : (answer : Reply) → NextComes N image book (Refused answer) view placers effect
+  pub answers_refused : (reply : Reply) → NextComes N image book (Refused reply) view placers effect
       → AdvanceTelling N image book answers.Memory (moved book view placers) effect
-  answers_refused answer next = refused_by next.0 next.1 answer next.2
+  answers_refused reply next = refused_by next.0 next.1 reply next.2
 
 -- in the words of a book's parts: what was told before is forgotten, it was not stopped, and what it has now is told
 -- part by part
@@ -201,12 +201,12 @@ module _ (N : Type 0) (image : ImageValue) (had sound : CountedView) (forgot : s
       (subst (λ s. AdvanceTelling N image (was s) (advance_of seen) (after_event seen (becomes had.steps s)) told)
       (sym goes_on) made))
 
-  pub parts_refused : Sound image had.view → (answer : Reply) (effect : EffectValue)
-      → NextComes N image (going_book sound placers taps) (Refused answer) view after effect
+  pub parts_refused : Sound image had.view → (reply : Reply) (effect : EffectValue)
+      → NextComes N image (going_book sound placers taps) (Refused reply) view after effect
       → AdvanceTelling N image (was stopped) answers.Memory (becomes steps stopped) effect
-  parts_refused is_sound answer effect next =
-      let refused = answers_refused N image (going_book had placers taps) is_sound view after effect answer
-      (came_had (Refused answer) effect next) in
+  parts_refused is_sound reply effect next =
+      let refused = answers_refused N image (going_book had placers taps) is_sound view after effect reply
+      (came_had (Refused reply) effect next) in
       subst (λ n. AdvanceTelling N image (was stopped) answers.Memory (becomes n stopped) effect) (sym count_had)
       (subst (λ s. AdvanceTelling N image (was s) answers.Memory (becomes had.steps s) effect) (sym goes_on) refused)
 
@@ -216,8 +216,8 @@ module _ (N : Type 0) (image : ImageValue) (had sound : CountedView) (forgot : s
       λ i. record { view = view_had i; placers = as_before.1 i; taps = taps; steps = count_had i; stopped = stopped }
 
 -- less is left after each event but a commit
-pub falls_if_moved : (N : Type 0) (image : ImageValue) (old new : BookView) (answer : Advance) → Sound image old.view
-    → AdvanceAnswers N image old answer new → FallsIfMoved answer old.view new.view
+pub falls_if_moved : (N : Type 0) (image : ImageValue) (old new : BookView) (reply : Advance) → Sound image old.view
+    → AdvanceAnswers N image old reply new → FallsIfMoved reply old.view new.view
 falls_if_moved N image old new (answers.Moved aborted) sound answered =
     λ before after had has. advances_fall N image old new answered.0 aborted before after sound answered.1 answered.2
     answered.3 had has
@@ -226,9 +226,9 @@ falls_if_moved N image old new (answers.Ended end) sound answered = tt
 falls_if_moved N image old new answers.Memory sound answered = tt
 
 -- a run of one event more
-next_one : (N : Type 0) (image : ImageValue) (n : ℕ) (old mid new : BookView) (answer : Advance) → AdvancesBy N image
+next_one : (N : Type 0) (image : ImageValue) (n : ℕ) (old mid new : BookView) (reply : Advance) → AdvancesBy N image
     n old mid
-    → AdvanceAnswers N image mid answer new → AdvanceGoesOn answer → AdvancesBy N image (suc n) old new
+    → AdvanceAnswers N image mid reply new → AdvanceGoesOn reply → AdvancesBy N image (suc n) old new
 next_one N image n old mid new (answers.Moved aborted) advances answered goes =
     (mid, aborted, advances, record { event = answered.0; next = answered.1; happens = answered.3 })
 next_one N image n old mid new answers.Committed advances answered goes =
@@ -236,14 +236,14 @@ next_one N image n old mid new answers.Committed advances answered goes =
 next_one N image n old mid new (answers.Ended end) advances answered goes = absurd goes
 next_one N image n old mid new answers.Memory advances answered goes = absurd goes
 
-pub one_more : (N : Type 0) (image : ImageValue) (n : ℕ) (old mid new : BookView) (answer : Advance) → AdvancesBy N
+pub one_more : (N : Type 0) (image : ImageValue) (n : ℕ) (old mid new : BookView) (reply : Advance) → AdvancesBy N
     image n old mid
-    → AdvanceAnswers N image mid answer new → AdvanceGoesOn answer → AdvancesBy N image (n + 1) old new
-one_more N image n old mid new answer advances answered goes =
-    subst (λ m. AdvancesBy N image m old new) (sym (add-one n)) (next_one N image n old mid new answer advances
+    → AdvanceAnswers N image mid reply new → AdvanceGoesOn reply → AdvancesBy N image (n + 1) old new
+one_more N image n old mid new reply advances answered goes =
+    subst (λ m. AdvancesBy N image m old new) (sym (add-one n)) (next_one N image n old mid new reply advances
     answered goes)
 
--- a run that halts has changed nothing at its last answer
+-- a run that halts has changed nothing at its last reply
 pub halts_where : (N : Type 0) (image : ImageValue) (mid new : BookView) (halt : Halt) → AdvanceAnswers N image mid
     (last_answer halt) new → new ≡ mid
 halts_where N image mid new (halts.Ended end) answered = answered.2

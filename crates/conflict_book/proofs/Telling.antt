@@ -11,13 +11,13 @@ use Rattle.event_def.specs.declared.event.Came.{Came}
 use Rattle.event_def.specs.declared.event.Came.TheVariants.{Made, Refused}
 use Rattle.event_def.specs.declared.event.Event.{Event}
 use Rattle.event_def.specs.declared.event.Reply.{Reply}
-use Rattle.event_def.specs.declared.event.Reply.TheVariants as reply
+use Rattle.event_def.specs.declared.event.Reply.TheVariants as replies
 use Rattle.event_def.specs.Book.{BookView, CountedView}
 use Rattle.event_def.specs.Comes.{Comes, IsAsBefore}
 use Rattle.event_def.specs.Events.{IsGiven}
 use Rattle.event_def.specs.Happens.{Happens, IsUnchanged}
 use Rattle.event_def.specs.Telling.{ComesTelling, HappensTelling, TellsHappening}
-use Rattle.event_lemma.proofs.Proved.{makes_keeps_settings}
+use Rattle.event_basis.proofs.Proved.{makes_keeps_settings}
 use Rattle.conflict_book.specs.BookViews.{going_book, after_event}
 
 -- the book with another view and other placers
@@ -28,7 +28,7 @@ module _ {N : Type 0} (book : BookView) (goes_on : book.stopped ≡ false) (e : 
     (placers : List Policy) where
   -- an event that was made
   unfoldable pub happens_made : (seen : Record) → Comes book e (Made seen) view placers
-      → Happens book e reply.Ok seen.aborted (after_event seen (moved book view placers))
+      → Happens book e replies.Ok seen.aborted (after_event seen (moved book view placers))
   happens_made seen comes = record {
     goes_on = goes_on;
     granted = comes.0;
@@ -45,41 +45,41 @@ module _ {N : Type 0} (book : BookView) (goes_on : book.stopped ≡ false) (e : 
   unchanged same = record { none = refl; same = λ i. record book { view = same.0 i; placers = same.1 i } }
 
   -- an event that was refused
-  pub happens_refused : (answer : Reply) → Comes book e (Refused answer) view placers
-      → Happens book e answer 0 (moved book view placers)
-  happens_refused reply.Ok comes = absurd comes
-  happens_refused reply.Memory comes = (inr (comes.0, comes.1), unchanged comes.2)
-  happens_refused reply.Empty comes = record { goes_on = goes_on; refused = comes.0; unchanged = unchanged comes.1 }
-  happens_refused reply.Busy comes = record { goes_on = goes_on; refused = comes.0; unchanged = unchanged comes.1 }
-  happens_refused reply.Stall comes = record { goes_on = goes_on; refused = comes.0; unchanged = unchanged comes.1 }
-  happens_refused reply.Stale comes = record { goes_on = goes_on; refused = comes.0; unchanged = unchanged comes.1 }
-  happens_refused reply.Firm comes = record { goes_on = goes_on; refused = comes.0; unchanged = unchanged comes.1 }
-  happens_refused reply.Ended comes = record { goes_on = goes_on; refused = comes.0; unchanged = unchanged comes.1 }
+  pub happens_refused : (reply : Reply) → Comes book e (Refused reply) view placers
+      → Happens book e reply 0 (moved book view placers)
+  happens_refused replies.Ok comes = absurd comes
+  happens_refused replies.Memory comes = (inr (comes.0, comes.1), unchanged comes.2)
+  happens_refused replies.Empty comes = record { goes_on = goes_on; refused = comes.0; unchanged = unchanged comes.1 }
+  happens_refused replies.Busy comes = record { goes_on = goes_on; refused = comes.0; unchanged = unchanged comes.1 }
+  happens_refused replies.Stall comes = record { goes_on = goes_on; refused = comes.0; unchanged = unchanged comes.1 }
+  happens_refused replies.Stale comes = record { goes_on = goes_on; refused = comes.0; unchanged = unchanged comes.1 }
+  happens_refused replies.Firm comes = record { goes_on = goes_on; refused = comes.0; unchanged = unchanged comes.1 }
+  happens_refused replies.Ended comes = record { goes_on = goes_on; refused = comes.0; unchanged = unchanged comes.1 }
 
   -- what an event tells that was made
   pub made_telling : (seen : Record) (effect : EffectValue) → ComesTelling book e (Made seen) view placers effect
-      → HappensTelling book e reply.Ok seen.aborted (after_event seen (moved book view placers)) effect
+      → HappensTelling book e replies.Ok seen.aborted (after_event seen (moved book view placers)) effect
   unfolding happens_made
   made_telling seen effect comes = (happens_made seen comes.0, comes.1)
 
   -- one that was refused tells nothing
-  told_refused : (answer : Reply) (effect : EffectValue) (comes : Comes book e (Refused answer) view placers)
+  told_refused : (reply : Reply) (effect : EffectValue) (comes : Comes book e (Refused reply) view placers)
       → effect ≡ nothing
-      → TellsHappening book e answer 0 (moved book view placers) (happens_refused answer comes) effect
-  told_refused reply.Ok effect comes none = absurd comes
-  told_refused reply.Memory effect comes none = none
-  told_refused reply.Empty effect comes none = none
-  told_refused reply.Busy effect comes none = none
-  told_refused reply.Stall effect comes none = none
-  told_refused reply.Stale effect comes none = none
-  told_refused reply.Firm effect comes none = none
-  told_refused reply.Ended effect comes none = none
+      → TellsHappening book e reply 0 (moved book view placers) (happens_refused reply comes) effect
+  told_refused replies.Ok effect comes none = absurd comes
+  told_refused replies.Memory effect comes none = none
+  told_refused replies.Empty effect comes none = none
+  told_refused replies.Busy effect comes none = none
+  told_refused replies.Stall effect comes none = none
+  told_refused replies.Stale effect comes none = none
+  told_refused replies.Firm effect comes none = none
+  told_refused replies.Ended effect comes none = none
 
-  pub refused_telling : (answer : Reply) (effect : EffectValue)
-      → ComesTelling book e (Refused answer) view placers effect
-      → HappensTelling book e answer 0 (moved book view placers) effect
-  refused_telling answer effect comes =
-      (happens_refused answer comes.0, told_refused answer effect comes.0 comes.1)
+  pub refused_telling : (reply : Reply) (effect : EffectValue)
+      → ComesTelling book e (Refused reply) view placers effect
+      → HappensTelling book e reply 0 (moved book view placers) effect
+  refused_telling reply effect comes =
+      (happens_refused reply comes.0, told_refused reply effect comes.0 comes.1)
 
 -- in the words of a book's parts: what was told before is forgotten, it was not stopped, and what it has now is told
 -- part by part
@@ -104,24 +104,24 @@ module _ {N : Type 0} (had sound : CountedView) (forgot : sound ≡ record had {
   pub part_made : (seen : Record) (new : BookView) (told effect : EffectValue)
       → new ≡ after_event seen (behind steps stopped) → effect ≡ told
       → ComesTelling (going_book sound placers taps) e (Made seen) view after told
-      → HappensTelling (before stopped) e reply.Ok seen.aborted new effect
+      → HappensTelling (before stopped) e replies.Ok seen.aborted new effect
   part_made seen new told effect is kept comes =
       let made = made_telling (going_book had placers taps) refl e view after seen told
       (as_had (Made seen) told comes) in
-      subst (HappensTelling (before stopped) e reply.Ok seen.aborted new) (sym kept)
-      (subst (λ b. HappensTelling (before stopped) e reply.Ok seen.aborted b told)
+      subst (HappensTelling (before stopped) e replies.Ok seen.aborted new) (sym kept)
+      (subst (λ b. HappensTelling (before stopped) e replies.Ok seen.aborted b told)
       (sym (is ∙ ap (λ n. after_event seen (behind n stopped)) steps_had))
-      (subst (λ s. HappensTelling (before s) e reply.Ok seen.aborted (after_event seen (behind had.steps s)) told)
+      (subst (λ s. HappensTelling (before s) e replies.Ok seen.aborted (after_event seen (behind had.steps s)) told)
       (sym goes_on) made))
 
-  pub part_refused : (answer : Reply) (effect : EffectValue)
-      → ComesTelling (going_book sound placers taps) e (Refused answer) view after effect
-      → HappensTelling (before stopped) e answer 0 (behind steps stopped) effect
-  part_refused answer effect comes =
-      let refused = refused_telling (going_book had placers taps) refl e view after answer effect
-      (as_had (Refused answer) effect comes) in
-      subst (λ n. HappensTelling (before stopped) e answer 0 (behind n stopped) effect) (sym steps_had)
-      (subst (λ s. HappensTelling (before s) e answer 0 (behind had.steps s) effect) (sym goes_on) refused)
+  pub part_refused : (reply : Reply) (effect : EffectValue)
+      → ComesTelling (going_book sound placers taps) e (Refused reply) view after effect
+      → HappensTelling (before stopped) e reply 0 (behind steps stopped) effect
+  part_refused reply effect comes =
+      let refused = refused_telling (going_book had placers taps) refl e view after reply effect
+      (as_had (Refused reply) effect comes) in
+      subst (λ n. HappensTelling (before stopped) e reply 0 (behind n stopped) effect) (sym steps_had)
+      (subst (λ s. HappensTelling (before s) e reply 0 (behind had.steps s) effect) (sym goes_on) refused)
 
 -- what was forgotten tells nothing
 pub forgot_effect : (had sound : CountedView) → sound ≡ record had { effect = nothing } → sound.effect ≡ nothing
@@ -141,7 +141,7 @@ parts_forgot placers taps stopped had sound forgot = ap (parts_of placers taps s
 -- a stopped book is out of memory, and tells nothing
 pub stopped_telling : {N : Type 0} (had sound : CountedView) → sound ≡ record had { effect = nothing }
     → (placers : List Policy) (taps : List TapValue) (stopped : Bool) → stopped ≡ true → (e : Event N)
-    → HappensTelling (parts_of placers taps stopped had) e reply.Memory 0 (parts_of placers taps stopped sound)
+    → HappensTelling (parts_of placers taps stopped had) e replies.Memory 0 (parts_of placers taps stopped sound)
     sound.effect
 stopped_telling had sound forgot placers taps stopped is_stopped e = (
   (inl is_stopped, record { none = refl; same = parts_forgot placers taps stopped had sound forgot }),
@@ -154,11 +154,11 @@ module _ (N : Type 0) (image : ImageValue) (book : BookView) (e : Event N) (new 
   pub comes_keeps_settings : (came : Came) → Comes book e came new placers → new.settings ≡ book.view.settings
   comes_keeps_settings (Made seen) comes = makes_keeps_settings N image book e seen.aborted new placers given sound
       comes.0 comes.1
-  comes_keeps_settings (Refused reply.Ok) comes = absurd comes
-  comes_keeps_settings (Refused reply.Memory) comes = ap (λ v. v.settings) comes.2.0
-  comes_keeps_settings (Refused reply.Empty) comes = ap (λ v. v.settings) comes.1.0
-  comes_keeps_settings (Refused reply.Busy) comes = ap (λ v. v.settings) comes.1.0
-  comes_keeps_settings (Refused reply.Stall) comes = ap (λ v. v.settings) comes.1.0
-  comes_keeps_settings (Refused reply.Stale) comes = ap (λ v. v.settings) comes.1.0
-  comes_keeps_settings (Refused reply.Firm) comes = ap (λ v. v.settings) comes.1.0
-  comes_keeps_settings (Refused reply.Ended) comes = ap (λ v. v.settings) comes.1.0
+  comes_keeps_settings (Refused replies.Ok) comes = absurd comes
+  comes_keeps_settings (Refused replies.Memory) comes = ap (λ v. v.settings) comes.2.0
+  comes_keeps_settings (Refused replies.Empty) comes = ap (λ v. v.settings) comes.1.0
+  comes_keeps_settings (Refused replies.Busy) comes = ap (λ v. v.settings) comes.1.0
+  comes_keeps_settings (Refused replies.Stall) comes = ap (λ v. v.settings) comes.1.0
+  comes_keeps_settings (Refused replies.Stale) comes = ap (λ v. v.settings) comes.1.0
+  comes_keeps_settings (Refused replies.Firm) comes = ap (λ v. v.settings) comes.1.0
+  comes_keeps_settings (Refused replies.Ended) comes = ap (λ v. v.settings) comes.1.0

@@ -42,7 +42,7 @@ AdvanceGoesOn (answers.Moved aborted) = Unit {0}
 AdvanceGoesOn answers.Committed = Unit {0}
 AdvanceGoesOn other = ⊥
 
--- the answer at which a run halted
+-- the reply at which a run halted
 abbrev pub last_answer : Halt → Advance
 last_answer (halts.Ended end) = answers.Ended end
 last_answer halts.Memory = answers.Memory

@@ -22,7 +22,7 @@ use crate::book::{Book, SoundState};
 use crate::events::pass_after;
 use event_def::{Advance, Came, Halt};
 use event_move::{make_commit, make_dispatch, make_split};
-use event_room::end_with;
+use event_prelude::end_with;
 use event_step::make_step;
 use guest_image::Image;
 use place_policy::Placer;

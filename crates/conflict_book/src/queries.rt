@@ -14,7 +14,7 @@ ghost use Rattle.conflict_book.specs.BookViews.{effect_of, events_made, machine_
 ghost use Rattle.conflict_book.specs.Ready.{HasRunning, IsReady};
 
 use crate::book::Book;
-use event_room::end_of;
+use event_prelude::end_of;
 use place_policy::{Placer, serving_pick};
 use progress_cell::Reading;
 use rv_core::{Core, Decoded, Naming, NotedCore};

@@ -13,7 +13,7 @@ use Rattle.event_def.specs.declared.event.Advance.{Advance}
 use Rattle.event_def.specs.declared.event.Advance.TheVariants as answers
 use Rattle.event_def.specs.declared.event.Event.{Event}
 use Rattle.event_def.specs.declared.event.Event.TheVariants as event
-use Rattle.event_def.specs.declared.event.Reply.TheVariants as reply
+use Rattle.event_def.specs.declared.event.Reply.TheVariants as replies
 use Rattle.event_def.specs.Book.{BookView}
 use Rattle.event_def.specs.End.{HasEnd, IsOver}
 use Rattle.event_def.specs.Happens.{Happens}
@@ -60,18 +60,18 @@ IsNoCommit other = Unit {0}
 abbrev pub AdvanceAnswers : Type 0 → ImageValue → BookView → Advance → BookView → Type 0
 AdvanceAnswers N image old (answers.Ended end) new = (old.stopped ≡ false) × HasEnd old.view end × (new ≡ old)
 AdvanceAnswers N image old answers.Committed new =
-    IsNextEvent {N = N} image old.view event.Commit × Happens {N = N} old event.Commit reply.Ok 0 new
+    IsNextEvent {N = N} image old.view event.Commit × Happens {N = N} old event.Commit replies.Ok 0 new
 AdvanceAnswers N image old (answers.Moved aborted) new =
-    (event : Event N) × IsNextEvent image old.view event × IsNoCommit event × Happens old event reply.Ok aborted new
+    (event : Event N) × IsNextEvent image old.view event × IsNoCommit event × Happens old event replies.Ok aborted new
 AdvanceAnswers N image old answers.Memory new =
     ((old.stopped ≡ true) × (new ≡ old))
-    ⊎ ((event : Event N) × IsNextEvent image old.view event × Happens old event reply.Memory 0 new)
+    ⊎ ((event : Event N) × IsNextEvent image old.view event × Happens old event replies.Memory 0 new)
 
 -- one event for the least task is made, of a book that isn't at its end
 pub record Advances (N : Type 0) (image : ImageValue) (old : BookView) (aborted : ℕ) (new : BookView) : Type 0 where
   pub event : Event N
   pub next : IsNextEvent image old.view event
-  pub happens : Happens old event reply.Ok aborted new
+  pub happens : Happens old event replies.Ok aborted new
 
 -- so many events for the least tasks, one after another
 abbrev pub AdvancesBy : Type 0 → ImageValue → ℕ → BookView → BookView → Type 0

@@ -15,7 +15,7 @@ use Rattle.spec_state.specs.Changes.{TakesLeg, request_of}
 use Rattle.event_def.specs.declared.event.Event.{Event}
 use Rattle.event_def.specs.declared.event.Event.TheVariants as event
 use Rattle.event_def.specs.declared.event.Reply.{Reply}
-use Rattle.event_def.specs.declared.event.Reply.TheVariants as reply
+use Rattle.event_def.specs.declared.event.Reply.TheVariants as replies
 use Rattle.event_def.specs.Book.{BookView, picked_tile}
 use Rattle.event_def.specs.End.{IsOver}
 
@@ -73,35 +73,35 @@ pub record StallsAtSplit (view : View) (tile : ℕ) : Type 0 where
 -- a cause for which an event is refused with a reply, before the order of the causes is looked at; that the run is
 -- over is a cause for each event
 abbrev pub Cause : {N : Type 0} → BookView → Event N → Reply → Type 0
-Cause book event reply.Ended = IsOver book.view
-Cause book (event.Dispatch tile) reply.Empty = (id : ℕ) (task : Task) → IsIdle book.view tile id task → ⊥
-Cause book (event.Dispatch tile) reply.Busy = IsBusy book.view tile
-Cause book (event.Step tile core leg) reply.Stale = IsStale book.view tile core leg
-Cause book (event.Step tile core leg) reply.Stall = StallsAtEnqueue book tile core leg
+Cause book event replies.Ended = IsOver book.view
+Cause book (event.Dispatch tile) replies.Empty = (id : ℕ) (task : Task) → IsIdle book.view tile id task → ⊥
+Cause book (event.Dispatch tile) replies.Busy = IsBusy book.view tile
+Cause book (event.Step tile core leg) replies.Stale = IsStale book.view tile core leg
+Cause book (event.Step tile core leg) replies.Stall = StallsAtEnqueue book tile core leg
     ⊎ StallsAtEnd book.view tile core leg
-Cause book (event.Abort tile) reply.Empty = (id : ℕ) (task : Task) → IsDispatched book.view tile id task → ⊥
-Cause book (event.Abort tile) reply.Firm = LatestIsLeast book.view tile
-Cause book event.Commit reply.Empty = (id : ℕ) (task : Task) → IsLeastTask book.view id task → task.status ≢ Finished
-Cause book (event.Coalesce tile) reply.Empty = (id : ℕ) → IsMovable book.view tile id → ⊥
-Cause book (event.Split tile) reply.Empty = block_at book.view tile ≡ []
-Cause book (event.Split tile) reply.Stall = StallsAtSplit book.view tile
+Cause book (event.Abort tile) replies.Empty = (id : ℕ) (task : Task) → IsDispatched book.view tile id task → ⊥
+Cause book (event.Abort tile) replies.Firm = LatestIsLeast book.view tile
+Cause book event.Commit replies.Empty = (id : ℕ) (task : Task) → IsLeastTask book.view id task → task.status ≢ Finished
+Cause book (event.Coalesce tile) replies.Empty = (id : ℕ) → IsMovable book.view tile id → ⊥
+Cause book (event.Split tile) replies.Empty = block_at book.view tile ≡ []
+Cause book (event.Split tile) replies.Stall = StallsAtSplit book.view tile
 Cause book event other = ⊥
 
 -- the place of a refusal in the order in which they are tried
 abbrev pub refusal_rank : Reply → ℕ
-refusal_rank reply.Ended = 0
-refusal_rank reply.Empty = 1
-refusal_rank reply.Busy = 2
-refusal_rank reply.Stale = 3
-refusal_rank reply.Firm = 4
-refusal_rank reply.Stall = 5
-refusal_rank reply.Memory = 6
-refusal_rank reply.Ok = 7
+refusal_rank replies.Ended = 0
+refusal_rank replies.Empty = 1
+refusal_rank replies.Busy = 2
+refusal_rank replies.Stale = 3
+refusal_rank replies.Firm = 4
+refusal_rank replies.Stall = 5
+refusal_rank replies.Memory = 6
+refusal_rank replies.Ok = 7
 
 -- the event is refused so: this cause stands, and none that is tried before
-pub record IsRefused {N : Type 0} (book : BookView) (event : Event N) (answer : Reply) : Type 0 where
-  pub cause : Cause book event answer
-  pub first : (other : Reply) → refusal_rank other < refusal_rank answer → Cause book event other → ⊥
+pub record IsRefused {N : Type 0} (book : BookView) (event : Event N) (reply : Reply) : Type 0 where
+  pub cause : Cause book event reply
+  pub first : (other : Reply) → refusal_rank other < refusal_rank reply → Cause book event other → ⊥
 
 -- no cause stands for refusing the event
 abbrev pub IsGranted : {N : Type 0} → BookView → Event N → Type 0

@@ -5,7 +5,7 @@ use Rattle.spec_state.specs.View.{View}
 use Rattle.event_def.specs.declared.event.Came.{Came}
 use Rattle.event_def.specs.declared.event.Came.TheVariants.{Made, Refused}
 use Rattle.event_def.specs.declared.event.Event.{Event}
-use Rattle.event_def.specs.declared.event.Reply.TheVariants as reply
+use Rattle.event_def.specs.declared.event.Reply.TheVariants as replies
 use Rattle.event_def.specs.Book.{BookView}
 use Rattle.event_def.specs.Causes.{IsRefused, IsGranted, TakesMemory}
 use Rattle.event_def.specs.Events.{Makes}
@@ -23,7 +23,7 @@ Comes book event (Made seen) view placers =
     IsGranted book event
     × Makes book event seen.aborted view placers
     × IsRecord book.view event seen.aborted view seen
-Comes book event (Refused reply.Ok) view placers = ⊥
-Comes book event (Refused reply.Memory) view placers =
+Comes book event (Refused replies.Ok) view placers = ⊥
+Comes book event (Refused replies.Memory) view placers =
     IsGranted book event × TakesMemory book event × IsAsBefore book view placers
-Comes book event (Refused answer) view placers = IsRefused book event answer × IsAsBefore book view placers
+Comes book event (Refused reply) view placers = IsRefused book event reply × IsAsBefore book view placers

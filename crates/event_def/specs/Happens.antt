@@ -5,7 +5,7 @@ use Rattle.trace_tap.specs.TapValue.{after_note}
 use Rattle.event_def.specs.declared.event.Applied.{Applied}
 use Rattle.event_def.specs.declared.event.Event.{Event}
 use Rattle.event_def.specs.declared.event.Reply.{Reply}
-use Rattle.event_def.specs.declared.event.Reply.TheVariants as reply
+use Rattle.event_def.specs.declared.event.Reply.TheVariants as replies
 use Rattle.event_def.specs.Book.{BookView, next_count}
 use Rattle.event_def.specs.Causes.{IsRefused, IsGranted, TakesMemory}
 use Rattle.event_def.specs.Events.{Makes}
@@ -33,17 +33,17 @@ abbrev pub MayRunOutOfMemory : {N : Type 0} → BookView → Event N → Type 0
 MayRunOutOfMemory book event = (book.stopped ≡ true) ⊎ (IsGranted book event × TakesMemory book event)
 
 -- the event is refused with this reply
-pub record Refuses {N : Type 0} (old : BookView) (event : Event N) (answer : Reply) (aborted : ℕ)
+pub record Refuses {N : Type 0} (old : BookView) (event : Event N) (reply : Reply) (aborted : ℕ)
     (new : BookView) : Type 0 where
   pub goes_on : old.stopped ≡ false
-  pub refused : IsRefused old event answer
+  pub refused : IsRefused old event reply
   pub unchanged : IsUnchanged old aborted new
 
 -- from a book the event has this reply, takes so many tasks back, and leaves this book
 abbrev pub Happens : {N : Type 0} → BookView → Event N → Reply → ℕ → BookView → Type 0
-Happens old event reply.Ok aborted new = IsMade old event aborted new
-Happens old event reply.Memory aborted new = MayRunOutOfMemory old event × IsUnchanged old aborted new
-Happens old event answer aborted new = Refuses old event answer aborted new
+Happens old event replies.Ok aborted new = IsMade old event aborted new
+Happens old event replies.Memory aborted new = MayRunOutOfMemory old event × IsUnchanged old aborted new
+Happens old event reply aborted new = Refuses old event reply aborted new
 
 -- these events, one after another, have these answers
 abbrev pub HappenAll : {N : Type 0} → BookView → List (Event N) → List Applied → BookView → Type 0

@@ -20,7 +20,7 @@ use Rattle.event_def.specs.declared.event.Came.TheVariants.{Made, Refused}
 use Rattle.event_def.specs.declared.event.Event.{Event}
 use Rattle.event_def.specs.declared.event.Event.TheVariants as event
 use Rattle.event_def.specs.declared.event.Reply.{Reply}
-use Rattle.event_def.specs.declared.event.Reply.TheVariants as reply
+use Rattle.event_def.specs.declared.event.Reply.TheVariants as replies
 use Rattle.event_def.specs.Advancing.{AdvanceAnswers}
 use Rattle.event_def.specs.Book.{BookView, picked_tile}
 use Rattle.event_def.specs.Comes.{Comes}
@@ -103,30 +103,30 @@ Tells book (event.Split tile) aborted new placers makes effect =
 abbrev pub TellsComing : {N : Type 0} (book : BookView) (e : Event N) (came : Came) (view : View)
     (placers : List Policy) → Comes book e came view placers → EffectValue → Type 0
 TellsComing book e (Made seen) view placers comes effect = Tells book e seen.aborted view placers comes.1 effect
-TellsComing book e (Refused answer) view placers comes effect = effect ≡ nothing
+TellsComing book e (Refused reply) view placers comes effect = effect ≡ nothing
 
 abbrev pub ComesTelling : {N : Type 0} → BookView → Event N → Came → View → List Policy → EffectValue → Type 0
 ComesTelling book e came view placers effect =
     (comes : Comes book e came view placers) × TellsComing book e came view placers comes effect
 
 -- an event happens so, and what it tells where it is made; where it is refused, nothing
-abbrev pub TellsHappening : {N : Type 0} (old : BookView) (e : Event N) (answer : Reply) (aborted : ℕ)
-    (new : BookView) → Happens old e answer aborted new → EffectValue → Type 0
-TellsHappening old e reply.Ok aborted new happens effect =
+abbrev pub TellsHappening : {N : Type 0} (old : BookView) (e : Event N) (reply : Reply) (aborted : ℕ)
+    (new : BookView) → Happens old e reply aborted new → EffectValue → Type 0
+TellsHappening old e replies.Ok aborted new happens effect =
     Tells old e aborted new.view new.placers happens.makes effect
-TellsHappening old e answer aborted new happens effect = effect ≡ nothing
+TellsHappening old e reply aborted new happens effect = effect ≡ nothing
 
 abbrev pub HappensTelling : {N : Type 0} → BookView → Event N → Reply → ℕ → BookView → EffectValue → Type 0
-HappensTelling old e answer aborted new effect =
-    (happens : Happens old e answer aborted new) × TellsHappening old e answer aborted new happens effect
+HappensTelling old e reply aborted new effect =
+    (happens : Happens old e reply aborted new) × TellsHappening old e reply aborted new happens effect
 
 -- what an advance tells, by the event for the least task; nothing where none is made
-abbrev pub TellsAdvance : (N : Type 0) (image : ImageValue) (old : BookView) (answer : Advance) (new : BookView)
-    → AdvanceAnswers N image old answer new → EffectValue → Type 0
+abbrev pub TellsAdvance : (N : Type 0) (image : ImageValue) (old : BookView) (reply : Advance) (new : BookView)
+    → AdvanceAnswers N image old reply new → EffectValue → Type 0
 TellsAdvance N image old (answers.Moved aborted) new answered effect =
     Tells old answered.0 aborted new.view new.placers answered.3.makes effect
 TellsAdvance N image old other new answered effect = effect ≡ nothing
 
 abbrev pub AdvanceTelling : Type 0 → ImageValue → BookView → Advance → BookView → EffectValue → Type 0
-AdvanceTelling N image old answer new effect =
-    (answered : AdvanceAnswers N image old answer new) × TellsAdvance N image old answer new answered effect
+AdvanceTelling N image old reply new effect =
+    (answered : AdvanceAnswers N image old reply new) × TellsAdvance N image old reply new answered effect

@@ -20,7 +20,7 @@ use Rattle.spec_law.proofs.Proved.{below_others, get_contains, least_key, queued
 use Rattle.event_def.specs.declared.event.Event.{Event}
 use Rattle.event_def.specs.declared.event.Event.TheVariants as event
 use Rattle.event_def.specs.declared.event.Reply.{Reply}
-use Rattle.event_def.specs.declared.event.Reply.TheVariants as reply
+use Rattle.event_def.specs.declared.event.Reply.TheVariants as replies
 use Rattle.event_def.specs.Advancing.{IsLeastLeg, IsNextEvent}
 use Rattle.event_def.specs.Book.{BookView}
 use Rattle.event_def.specs.Causes.{Cause, IsBusy, StallsAtEnd, StallsAtEnqueue}
@@ -145,32 +145,33 @@ no_stall_at_enqueue image book sound tile core leg next stalls =
 
 module _ (N : Type 0) (image : ImageValue) (old : BookView) (sound : Sound image old.view) where
   -- by the event and the reply
-  granted : (event : Event N) (answer : Reply) → IsNextEvent image old.view event → Cause old event answer → ⊥
-  granted (event.Abort tile) answer next cause = absurd next.least
-  granted (event.Coalesce tile) answer next cause = absurd next.least
-  granted (event.Split tile) reply.Ended next cause = absurd (next.goes_on cause)
-  granted (event.Split tile) reply.Empty next cause =
+  granted : (event : Event N) (reply : Reply) → IsNextEvent image old.view event → Cause old event reply → ⊥
+  granted (event.Abort tile) reply next cause = absurd next.least
+  granted (event.Coalesce tile) reply next cause = absurd next.least
+  granted (event.Split tile) replies.Ended next cause = absurd (next.goes_on cause)
+  granted (event.Split tile) replies.Empty next cause =
       absurd (some_not_none (block_at old.view tile) next.least.place next.least.least.has.0 next.least.least.has.1 cause)
-  granted (event.Split tile) reply.Stall next cause = absurd (cause.not_least next.least)
-  granted (event.Dispatch tile) reply.Ended next cause = absurd (next.goes_on cause)
-  granted (event.Dispatch tile) reply.Empty next cause =
+  granted (event.Split tile) replies.Stall next cause = absurd (cause.not_least next.least)
+  granted (event.Dispatch tile) replies.Ended next cause = absurd (next.goes_on cause)
+  granted (event.Dispatch tile) replies.Empty next cause =
       let least = next.least in
       absurd (cause least.0 least.1 (is_idle old.view tile least.0 least.1 least.2 least.3 least.4))
-  granted (event.Dispatch tile) reply.Busy next cause =
+  granted (event.Dispatch tile) replies.Busy next cause =
       let least = next.least in
       absurd (not_busy old.view sound.sizes tile least.0 least.1 least.2 least.3 least.4 cause)
-  granted (event.Step tile core leg) reply.Ended next cause = absurd (next.goes_on cause)
-  granted (event.Step tile core leg) reply.Stale next cause =
+  granted (event.Step tile core leg) replies.Ended next cause = absurd (next.goes_on cause)
+  granted (event.Step tile core leg) replies.Stale next cause =
       let least : IsLeastLeg image old.view tile core leg = next.least in
       absurd (cause least.id least.task (least_takes image old.view sound tile core leg least))
-  granted (event.Step tile core leg) reply.Stall next (inl stalls) =
+  granted (event.Step tile core leg) replies.Stall next (inl stalls) =
       absurd (no_stall_at_enqueue image old sound tile core leg next.least stalls)
-  granted (event.Step tile core leg) reply.Stall next (inr stalls) =
+  granted (event.Step tile core leg) replies.Stall next (inr stalls) =
       absurd (no_stall_at_end image old.view sound tile core leg next.least stalls)
-  granted event.Commit reply.Ended next cause = absurd (next.goes_on cause)
-  granted event.Commit reply.Empty next cause = let least = next.least in absurd (cause least.0 least.1 least.2 least.3)
-  granted event answer next cause = absurd cause
+  granted event.Commit replies.Ended next cause = absurd (next.goes_on cause)
+  granted event.Commit replies.Empty next cause =
+      let least = next.least in absurd (cause least.0 least.1 least.2 least.3)
+  granted event reply next cause = absurd cause
 
 -- the event for the least task is never refused
 pub least_event_is_granted : (N : Type 0) → LeastEventIsGranted N
-least_event_is_granted N image old event sound next = λ answer cause. granted N image old sound event answer next cause
+least_event_is_granted N image old event sound next = λ reply cause. granted N image old sound event reply next cause

@@ -10,7 +10,7 @@ use Rattle.spec_state.specs.declared.settings.Settings.{Settings}
 use Rattle.spec_state.specs.Groups.{logged_tasks}
 use Rattle.event_def.specs.declared.event.Applied.{Applied}
 use Rattle.event_def.specs.declared.event.Event.{Event}
-use Rattle.event_def.specs.declared.event.Reply.TheVariants as reply
+use Rattle.event_def.specs.declared.event.Reply.TheVariants as replies
 use Rattle.event_def.specs.Book.{BookView}
 use Rattle.event_def.specs.Events.{IsGiven}
 use Rattle.event_def.specs.Happens.{HappenAll}
@@ -83,17 +83,17 @@ events_join N old mid new (event ∷ events) second (applied ∷ answers) others
 
 -- an event leaves the count of events, or raises it by one, up to where it stands still
 pub events_count_one : (N : Type 0) → EventsCountOne N
-events_count_one N old new event reply.Ok aborted happens = inr happens.steps
-events_count_one N old new event reply.Empty aborted happens =
+events_count_one N old new event replies.Ok aborted happens = inr happens.steps
+events_count_one N old new event replies.Empty aborted happens =
     inl (ap (λ (b : BookView). b.steps) happens.unchanged.same)
-events_count_one N old new event reply.Busy aborted happens =
+events_count_one N old new event replies.Busy aborted happens =
     inl (ap (λ (b : BookView). b.steps) happens.unchanged.same)
-events_count_one N old new event reply.Stall aborted happens =
+events_count_one N old new event replies.Stall aborted happens =
     inl (ap (λ (b : BookView). b.steps) happens.unchanged.same)
-events_count_one N old new event reply.Stale aborted happens =
+events_count_one N old new event replies.Stale aborted happens =
     inl (ap (λ (b : BookView). b.steps) happens.unchanged.same)
-events_count_one N old new event reply.Firm aborted happens =
+events_count_one N old new event replies.Firm aborted happens =
     inl (ap (λ (b : BookView). b.steps) happens.unchanged.same)
-events_count_one N old new event reply.Ended aborted happens =
+events_count_one N old new event replies.Ended aborted happens =
     inl (ap (λ (b : BookView). b.steps) happens.unchanged.same)
-events_count_one N old new event reply.Memory aborted happens = inl (ap (λ (b : BookView). b.steps) happens.1.same)
+events_count_one N old new event replies.Memory aborted happens = inl (ap (λ (b : BookView). b.steps) happens.1.same)

@@ -14,7 +14,7 @@ use Rattle.event_def.specs.declared.event.Applied.{Applied}
 use Rattle.run_journal.specs.declared.closed.Closed.{Closed}
 use Rattle.event_def.specs.declared.event.Event.{Event}
 use Rattle.event_def.specs.declared.event.Reply.{Reply}
-use Rattle.event_def.specs.declared.event.Reply.TheVariants as reply
+use Rattle.event_def.specs.declared.event.Reply.TheVariants as replies
 use Rattle.event_def.specs.Book.{BookView, next_count}
 use Rattle.event_def.specs.Closing.{Closes}
 use Rattle.event_def.specs.End.{HasEnd, IsOver}
@@ -28,17 +28,17 @@ use Rattle.spec_law.specs.Sound.{Sound}
 -- an event that is not answered Ok changes nothing and takes no task back
 abbrev pub RefusalsChangeNothing : Type 0 → Type 0
 RefusalsChangeNothing N =
-    (old new : BookView) (event : Event N) (answer : Reply) (aborted : ℕ)
-    → Happens old event answer aborted new → answer ≢ reply.Ok
+    (old new : BookView) (event : Event N) (reply : Reply) (aborted : ℕ)
+    → Happens old event reply aborted new → reply ≢ replies.Ok
     → (aborted ≡ 0) × (new ≡ old)
 
 -- want of memory aside, an event has one reply at most, whatever it leads to
 abbrev pub ReplyIsOne : Type 0 → Type 0
 ReplyIsOne N =
-    (old new other_new : BookView) (event : Event N) (answer other : Reply) (aborted other_aborted : ℕ)
-    → Happens old event answer aborted new → Happens old event other other_aborted other_new
-    → answer ≢ reply.Memory → other ≢ reply.Memory
-    → answer ≡ other
+    (old new other_new : BookView) (event : Event N) (reply other : Reply) (aborted other_aborted : ℕ)
+    → Happens old event reply aborted new → Happens old event other other_aborted other_new
+    → reply ≢ replies.Memory → other ≢ replies.Memory
+    → reply ≡ other
 
 -- a run ends in one way at most
 abbrev pub EndIsOne : Type 0
@@ -58,8 +58,8 @@ OpeningIsSound =
 -- each event keeps a book's view sound, whatever it is answered
 abbrev pub EventStaysSound : Type 0 → Type 0
 EventStaysSound N =
-    (image : ImageValue) (old new : BookView) (event : Event N) (answer : Reply) (aborted : ℕ)
-    → IsGiven image old.view.settings event → Sound image old.view → Happens old event answer aborted new
+    (image : ImageValue) (old new : BookView) (event : Event N) (reply : Reply) (aborted : ℕ)
+    → IsGiven image old.view.settings event → Sound image old.view → Happens old event reply aborted new
     → Sound image new.view
 
 -- what a book's journal means: it is a run of the serial machine from the image, the output is that run's, and its
@@ -105,7 +105,7 @@ abbrev pub AdvancesFall : Type 0 → Type 0
 AdvancesFall N =
     (image : ImageValue) (old new : BookView) (event : Event N) (aborted before after : ℕ)
     → Sound image old.view → IsNextEvent image old.view event → IsNoCommit event
-    → Happens old event reply.Ok aborted new
+    → Happens old event replies.Ok aborted new
     → HasRest old.view before → HasRest new.view after → after < before
 
 -- a sound view has a rest: its run is over, or its least task stands in one of the ways that are told apart
@@ -129,7 +129,7 @@ EndIsThere = (image : ImageValue) (view : View) → Sound image view
 -- an event leaves the count of events, or raises it by one, up to where it stands still
 abbrev pub EventsCountOne : Type 0 → Type 0
 EventsCountOne N =
-    (old new : BookView) (event : Event N) (answer : Reply) (aborted : ℕ) → Happens old event answer aborted new
+    (old new : BookView) (event : Event N) (reply : Reply) (aborted : ℕ) → Happens old event reply aborted new
     → (new.steps ≡ old.steps) ⊎ (new.steps ≡ next_count old.steps)
 
 -- of lists of events, one after the other, the answers are theirs, one after the other

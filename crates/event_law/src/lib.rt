@@ -1,6 +1,6 @@
 //! The laws of events: whatever happens keeps a book sound, and so every journal is a run of the serial machine.
 //!
-//! Each law is the contract of a function that does nothing and costs nothing. The book, `event_lemma`,
+//! Each law is the contract of a function that does nothing and costs nothing. The book, `event_basis`,
 //! `outcome_law`, workers, runs and `watch_play` stand on them. It stands on the words of events and on the laws of
 //! states.
 #![tactic(auto)]

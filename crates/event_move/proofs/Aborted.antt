@@ -18,7 +18,7 @@ use Rattle.event_def.specs.Causes.{LatestIsLeast}
 use Rattle.event_def.specs.End.{IsOver}
 use Rattle.event_def.specs.Trace.{record_of}
 use Rattle.event_def.specs.Book.{book_of}
-use Rattle.event_lemma.proofs.Proved.{firm_is_refused, abort_is_granted, latest_is_not_least}
+use Rattle.event_basis.proofs.Proved.{firm_is_refused, abort_is_granted, latest_is_not_least}
 use Rattle.event_move.specs.Moving.{ComesSo}
 
 module _ (N : Type 0) (view : View) (going : IsOver view → ⊥) (tile : ℕ) where

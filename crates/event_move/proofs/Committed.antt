@@ -14,7 +14,7 @@ use Rattle.event_def.specs.declared.event.Event.TheVariants as event
 use Rattle.event_def.specs.End.{IsOver}
 use Rattle.event_def.specs.Trace.{record_of}
 use Rattle.event_def.specs.Book.{book_of}
-use Rattle.event_lemma.proofs.Proved.{commit_is_granted, empty_is_refused}
+use Rattle.event_basis.proofs.Proved.{commit_is_granted, empty_is_refused}
 use Rattle.event_move.specs.Moving.{CommitComes}
 
 module _ (N : Type 0) (view : View) (going : IsOver view → ⊥) (effect : EffectValue) (fresh : effect ≡ nothing) where

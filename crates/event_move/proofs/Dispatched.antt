@@ -17,7 +17,7 @@ use Rattle.event_def.specs.Events.{FreesCore}
 use Rattle.event_def.specs.Telling.{TellsCore}
 use Rattle.event_def.specs.Trace.{record_of}
 use Rattle.event_def.specs.Book.{book_of}
-use Rattle.event_lemma.proofs.Proved.{dispatch_is_granted, least_is_not_busy}
+use Rattle.event_basis.proofs.Proved.{dispatch_is_granted, least_is_not_busy}
 use Rattle.event_move.specs.Moving.{ComesSo}
 
 -- whether a tile without a free core is busy, by whether its least idle task is the least one

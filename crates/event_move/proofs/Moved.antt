@@ -17,8 +17,8 @@ use Rattle.event_def.specs.End.{IsOver}
 use Rattle.event_def.specs.Telling.{TellsRoom}
 use Rattle.event_def.specs.Trace.{record_of}
 use Rattle.event_def.specs.Book.{book_of}
-use Rattle.event_lemma.proofs.Proved.{split_is_granted, coalesce_is_granted}
-use Rattle.event_room.proofs.Proved.{room_told}
+use Rattle.event_basis.proofs.Proved.{split_is_granted, coalesce_is_granted}
+use Rattle.event_prelude.proofs.Proved.{room_told}
 use Rattle.event_move.specs.Moving.{ComesSo}
 
 -- what a call leaves that succeeds

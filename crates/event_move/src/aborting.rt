@@ -13,7 +13,7 @@ ghost use Rattle.event_move.specs.Moving.{ComesSo};
 
 use crate::recording::record_of;
 use event_def::{Came, Reply};
-use event_room::{is_at, least_going};
+use event_prelude::{is_at, least_going};
 use rv_core::Naming;
 use spec_rollback::abort as take_back;
 use spec_state::{State, TaskId};

@@ -5,13 +5,13 @@ ghost use Rattle.spec_law.specs.Sound.{Sound};
 ghost use Rattle.spec_state.specs.declared.task.Where.TheVariants.{Finished};
 ghost use Rattle.spec_state.specs.Effects.{nothing};
 ghost use Rattle.spec_state.specs.Least.{IsLeast};
-ghost use Rattle.event_lemma.specs.Whereabouts.{IsUnfinished};
+ghost use Rattle.event_basis.specs.Whereabouts.{IsUnfinished};
 ghost use Rattle.event_def.specs.End.{IsOver};
 ghost use Rattle.event_move.specs.Moving.{CommitComes};
 
 use crate::recording::record_of;
 use event_def::{Came, Reply};
-use event_room::least_going;
+use event_prelude::least_going;
 use rv_core::Naming;
 use spec_commit::commit_task;
 use spec_state::{State, TaskId, Where};

@@ -4,7 +4,7 @@
 //! back what stands in its way, and makes its one change. It answers with the record that taps note, or with the reply
 //! that refuses the event, and then nothing has changed. The state, which tells of no event before, then tells what
 //! the event did beside its change: whom it took back, whom it spilled and who came. A call `make_..` makes an event
-//! that is granted already. It stands on `spec_dispatch`, `spec_rollback`, `spec_commit` and `event_room`; the book
+//! that is granted already. It stands on `spec_dispatch`, `spec_rollback`, `spec_commit` and `event_prelude`; the book
 //! calls it. A call costs what its change does.
 #![tactic(auto)]
 

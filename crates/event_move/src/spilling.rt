@@ -15,7 +15,7 @@ ghost use Rattle.event_move.specs.Moving.{ComesSo};
 
 use crate::recording::record_of;
 use event_def::{Came, Reply};
-use event_room::{end_of, least_going, make_room, may_return};
+use event_prelude::{end_of, least_going, make_room, may_return};
 use rv_core::Naming;
 use spec_commit::{coalesce as spill, split as return_least};
 use spec_state::State;

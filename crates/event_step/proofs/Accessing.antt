@@ -18,8 +18,8 @@ use Rattle.spec_state.specs.Queries.{Conflicts}
 use Rattle.spec_state.specs.Told.{TellsBack}
 use Rattle.memory_law.specs.Tasks.{IsByKey}
 use Rattle.spec_law.specs.Sound.{Sound}
-use Rattle.event_lemma.specs.Forcing.{TakesStill}
-use Rattle.event_lemma.proofs.Proved.{sound_by_key}
+use Rattle.event_basis.specs.Forcing.{TakesStill}
+use Rattle.event_basis.proofs.Proved.{sound_by_key}
 use Rattle.event_step.specs.Accessing.{TakesTelling, LoadsTelling, StoresTelling}
 use Rattle.event_step.proofs.Stepping.{asks_still}
 

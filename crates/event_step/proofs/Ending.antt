@@ -31,9 +31,9 @@ use Rattle.event_def.specs.Events as events
 use Rattle.event_def.specs.Telling.{ComesTelling, TellsCommit}
 use Rattle.event_def.specs.Trace.{record_of}
 use Rattle.event_def.specs.Book.{book_of}
-use Rattle.event_lemma.specs.Forcing.{TakesStill}
-use Rattle.event_lemma.proofs.Proved.{commit_leaves_taker, commit_leaves_place, finished_is_later, no_child_no_stall}
-use Rattle.event_lemma.proofs.Proved.{none_is_later, sound_by_key, stall_is_refused}
+use Rattle.event_basis.specs.Forcing.{TakesStill}
+use Rattle.event_basis.proofs.Proved.{commit_leaves_taker, commit_leaves_place, finished_is_later, no_child_no_stall}
+use Rattle.event_basis.proofs.Proved.{none_is_later, sound_by_key, stall_is_refused}
 use Rattle.event_step.specs.Ending.{EndsTelling, HasLater, HasNoLater, SaysLater}
 use Rattle.event_step.proofs.Stepping.{asks_same, granted, made_granted, tells_neither}
 

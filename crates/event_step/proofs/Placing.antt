@@ -29,9 +29,9 @@ use Rattle.event_def.specs.End.{IsOver}
 use Rattle.event_def.specs.Events.{EnqueueEvent}
 use Rattle.event_def.specs.Telling.{ComesTelling, TellsRoom}
 use Rattle.event_def.specs.Trace.{record_of}
-use Rattle.event_lemma.specs.Forcing.{TakesStill, LeavesRoom}
-use Rattle.event_lemma.proofs.Proved.{child_no_stall, no_end_no_stall, room_leaves, room_leaves_asker}
-use Rattle.event_lemma.proofs.Proved.{stall_is_refused, taker_asks}
+use Rattle.event_basis.specs.Forcing.{TakesStill, LeavesRoom}
+use Rattle.event_basis.proofs.Proved.{child_no_stall, no_end_no_stall, room_leaves, room_leaves_asker}
+use Rattle.event_basis.proofs.Proved.{stall_is_refused, taker_asks}
 use Rattle.event_step.specs.Placing.{PlacesTelling}
 use Rattle.event_step.proofs.Stepping.{asks_same, granted, made_granted, wants_memory}
 

@@ -22,8 +22,8 @@ use Rattle.event_def.specs.End.{IsOver}
 use Rattle.event_def.specs.Events.{ComesTo, StepEvent}
 use Rattle.event_def.specs.Telling.{ComesTelling, TellsNeither, TellsRequest}
 use Rattle.event_def.specs.Trace.{deed_of, line_of_request, record_of}
-use Rattle.event_lemma.specs.Forcing.{TakesStill}
-use Rattle.event_lemma.proofs.Proved.{no_child_no_stall, no_end_no_stall, step_is_granted}
+use Rattle.event_basis.specs.Forcing.{TakesStill}
+use Rattle.event_basis.proofs.Proved.{no_child_no_stall, no_end_no_stall, step_is_granted}
 
 -- a step may stall at an enqueue and at an end call
 abbrev pub MayStall : Request → Type 0

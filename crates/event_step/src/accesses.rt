@@ -7,7 +7,7 @@ ghost use Rattle.spec_state.specs.StateValue.{CoversLog};
 ghost use Rattle.spec_access.specs.Asking.{Asks, HasTaker, OfTaker};
 ghost use Rattle.spec_law.specs.Sound.{Sound};
 ghost use Rattle.event_def.specs.End.{IsOver};
-ghost use Rattle.event_lemma.specs.Forcing.{TakesStill};
+ghost use Rattle.event_basis.specs.Forcing.{TakesStill};
 ghost use Rattle.event_step.specs.Accessing.{TakesTelling, LoadsTelling, StoresTelling};
 ghost use Rattle.event_step.specs.Coming.{QuietlyComes};
 

@@ -10,13 +10,13 @@ ghost use Rattle.spec_state.specs.Room.{Enqueuer};
 ghost use Rattle.spec_access.specs.Asking.{Asks, OfTaker};
 ghost use Rattle.spec_law.specs.Sound.{Sound};
 ghost use Rattle.event_def.specs.End.{IsOver};
-ghost use Rattle.event_room.specs.Entering.{MayEnter};
+ghost use Rattle.event_prelude.specs.Entering.{MayEnter};
 ghost use Rattle.event_step.specs.Coming.{TaskComes};
 ghost use Rattle.event_step.specs.Placing.{PlacesTelling};
 
 use crate::recording::record_of;
 use event_def::{Came, Reply};
-use event_room::{make_room, stalls};
+use event_prelude::{make_room, stalls};
 use place_policy::{Placer, serving_pick, serving_placed};
 use rv_core::{Leg, Naming};
 use spec_access::enqueue_child;

@@ -16,7 +16,7 @@ use crate::calls::{emit_byte, go_on, keep_trap, make_subdomain};
 use crate::ends::end;
 use crate::enqueues::enqueue;
 use event_def::{Came, Reply};
-use event_room::end_of;
+use event_prelude::end_of;
 use place_policy::Placer;
 use rv_core::{Leg, Naming, Stop};
 use spec_access::request_of_task;

@@ -5,9 +5,9 @@
 //! refuse it, takes its memory, forces what stands in its way and makes one change. It takes memory first, so that
 //! nothing has changed where memory runs out, and never needs any afterwards. Its caller has cleared the state's
 //! effect, in which the step then tells what it forced and which child came. It stands on `spec_access`,
-//! `spec_rollback` and `event_room`; the book calls it, and `watch_text` calls `taker`. Beside its change a step costs
-//! a look at each dispatched task where it is an access, one at each tile where it enqueues, looks at the tasks of a
-//! queue that is full for it, and what it takes back; by `step` it also costs what `least` does.
+//! `spec_rollback` and `event_prelude`; the book calls it, and `watch_text` calls `taker`. Beside its change a step
+//! costs a look at each dispatched task where it is an access, one at each tile where it enqueues, looks at the tasks
+//! of a queue that is full for it, and what it takes back; by `step` it also costs what `least` does.
 #![tactic(auto)]
 
 mod accesses;

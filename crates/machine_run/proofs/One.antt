@@ -18,7 +18,7 @@ use Rattle.event_law.proofs.Proved.{end_is_one, opening_is_sound}
 use Rattle.step_script.specs.declared.act.Act.{Act}
 use Rattle.step_script.specs.declared.saying.Said.{Said}
 use Rattle.step_script.specs.Ranges.{ActIsInRange}
-use Rattle.outcome_law.specs.Alike.{Renaming, inverse_of, AreAlike}
+use Rattle.outcome_law.specs.Alike.{IdPermutation, inverse_of, AreAlike}
 use Rattle.outcome_law.specs.Laws.{AreSameBooks}
 use Rattle.outcome_law.proofs.Proved.{alike_turned, end_is_alike, opening_is_one, over_too, play_is_one, undone_alike}
 use Rattle.machine_run.specs.Leaving.{LeavesRun}
@@ -35,7 +35,7 @@ stands_so view (ends.Trap name cause pc) stands = inr stands
 stands_so view ends.Unfinished stands = inl (refl, stands)
 
 -- views that are alike stand at one end
-module _ (r : Renaming) (a b : View) (alike : AreAlike r a b) (end other : End) where
+module _ (r : IdPermutation) (a b : View) (alike : AreAlike r a b) (end other : End) where
   one_of : ((end ≡ ends.Unfinished) × (IsOver a → ⊥)) ⊎ HasEnd a end
       → ((other ≡ ends.Unfinished) × (IsOver b → ⊥)) ⊎ HasEnd b other → other ≡ end
   one_of (inl stands) (inl stands') = stands'.0 ∙ sym stands.0

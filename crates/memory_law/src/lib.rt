@@ -4,7 +4,7 @@
 //! They are definitions over what memory reads of a task (`Logged`), with tasks given as a function from ids, and
 //! each law is the contract of a function that does nothing and costs nothing. They hold of any filter that leaves
 //! no access out, and of any line of whole words. It stands on logs, filters and keys; the laws of tasks,
-//! states and events stand on it, and the state, its accesses, its rollback, `event_room` and `event_step` cite it.
+//! states and events stand on it, and the state, its accesses, its rollback, `event_prelude` and `event_step` cite it.
 #![tactic(auto)]
 
 mod laws;

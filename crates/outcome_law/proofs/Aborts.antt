@@ -19,17 +19,17 @@ use Rattle.spec_state.specs.Groups.{logged_tasks, logged_task, room_tasks, room_
 use Rattle.spec_state.specs.Aborts.{IsChildOf, ReadsFrom, PullsInView, is_marked, IsCascade, IsUndone}
 use Rattle.spec_state.specs.Aborts.{is_marked_creator, taken_back, freed_core, Aborts}
 use Rattle.spec_law.proofs.Proved.{id_below, pulled_there}
-use Rattle.outcome_law.specs.Alike.{Renaming, inverse_of, renamed_creator, IsAlikeTask, IsAlikeAt, AreAlike}
+use Rattle.outcome_law.specs.Alike.{IdPermutation, inverse_of, permuted_creator, IsAlikeTask, IsAlikeAt, AreAlike}
 use Rattle.outcome_law.proofs.Alike.{partner, alike_turned}
 use Rattle.outcome_law.proofs.Lists.{map_same, filter_mapped, left_mapped, same_bool, count_upto}
 use Rattle.outcome_law.proofs.Queries.{later_too}
 
 -- the creator of the partner
-pub live_renamed : (to : ℕ → ℕ) (c : Creator) → live_creator (renamed_creator to c) ≡ option_map to (live_creator c)
-live_renamed to (Committed turn index) = refl
-live_renamed to (Live task index) = refl
+pub live_permuted : (to : ℕ → ℕ) (c : Creator) → live_creator (permuted_creator to c) ≡ option_map to (live_creator c)
+live_permuted to (Committed turn index) = refl
+live_permuted to (Live task index) = refl
 
-module _ (r : Renaming) (a b : View) (alike : AreAlike r a b) where
+module _ (r : IdPermutation) (a b : View) (alike : AreAlike r a b) where
   child_too : (k j : ℕ) → IsChildOf a k j → IsChildOf b (r.to k) (r.to j)
   child_too k j is =
       let p = partner r a b alike j is.child is.there in
@@ -38,7 +38,7 @@ module _ (r : Renaming) (a b : View) (alike : AreAlike r a b) where
         there = p.there;
         made_by =
             ap (λ t. live_creator t.creator) p.alike.other_is
-            ∙ (live_renamed r.to is.child.creator ∙ ap (option_map r.to) is.made_by);
+            ∙ (live_permuted r.to is.child.creator ∙ ap (option_map r.to) is.made_by);
       }
 
   reads_too : (k j : ℕ) → ReadsFrom a k j → ReadsFrom b (r.to k) (r.to j)
@@ -60,11 +60,11 @@ module _ (r : Renaming) (a b : View) (alike : AreAlike r a b) where
   pulls_too k j (inr is) = inr (reads_too k j is)
 
 -- some tasks, and their partners
-pub record AreFirsts (r : Renaming) (a : View) (firsts firsts' : ℕ → Type 0) : Type 0 where
+pub record AreFirsts (r : IdPermutation) (a : View) (firsts firsts' : ℕ → Type 0) : Type 0 where
   pub there : (k : ℕ) → firsts k → (x : Task) × (task_at a k ≡ Some x)
   pub to : (k : ℕ) → firsts k → firsts' (r.to k)
 
-module _ (r : Renaming) (a b : View) (alike : AreAlike r a b) (firsts firsts' : ℕ → Type 0) (are : AreFirsts r a firsts firsts') (ma mb : List Bool)
+module _ (r : IdPermutation) (a b : View) (alike : AreAlike r a b) (firsts firsts' : ℕ → Type 0) (are : AreFirsts r a firsts firsts') (ma mb : List Bool)
     (one : IsCascade a firsts ma) (two : IsCascade b firsts' mb) where
   reached_there : (k : ℕ) → Reached (length ma) one.pull firsts k → (x : Task) × (task_at a k ≡ Some x)
   reached_there k (start j f) = are.there j f
@@ -87,7 +87,7 @@ module _ (r : Renaming) (a b : View) (alike : AreAlike r a b) (firsts firsts' : 
   pub mark_too : (k : ℕ) → is_marked ma k ≡ true → is_marked mb (r.to k) ≡ true
   mark_too k is = marked_too k (one.least.reached k is)
 
-module _ (r : Renaming) where
+module _ (r : IdPermutation) where
   pub one_to : (i j : ℕ) → r.to i ≡ r.to j → i ≡ j
   one_to i j e = sym (r.back i) ∙ (ap r.from e ∙ r.back j)
 
@@ -95,11 +95,11 @@ module _ (r : Renaming) where
   one_from i j e = sym (r.forth i) ∙ (ap r.to e ∙ r.forth j)
 
 -- the marks are the same, and so is their count
-pub record AreMarkedAlike (r : Renaming) (ma mb : List Bool) : Type 0 where
+pub record AreMarkedAlike (r : IdPermutation) (ma mb : List Bool) : Type 0 where
   pub same : (k : ℕ) → is_marked mb (r.to k) ≡ is_marked ma k
   pub count : count_by (λ m. m) mb ≡ count_by (λ m. m) ma
 
-module _ (r : Renaming) (a b : View) (alike : AreAlike r a b) (firsts firsts' : ℕ → Type 0)
+module _ (r : IdPermutation) (a b : View) (alike : AreAlike r a b) (firsts firsts' : ℕ → Type 0)
     (are : AreFirsts r a firsts firsts') (are' : AreFirsts (inverse_of r) b firsts' firsts) (ma mb : List Bool)
     (one : IsCascade a firsts ma) (two : IsCascade b firsts' mb) where
   on : (k : ℕ) → is_marked ma k ≡ true → is_marked mb (r.to k) ≡ true
@@ -132,11 +132,11 @@ logged_same to (Some x) (Some y) alike = λ i. Some (record {
 logged_same to None (Some y) alike = absurd alike
 logged_same to (Some x) None alike = absurd alike
 
--- what stands in a list stands in the renamed one
-pub in_renamed : (to : ℕ → ℕ) (k : ℕ) (ids : List ℕ) → In k ids → In (to k) (map to ids)
-in_renamed to k [] at = absurd at
-in_renamed to k (j ∷ ids) (inl here) = inl (ap to here)
-in_renamed to k (j ∷ ids) (inr later) = inr (in_renamed to k ids later)
+-- what stands in a list stands in the permuted one
+pub in_permuted : (to : ℕ → ℕ) (k : ℕ) (ids : List ℕ) → In k ids → In (to k) (map to ids)
+in_permuted to k [] at = absurd at
+in_permuted to k (j ∷ ids) (inl here) = inl (ap to here)
+in_permuted to k (j ∷ ids) (inr later) = inr (in_permuted to k ids later)
 
 -- and comes from it
 pub was_in : (to : ℕ → ℕ) (k : ℕ) (ids : List ℕ) → In k (map to ids) → (j : ℕ) × In j ids × (k ≡ to j)
@@ -144,7 +144,7 @@ was_in to k [] at = absurd at
 was_in to k (j ∷ ids) (inl here) = (j, inl refl, here)
 was_in to k (j ∷ ids) (inr later) = let w = was_in to k ids later in (w.0, inr w.1, w.2)
 
-module _ (r : Renaming) (ta tb : ℕ → Option Logged) (same : (k : ℕ) → tb (r.to k) ≡ ta k) where
+module _ (r : IdPermutation) (ta tb : ℕ → Option Logged) (same : (k : ℕ) → tb (r.to k) ≡ ta k) where
   ascends_too : (ids : List ℕ) → Ascends ta ids → Ascends tb (map r.to ids)
   ascends_too [] up = tt
   ascends_too (id ∷ ids) up =
@@ -154,7 +154,7 @@ module _ (r : Renaming) (ta tb : ℕ → Option Logged) (same : (k : ℕ) → tb
   by_key_too ids is = record {
     ascends = ascends_too ids is.ascends;
     complete =
-        λ k task there runs. subst (λ j. In j (map r.to ids)) (r.forth k) (in_renamed r.to (r.from k) ids (is.complete (r.from k) task (sym (same (r.from k)) ∙ (ap tb (r.forth k) ∙ there)) runs));
+        λ k task there runs. subst (λ j. In j (map r.to ids)) (r.forth k) (in_permuted r.to (r.from k) ids (is.complete (r.from k) task (sym (same (r.from k)) ∙ (ap tb (r.forth k) ∙ there)) runs));
   }
 
   undone_too : (sa sb : ℕ → Bool) → ((k : ℕ) → sb (r.to k) ≡ sa k) → (ids memory : List ℕ)
@@ -163,7 +163,7 @@ module _ (r : Renaming) (ta tb : ℕ → Option Logged) (same : (k : ℕ) → tb
   undone_too sa sb such (id ∷ ids) memory =
       λ i. cond (such id i) (undone (log_of (same id i)) (undone_too sa sb such ids memory i)) (undone_too sa sb such ids memory i)
 
-module _ (r : Renaming) (a b : View) (alike : AreAlike r a b) where
+module _ (r : IdPermutation) (a b : View) (alike : AreAlike r a b) where
   pub logged_too : (k : ℕ) → logged_tasks b (r.to k) ≡ logged_tasks a k
   logged_too k = logged_same r.to (task_at a k) (task_at b (r.to k)) (alike.tasks k)
 
@@ -178,7 +178,7 @@ module _ (r : Renaming) (a b : View) (alike : AreAlike r a b) where
 
 -- ---- tasks, queues, commit queues and cores
 
-module _ (r : Renaming) (ma mb : List Bool) (marks : AreMarkedAlike r ma mb) where
+module _ (r : IdPermutation) (ma mb : List Bool) (marks : AreMarkedAlike r ma mb) where
   idle_alike : (version : ℕ) (x y : Task) → IsAlikeTask r.to x y
       → IsAlikeTask r.to (idle_again version x) (idle_again version y)
   idle_alike version x y alike = record {
@@ -203,7 +203,7 @@ module _ (r : Renaming) (ma mb : List Bool) (marks : AreMarkedAlike r ma mb) whe
   taken_too version k (Some x) (Some y) alike =
       let creators : is_marked_creator mb (live_creator y.creator) ≡ is_marked_creator ma (live_creator x.creator) =
       ap (λ t. is_marked_creator mb (live_creator t.creator)) alike.other_is
-      ∙ (ap (is_marked_creator mb) (live_renamed r.to x.creator) ∙ mark_of_creator (live_creator x.creator)) in
+      ∙ (ap (is_marked_creator mb) (live_permuted r.to x.creator) ∙ mark_of_creator (live_creator x.creator)) in
       subst (λ p. IsAlikeAt r.to (taken_back version ma k (Some x)) (if p then (if is_marked_creator mb (live_creator y.creator) then None else Some (idle_again version y)) else Some y)) (sym (marks.same k))
       (subst (λ q. IsAlikeAt r.to (taken_back version ma k (Some x)) (if is_marked ma k then (if q then None else Some (idle_again version y)) else Some y)) (sym creators)
       (by_marks version x y alike (is_marked ma k) (is_marked_creator ma (live_creator x.creator))))
@@ -236,11 +236,11 @@ there_same to None (Some y) alike = absurd alike
 there_same to (Some x) None alike = absurd alike
 
 -- an abort takes as many back, and leaves views that are alike
-pub record AbortAlike (r : Renaming) (n m : ℕ) (new new' : View) : Type 0 where
+pub record AbortAlike (r : IdPermutation) (n m : ℕ) (new new' : View) : Type 0 where
   pub aborted : m ≡ n
   pub alike : AreAlike r new new'
 
-module _ (r : Renaming) (a b : View) (alike : AreAlike r a b) (firsts firsts' : ℕ → Type 0)
+module _ (r : IdPermutation) (a b : View) (alike : AreAlike r a b) (firsts firsts' : ℕ → Type 0)
     (are : AreFirsts r a firsts firsts') (are' : AreFirsts (inverse_of r) b firsts' firsts) (n m : ℕ) (new new' : View)
     (one : Aborts firsts a n new) (two : Aborts firsts' b m new') where
   marks : AreMarkedAlike r one.marks two.marks

@@ -5,15 +5,15 @@ use Rattle.spec_state.specs.declared.task.Creator.{Creator}
 use Rattle.spec_state.specs.declared.task.Creator.TheVariants.{Committed, Live}
 use Rattle.spec_state.specs.declared.task.Task.{Task}
 use Rattle.spec_state.specs.View.{View, task_at, queue_at, finished_at, cores_at}
-use Rattle.outcome_law.specs.Alike.{Renaming, inverse_of, renamed_creator, IsAlikeTask, IsAlikeAt, AreAlike}
+use Rattle.outcome_law.specs.Alike.{IdPermutation, inverse_of, permuted_creator, IsAlikeTask, IsAlikeAt, AreAlike}
 
 -- a task has a partner under the other id
-pub record Partner (r : Renaming) (b : View) (k : ℕ) (x : Task) : Type 0 where
+pub record Partner (r : IdPermutation) (b : View) (k : ℕ) (x : Task) : Type 0 where
   pub y : Task
   pub there : task_at b (r.to k) ≡ Some y
   pub alike : IsAlikeTask r.to x y
 
-module _ (r : Renaming) (b : View) (k : ℕ) where
+module _ (r : IdPermutation) (b : View) (k : ℕ) where
   partner_of : (x : Task) (stands : Option Task) → task_at b (r.to k) ≡ stands → IsAlikeAt r.to (Some x) stands
       → Partner r b k x
   partner_of x None e alike = absurd alike
@@ -23,7 +23,7 @@ module _ (r : Renaming) (b : View) (k : ℕ) where
   none_of None alike = refl
   none_of (Some y) alike = absurd alike
 
-module _ (r : Renaming) (a b : View) (alike : AreAlike r a b) where
+module _ (r : IdPermutation) (a b : View) (alike : AreAlike r a b) where
   pub partner : (k : ℕ) (x : Task) → task_at a k ≡ Some x → Partner r b k x
   partner k x there =
       partner_of r b k x (task_at b (r.to k)) refl (subst (λ s. IsAlikeAt r.to s (task_at b (r.to k))) there (alike.tasks k))
@@ -33,22 +33,22 @@ module _ (r : Renaming) (a b : View) (alike : AreAlike r a b) where
       none_of r b k (task_at b (r.to k)) (subst (λ s. IsAlikeAt r.to s (task_at b (r.to k))) there (alike.tasks k))
 
 -- a creator has its own id again
-creator_back : (r : Renaming) (c : Creator) → renamed_creator r.from (renamed_creator r.to c) ≡ c
+creator_back : (r : IdPermutation) (c : Creator) → permuted_creator r.from (permuted_creator r.to c) ≡ c
 creator_back r (Committed turn index) = refl
 creator_back r (Live task index) = λ i. Live (record { 0 = r.back task.0 i }) index
 
-pub task_turned : (r : Renaming) (x y : Task) → IsAlikeTask r.to x y → IsAlikeTask r.from y x
+pub task_turned : (r : IdPermutation) (x y : Task) → IsAlikeTask r.to x y → IsAlikeTask r.from y x
 task_turned r x y alike = record {
   other_is =
-      (let back : renamed_creator r.from y.creator ≡ x.creator = ap (λ t. renamed_creator r.from t.creator) alike.other_is ∙ creator_back r x.creator in
+      (let back : permuted_creator r.from y.creator ≡ x.creator = ap (λ t. permuted_creator r.from t.creator) alike.other_is ∙ creator_back r x.creator in
       let same : record y { creator = x.creator; lines = x.lines } ≡ x = ap {A = Task} (λ t. record t { creator = x.creator; lines = x.lines }) alike.other_is in
-      let own : record y { creator = renamed_creator r.from y.creator; lines = x.lines } ≡ record y { creator = x.creator; lines = x.lines } = ap {A = Creator} (λ c. record y { creator = c; lines = x.lines }) back in
+      let own : record y { creator = permuted_creator r.from y.creator; lines = x.lines } ≡ record y { creator = x.creator; lines = x.lines } = ap {A = Creator} (λ c. record y { creator = c; lines = x.lines }) back in
       sym (own ∙ same));
   touched = λ line. sym (alike.touched line);
   written = λ line. sym (alike.written line);
 }
 
-at_turned : (r : Renaming) (s t : Option Task) → IsAlikeAt r.to s t → IsAlikeAt r.from t s
+at_turned : (r : IdPermutation) (s t : Option Task) → IsAlikeAt r.to s t → IsAlikeAt r.from t s
 at_turned r None None alike = alike
 at_turned r (Some x) (Some y) alike = task_turned r x y alike
 at_turned r None (Some y) alike = absurd alike
@@ -63,7 +63,7 @@ module _ {X : Type 0} (f g : X → X) (back : (x : X) → g (f x) ≡ x) where
   option_back None = refl
   option_back (Some x) = ap Some (back x)
 
-pub alike_turned : (r : Renaming) (a b : View) → AreAlike r a b → AreAlike (inverse_of r) b a
+pub alike_turned : (r : IdPermutation) (a b : View) → AreAlike r a b → AreAlike (inverse_of r) b a
 alike_turned r a b alike = record {
   tasks =
       λ k. subst (λ j. IsAlikeAt r.from (task_at b j) (task_at a (r.from k))) (r.forth k) (at_turned r (task_at a (r.from k)) (task_at b (r.to (r.from k))) (alike.tasks (r.from k)));

@@ -1,4 +1,4 @@
--- New tasks may stand under any ids: the renaming is changed there.
+-- New tasks may stand under any ids: the permutation is changed there.
 use Rattle.std.proofs.Common.{◌≡◌, ◌≢◌, ◌≤◌, ◌<◌, ◌+◌, ◌==◌, ℕ, zero, suc, Bool, true, false, List, [], ◌∷◌, map, set}
 use Rattle.std.proofs.Common.{length, Option, Some, None, option_map, refl, sym, ap, subst, ◌∙◌, inl, inr, ◌⊎◌, arith}
 use Rattle.std.proofs.Common.{cond}
@@ -14,7 +14,7 @@ use Rattle.spec_state.specs.declared.task.Creator.{Creator}
 use Rattle.spec_state.specs.declared.task.Creator.TheVariants.{Committed, Live}
 use Rattle.spec_state.specs.declared.task.Task.{Task}
 use Rattle.spec_state.specs.View.{View, task_at, queue_at, finished_at, cores_at, ChangesTask}
-use Rattle.outcome_law.specs.Alike.{Renaming, inverse_of, renamed_creator, IsAlikeTask, IsAlikeAt, AreAlike}
+use Rattle.outcome_law.specs.Alike.{IdPermutation, inverse_of, permuted_creator, IsAlikeTask, IsAlikeAt, AreAlike}
 use Rattle.outcome_law.proofs.Alike.{Partner, partner, none_there, alike_turned}
 
 -- ---- two ids change places
@@ -45,7 +45,7 @@ swapped_twice x y k = elim (cases_eq k x) [
     by_second other (inr too) = ap (swapped x y) (swapped_other x y k other too) ∙ swapped_other x y k other too
 
 -- this id has that other id, and the one that had it gets what this one had
-abbrev pub with_new : Renaming → ℕ → ℕ → Renaming
+abbrev pub with_new : IdPermutation → ℕ → ℕ → IdPermutation
 with_new r id id' = record {
   to = λ k. swapped (r.to id) id' (r.to k);
   from = λ k. r.from (swapped (r.to id) id' k);
@@ -53,7 +53,7 @@ with_new r id id' = record {
   forth = λ k. ap (swapped (r.to id) id') (r.forth (swapped (r.to id) id' k)) ∙ swapped_twice (r.to id) id' k;
 }
 
-pub named_so : (r : Renaming) (id id' : ℕ) → (with_new r id id').to id ≡ id'
+pub named_so : (r : IdPermutation) (id id' : ℕ) → (with_new r id id').to id ≡ id'
 named_so r id id' = swapped_first (r.to id) id' (r.to id) refl
 
 -- a task stands there
@@ -83,8 +83,8 @@ maps_alike : {X Y : Type 0} (f g : X → Y) (xs : List X) → ((p : ℕ) (x : X)
 maps_alike f g [] same = refl
 maps_alike f g (x ∷ xs) same = λ i. same zero x refl i ∷ maps_alike f g xs (λ p. same (suc p)) i
 
-module _ (r : Renaming) (a b : View) (alike : AreAlike r a b) (holds : HoldsTasks a) (id id' : ℕ) (vacant : task_at a id ≡ None) (vacant' : task_at b id' ≡ None) where
-  abbrev pub anew : Renaming
+module _ (r : IdPermutation) (a b : View) (alike : AreAlike r a b) (holds : HoldsTasks a) (id id' : ℕ) (vacant : task_at a id ≡ None) (vacant' : task_at b id' ≡ None) where
+  abbrev pub anew : IdPermutation
   anew = with_new r id id'
 
   -- a task keeps its other id
@@ -96,7 +96,7 @@ module _ (r : Renaming) (a b : View) (alike : AreAlike r a b) (holds : HoldsTask
       swapped_other (r.to id) id' (r.to k) not_id not_new
 
   creator_named : (k : ℕ) (x : Task) → task_at a k ≡ Some x → (c : Creator) → x.creator ≡ c
-      → renamed_creator anew.to c ≡ renamed_creator r.to c
+      → permuted_creator anew.to c ≡ permuted_creator r.to c
   creator_named k x there (Committed turn index) made = refl
   creator_named k x there (Live task index) made =
       ap (λ (n : ℕ). Live (record { 0 = n }) index) (keeps_name task.0 (holds.creators k x task index there made))
@@ -140,7 +140,7 @@ module _ (r : Renaming) (a b : View) (alike : AreAlike r a b) (holds : HoldsTask
   held_named None there = refl
   held_named (Some k) there = ap Some (sym (keeps_name k (there k refl)))
 
-  -- the views are alike under the new renaming too
+  -- the views are alike under the new permutation too
   pub alike_anew : AreAlike anew a b
   alike_anew = record {
     tasks = λ k. tasks_named k (task_at a k) (task_at b (anew.to k)) refl refl;

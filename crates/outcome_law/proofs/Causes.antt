@@ -15,8 +15,8 @@ use Rattle.event_def.specs.Causes.{StallsAtSplit, Cause, IsRefused, IsGranted}
 use Rattle.event_def.specs.declared.event.Event.{Event}
 use Rattle.event_def.specs.declared.event.Event.TheVariants as event
 use Rattle.event_def.specs.declared.event.Reply.{Reply}
-use Rattle.event_def.specs.declared.event.Reply.TheVariants as reply
-use Rattle.outcome_law.specs.Alike.{Renaming, inverse_of, AreAlike}
+use Rattle.event_def.specs.declared.event.Reply.TheVariants as replies
+use Rattle.outcome_law.specs.Alike.{IdPermutation, inverse_of, AreAlike}
 use Rattle.outcome_law.specs.Alike.{AreAlikeBooks}
 use Rattle.outcome_law.proofs.Alike.{alike_turned, task_turned}
 use Rattle.outcome_law.proofs.Leasts.{least_too, the_least_too, spilled_too, over_too, block_too, finished_too}
@@ -27,7 +27,7 @@ use Rattle.outcome_law.proofs.Queries.{later_too, latest_too, free_core_too}
 use Rattle.outcome_law.proofs.Rooms.{full_too, none_moves_too}
 use Rattle.outcome_law.proofs.Events.{picked_alike, request_same}
 
-pub books_turned : (r : Renaming) (a b : BookView) → AreAlikeBooks r a b → AreAlikeBooks (inverse_of r) b a
+pub books_turned : (r : IdPermutation) (a b : BookView) → AreAlikeBooks r a b → AreAlikeBooks (inverse_of r) b a
 books_turned r a b alike = record {
   view = alike_turned r a.view b.view alike.view;
   placers = sym alike.placers;
@@ -36,7 +36,7 @@ books_turned r a b alike = record {
   stopped = sym alike.stopped;
 }
 
-module _ (r : Renaming) (a b : View) (alike : AreAlike r a b) where
+module _ (r : IdPermutation) (a b : View) (alike : AreAlike r a b) where
   pub takes_too : (tile core : ℕ) (leg : LegValue) (id : ℕ) (task : Task) → TakesLeg a tile core leg id task
       → Too r.to (TakesLeg b tile core leg) id task
   takes_too tile core leg id task is =
@@ -54,7 +54,7 @@ module _ (r : Renaming) (a b : View) (alike : AreAlike r a b) where
       let room : b.settings.commit_queue ≡ a.settings.commit_queue = ap (λ v. v.settings.commit_queue) alike.frame in
       omega arith
 
-module _ (r : Renaming) (old other : BookView) (alike : AreAlikeBooks r old other) where
+module _ (r : IdPermutation) (old other : BookView) (alike : AreAlikeBooks r old other) where
   abbrev a : View
   a = old.view
 
@@ -160,64 +160,64 @@ module _ (r : Renaming) (old other : BookView) (alike : AreAlikeBooks r old othe
     not_least = λ least. is.not_least (spilled_too (inverse_of r) b a back tile least);
   }
 
-  pub cause_too : {N : Type 0} (event : Event N) (answer : Reply) → Cause old event answer → Cause other event answer
-  cause_too (event.Dispatch tile) reply.Ended has = over_too r a b views has
-  cause_too (event.Dispatch tile) reply.Ok has = absurd has
-  cause_too (event.Dispatch tile) reply.Empty has = dispatch_empty tile has
-  cause_too (event.Dispatch tile) reply.Busy has = dispatch_busy tile has
-  cause_too (event.Dispatch tile) reply.Stall has = absurd has
-  cause_too (event.Dispatch tile) reply.Stale has = absurd has
-  cause_too (event.Dispatch tile) reply.Firm has = absurd has
-  cause_too (event.Dispatch tile) reply.Memory has = absurd has
-  cause_too (event.Step tile core leg) reply.Ended has = over_too r a b views has
-  cause_too (event.Step tile core leg) reply.Ok has = absurd has
-  cause_too (event.Step tile core leg) reply.Empty has = absurd has
-  cause_too (event.Step tile core leg) reply.Busy has = absurd has
-  cause_too (event.Step tile core leg) reply.Stall has = step_stall tile core leg has
-  cause_too (event.Step tile core leg) reply.Stale has = step_stale tile core leg has
-  cause_too (event.Step tile core leg) reply.Firm has = absurd has
-  cause_too (event.Step tile core leg) reply.Memory has = absurd has
-  cause_too (event.Abort tile) reply.Ended has = over_too r a b views has
-  cause_too (event.Abort tile) reply.Ok has = absurd has
-  cause_too (event.Abort tile) reply.Empty has = abort_empty tile has
-  cause_too (event.Abort tile) reply.Busy has = absurd has
-  cause_too (event.Abort tile) reply.Stall has = absurd has
-  cause_too (event.Abort tile) reply.Stale has = absurd has
-  cause_too (event.Abort tile) reply.Firm has = abort_firm tile has
-  cause_too (event.Abort tile) reply.Memory has = absurd has
-  cause_too event.Commit reply.Ended has = over_too r a b views has
-  cause_too event.Commit reply.Ok has = absurd has
-  cause_too event.Commit reply.Empty has = commit_empty has
-  cause_too event.Commit reply.Busy has = absurd has
-  cause_too event.Commit reply.Stall has = absurd has
-  cause_too event.Commit reply.Stale has = absurd has
-  cause_too event.Commit reply.Firm has = absurd has
-  cause_too event.Commit reply.Memory has = absurd has
-  cause_too (event.Coalesce tile) reply.Ended has = over_too r a b views has
-  cause_too (event.Coalesce tile) reply.Ok has = absurd has
-  cause_too (event.Coalesce tile) reply.Empty has = coalesce_empty tile has
-  cause_too (event.Coalesce tile) reply.Busy has = absurd has
-  cause_too (event.Coalesce tile) reply.Stall has = absurd has
-  cause_too (event.Coalesce tile) reply.Stale has = absurd has
-  cause_too (event.Coalesce tile) reply.Firm has = absurd has
-  cause_too (event.Coalesce tile) reply.Memory has = absurd has
-  cause_too (event.Split tile) reply.Ended has = over_too r a b views has
-  cause_too (event.Split tile) reply.Ok has = absurd has
-  cause_too (event.Split tile) reply.Empty has = split_empty tile has
-  cause_too (event.Split tile) reply.Busy has = absurd has
-  cause_too (event.Split tile) reply.Stall has = split_stall tile has
-  cause_too (event.Split tile) reply.Stale has = absurd has
-  cause_too (event.Split tile) reply.Firm has = absurd has
-  cause_too (event.Split tile) reply.Memory has = absurd has
+  pub cause_too : {N : Type 0} (event : Event N) (reply : Reply) → Cause old event reply → Cause other event reply
+  cause_too (event.Dispatch tile) replies.Ended has = over_too r a b views has
+  cause_too (event.Dispatch tile) replies.Ok has = absurd has
+  cause_too (event.Dispatch tile) replies.Empty has = dispatch_empty tile has
+  cause_too (event.Dispatch tile) replies.Busy has = dispatch_busy tile has
+  cause_too (event.Dispatch tile) replies.Stall has = absurd has
+  cause_too (event.Dispatch tile) replies.Stale has = absurd has
+  cause_too (event.Dispatch tile) replies.Firm has = absurd has
+  cause_too (event.Dispatch tile) replies.Memory has = absurd has
+  cause_too (event.Step tile core leg) replies.Ended has = over_too r a b views has
+  cause_too (event.Step tile core leg) replies.Ok has = absurd has
+  cause_too (event.Step tile core leg) replies.Empty has = absurd has
+  cause_too (event.Step tile core leg) replies.Busy has = absurd has
+  cause_too (event.Step tile core leg) replies.Stall has = step_stall tile core leg has
+  cause_too (event.Step tile core leg) replies.Stale has = step_stale tile core leg has
+  cause_too (event.Step tile core leg) replies.Firm has = absurd has
+  cause_too (event.Step tile core leg) replies.Memory has = absurd has
+  cause_too (event.Abort tile) replies.Ended has = over_too r a b views has
+  cause_too (event.Abort tile) replies.Ok has = absurd has
+  cause_too (event.Abort tile) replies.Empty has = abort_empty tile has
+  cause_too (event.Abort tile) replies.Busy has = absurd has
+  cause_too (event.Abort tile) replies.Stall has = absurd has
+  cause_too (event.Abort tile) replies.Stale has = absurd has
+  cause_too (event.Abort tile) replies.Firm has = abort_firm tile has
+  cause_too (event.Abort tile) replies.Memory has = absurd has
+  cause_too event.Commit replies.Ended has = over_too r a b views has
+  cause_too event.Commit replies.Ok has = absurd has
+  cause_too event.Commit replies.Empty has = commit_empty has
+  cause_too event.Commit replies.Busy has = absurd has
+  cause_too event.Commit replies.Stall has = absurd has
+  cause_too event.Commit replies.Stale has = absurd has
+  cause_too event.Commit replies.Firm has = absurd has
+  cause_too event.Commit replies.Memory has = absurd has
+  cause_too (event.Coalesce tile) replies.Ended has = over_too r a b views has
+  cause_too (event.Coalesce tile) replies.Ok has = absurd has
+  cause_too (event.Coalesce tile) replies.Empty has = coalesce_empty tile has
+  cause_too (event.Coalesce tile) replies.Busy has = absurd has
+  cause_too (event.Coalesce tile) replies.Stall has = absurd has
+  cause_too (event.Coalesce tile) replies.Stale has = absurd has
+  cause_too (event.Coalesce tile) replies.Firm has = absurd has
+  cause_too (event.Coalesce tile) replies.Memory has = absurd has
+  cause_too (event.Split tile) replies.Ended has = over_too r a b views has
+  cause_too (event.Split tile) replies.Ok has = absurd has
+  cause_too (event.Split tile) replies.Empty has = split_empty tile has
+  cause_too (event.Split tile) replies.Busy has = absurd has
+  cause_too (event.Split tile) replies.Stall has = split_stall tile has
+  cause_too (event.Split tile) replies.Stale has = absurd has
+  cause_too (event.Split tile) replies.Firm has = absurd has
+  cause_too (event.Split tile) replies.Memory has = absurd has
 
-module _ {N : Type 0} (r : Renaming) (old other : BookView) (alike : AreAlikeBooks r old other) (event : Event N) where
+module _ {N : Type 0} (r : IdPermutation) (old other : BookView) (alike : AreAlikeBooks r old other) (event : Event N) where
   pub granted_too : IsGranted old event → IsGranted other event
-  granted_too granted answer has =
-      granted answer (cause_too (inverse_of r) other old (books_turned r old other alike) event answer has)
+  granted_too granted reply has =
+      granted reply (cause_too (inverse_of r) other old (books_turned r old other alike) event reply has)
 
-  pub refused_too : (answer : Reply) → IsRefused old event answer → IsRefused other event answer
-  refused_too answer is = record {
-    cause = cause_too r old other alike event answer is.cause;
+  pub refused_too : (reply : Reply) → IsRefused old event reply → IsRefused other event reply
+  refused_too reply is = record {
+    cause = cause_too r old other alike event reply is.cause;
     first =
         λ earlier before has. is.first earlier before (cause_too (inverse_of r) other old (books_turned r old other alike) event earlier has);
   }

@@ -15,7 +15,7 @@ use Rattle.spec_state.specs.Changes.{Dispatches, Keeps, Accesses, Finishes, with
 use Rattle.spec_state.specs.Tasks.{start_core}
 use Rattle.spec_state.specs.Filters.{HasNotes}
 use Rattle.spec_state.proofs.Proved.{map_at}
-use Rattle.outcome_law.specs.Alike.{Renaming, IsAlikeTask, IsAlikeAt, AreAlike}
+use Rattle.outcome_law.specs.Alike.{IdPermutation, IsAlikeTask, IsAlikeAt, AreAlike}
 use Rattle.outcome_law.proofs.Alike.{partner}
 use Rattle.outcome_law.proofs.Leasts.{cores_too}
 use Rattle.outcome_law.proofs.Queries.{least_idle_too, lowest_free_too}
@@ -24,7 +24,7 @@ use Rattle.outcome_law.proofs.Aborts.{one_to}
 use Rattle.spec_law.proofs.Proved.{one_least_idle}
 
 -- one task changes, and its partner changes alike
-pub changed_alike : (r : Renaming) (a b a' b' : View) → AreAlike r a b → (id : ℕ) (s t : Option Task)
+pub changed_alike : (r : IdPermutation) (a b a' b' : View) → AreAlike r a b → (id : ℕ) (s t : Option Task)
     → IsAlikeAt r.to s t
     → ChangesTask a a' id s → ChangesTask b b' (r.to id) t → (k : ℕ)
     → IsAlikeAt r.to (task_at a' k) (task_at b' (r.to k))
@@ -35,7 +35,7 @@ changed_alike r a b a' b' alike id s t same one two k = elim (cases_eq k id) [
       (subst (λ u. IsAlikeAt r.to (task_at a k) u) (sym (two.others (r.to k) (λ e. other (one_to r k id e)))) (alike.tasks k))
 ]
 
-module _ (r : Renaming) (a b : View) (alike : AreAlike r a b) where
+module _ (r : IdPermutation) (a b : View) (alike : AreAlike r a b) where
   pub settings_same : b.settings ≡ a.settings
   settings_same = ap (λ v. v.settings) alike.frame
 

@@ -4,7 +4,7 @@ use Rattle.std.proofs.Common.{◌≡◌, zero, suc, ℕ, true, [], ◌∷◌, re
 use Rattle.std.specs.List.{AllByRecursion}
 use Rattle.guest_image.specs.ImageValue.{ImageValue}
 use Rattle.spec_law.specs.Sound.{Sound}
-use Rattle.event_def.specs.declared.event.Reply.TheVariants as reply
+use Rattle.event_def.specs.declared.event.Reply.TheVariants as replies
 use Rattle.event_def.specs.Advancing.{AdvancesBy}
 use Rattle.event_def.specs.Book.{BookView}
 use Rattle.event_def.specs.Events.{IsGiven}
@@ -51,11 +51,11 @@ least_runs_keep N image (suc n) old other new other_new sound sound' same one tw
     let before = least_runs_keep N image n old other one.0 two.0 sound sound' same one.2 two.2 in
     let e = one.3.event in
     let events : two.3.event ≡ e = next_one image before.0.0 one.0.view two.0.view before.0.1.view e two.3.event one.3.next.least two.3.next.least in
-    let happens' = subst (λ f. Happens two.0 f reply.Ok two.1 other_new) events two.3.happens in
-    let is = outcome_is_one N image one.0 two.0 new other_new e reply.Ok reply.Ok one.1 two.1 before.1 before.2 before.0 one.3.happens happens' (λ c. absurd (cc (c))) (λ c. absurd (cc (c))) in (
+    let happens' = subst (λ f. Happens two.0 f replies.Ok two.1 other_new) events two.3.happens in
+    let is = outcome_is_one N image one.0 two.0 new other_new e replies.Ok replies.Ok one.1 two.1 before.1 before.2 before.0 one.3.happens happens' (λ c. absurd (cc (c))) (λ c. absurd (cc (c))) in (
       is.books,
-      event_stays_sound N image one.0 new e reply.Ok one.1 (next_event_is_given N image one.0.view e before.1 one.3.next) before.1 one.3.happens,
-      event_stays_sound N image two.0 other_new two.3.event reply.Ok two.1 (next_event_is_given N image two.0.view two.3.event before.2 two.3.next) before.2 two.3.happens,
+      event_stays_sound N image one.0 new e replies.Ok one.1 (next_event_is_given N image one.0.view e before.1 one.3.next) before.1 one.3.happens,
+      event_stays_sound N image two.0 other_new two.3.event replies.Ok two.1 (next_event_is_given N image two.0.view two.3.event before.2 two.3.next) before.2 two.3.happens,
     )
 
 pub least_run_is_one : (N : Type 0) → LeastRunIsOne N

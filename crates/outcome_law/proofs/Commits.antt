@@ -12,29 +12,29 @@ use Rattle.spec_state.specs.View.{View, task_at}
 use Rattle.spec_state.specs.Tasks.{depth_of, own_level}
 use Rattle.spec_state.specs.Changes.{creator_after, after_commit, Commits}
 use Rattle.spec_state.proofs.Proved.{one_least}
-use Rattle.outcome_law.specs.Alike.{Renaming, renamed_creator, IsAlikeTask, IsAlikeAt, AreAlike}
+use Rattle.outcome_law.specs.Alike.{IdPermutation, permuted_creator, IsAlikeTask, IsAlikeAt, AreAlike}
 use Rattle.outcome_law.proofs.Aborts.{one_to}
 use Rattle.outcome_law.proofs.Leasts.{least_too, history_too}
 use Rattle.outcome_law.proofs.Lists.{filter_mapped, map_same}
 use Rattle.outcome_law.proofs.Picks.{task_one}
 
--- two ids are equal exactly where they are under the renaming
-pub same_tested : (r : Renaming) (k j : ℕ) → (r.to k == r.to j) ≡ (k == j)
+-- two ids are equal exactly where they are under the permutation
+pub same_tested : (r : IdPermutation) (k j : ℕ) → (r.to k == r.to j) ≡ (k == j)
 same_tested r k j = elim (cases_eq k j) [
   | inl same ↦ (let too : r.to k ≡ r.to j = ap r.to same in grind (arith, nat_tests))
   | inr other ↦ (let apart : r.to k ≢ r.to j = λ e. other (one_to r k j e) in grind (arith, nat_tests))
 ]
 
-module _ (r : Renaming) (id n : ℕ) where
+module _ (r : IdPermutation) (id n : ℕ) where
   creator_too : (c : Creator)
-      → creator_after (r.to id) n (renamed_creator r.to c) ≡ renamed_creator r.to (creator_after id n c)
+      → creator_after (r.to id) n (permuted_creator r.to c) ≡ permuted_creator r.to (creator_after id n c)
   creator_too (Committed turn index) = refl
   creator_too (Live task index) =
       ap (λ t. if t then Committed n index else Live (record { 0 = r.to task.0 }) index) (same_tested r task.0 id)
       ∙ by_test (task.0 == id)
     where
       by_test : (t : Bool)
-          → (if t then Committed n index else Live (record { 0 = r.to task.0 }) index) ≡ renamed_creator r.to (if t then Committed n index else Live task index)
+          → (if t then Committed n index else Live (record { 0 = r.to task.0 }) index) ≡ permuted_creator r.to (if t then Committed n index else Live task index)
       by_test true = refl
       by_test false = refl
 
@@ -42,7 +42,7 @@ module _ (r : Renaming) (id n : ℕ) where
       → IsAlikeTask r.to (record x { creator = creator_after id n x.creator }) (record y { creator = creator_after (r.to id) n y.creator })
   left_alike x y same = record {
     other_is =
-        (let creators : creator_after (r.to id) n y.creator ≡ renamed_creator r.to (creator_after id n x.creator) =
+        (let creators : creator_after (r.to id) n y.creator ≡ permuted_creator r.to (creator_after id n x.creator) =
         ap (λ t. creator_after (r.to id) n t.creator) same.other_is ∙ creator_too x.creator in
         λ i. record (same.other_is i) { creator = creators i; lines = y.lines });
     touched = same.touched;
@@ -71,14 +71,14 @@ module _ (r : Renaming) (id n : ℕ) where
       ap (map (ids_but (r.to id))) same
       ∙ map_same (ids_but (r.to id)) (map r.to) (map r.to) (ids_but id) without_too lists
 
-module _ (r : Renaming) (a b : View) (alike : AreAlike r a b) where
+module _ (r : IdPermutation) (a b : View) (alike : AreAlike r a b) where
   pub commits_alike : (a' b' : View) → Commits a a' → Commits b b' → AreAlike r a' b'
   commits_alike a' b' one two =
       let least = least_too r a b alike one.id one.task one.least in
       let ids : two.id ≡ r.to one.id = one_least b two.id (r.to one.id) two.task least.y two.least least.least in
       let task : two.task ≡ least.y = task_one b two.id (r.to one.id) two.task least.y ids two.least.queued_at.there least.least.queued_at.there in
-      let like : two.task ≡ record one.task { creator = renamed_creator r.to one.task.creator; lines = least.y.lines } = task ∙ least.alike.other_is in
-      let made : Committed two.turn two.index ≡ Committed one.turn one.index = sym two.creator ∙ (ap (λ (t : Task). t.creator) like ∙ ap (renamed_creator r.to) one.creator) in
+      let like : two.task ≡ record one.task { creator = permuted_creator r.to one.task.creator; lines = least.y.lines } = task ∙ least.alike.other_is in
+      let made : Committed two.turn two.index ≡ Committed one.turn one.index = sym two.creator ∙ (ap (λ (t : Task). t.creator) like ∙ ap (permuted_creator r.to) one.creator) in
       let turn : two.turn ≡ one.turn = cc in
       let index : two.index ≡ one.index = cc in
       let old : b.history ≡ a.history = history_too r a b alike in

@@ -37,8 +37,8 @@ use Rattle.event_def.specs.Events.{AbortEvent, SplitEvent, Makes}
 use Rattle.event_law.proofs.Proved.{running_is_dispatched, least_is_heir, room_follows, asker_is_there, spilled_asks}
 use Rattle.event_law.proofs.Proved.{spilled_no_heir}
 use Rattle.event_law.proofs.Proved.{running_is_busy}
-use Rattle.event_lemma.proofs.Proved.{finished_is_dispatched, holder_is_dispatched}
-use Rattle.outcome_law.specs.Alike.{Renaming, inverse_of, IsAlikeTask, AreAlike}
+use Rattle.event_basis.proofs.Proved.{finished_is_dispatched, holder_is_dispatched}
+use Rattle.outcome_law.specs.Alike.{IdPermutation, inverse_of, IsAlikeTask, AreAlike}
 use Rattle.outcome_law.specs.Alike.{AreAlikeBooks}
 use Rattle.outcome_law.proofs.Alike.{alike_turned, task_turned}
 use Rattle.outcome_law.proofs.Aborts.{AreFirsts, AbortAlike, aborts_alike}
@@ -87,7 +87,7 @@ lengths_same to [] = refl
 lengths_same to (q ∷ qs) = λ i. length-map q to i ∷ lengths_same to qs i
 
 -- the tile that the serving placer picks is one
-pub picked_alike : (r : Renaming) (old other : BookView) → AreAlikeBooks r old other → (hint : ℕ)
+pub picked_alike : (r : IdPermutation) (old other : BookView) → AreAlikeBooks r old other → (hint : ℕ)
     → picked_tile other hint ≡ picked_tile old hint
 picked_alike r old other alike hint =
     let lengths : loads other.view ≡ loads old.view = ap (map length) alike.view.queues ∙ lengths_same r.to old.view.queues in
@@ -100,13 +100,13 @@ pub record OneMade (n m : ℕ) (new new' : View) (left left' : List Policy) : Ty
   pub alike : AlikeSomehow new new'
 
 -- a task and its partner ask for the same
-module _ (r : Renaming) (a b : View) (alike : AreAlike r a b) where
+module _ (r : IdPermutation) (a b : View) (alike : AreAlike r a b) where
   pub request_same : (task task' : Task) → IsAlikeTask r.to task task' → (leg : LegValue)
       → request_of b task' leg ≡ request_of a task leg
   request_same task task' like leg =
       λ i. request_at (context_of (version_same r a b alike i) (like.other_is i)) leg.to leg.stop
 
-module _ (image : ImageValue) (r : Renaming) (a b : View) (sound : Sound image a) (sound' : Sound image b) (alike : AreAlike r a b) where
+module _ (image : ImageValue) (r : IdPermutation) (a b : View) (sound : Sound image a) (sound' : Sound image b) (alike : AreAlike r a b) where
   dispatch_one : (tile n m : ℕ) (a' b' : View) → DispatchEvent tile a n a' → DispatchEvent tile b m b'
       → AbortAlike r n m a' b'
   dispatch_one tile n m a' b' one two =
@@ -146,11 +146,12 @@ module _ (image : ImageValue) (r : Renaming) (a b : View) (sound : Sound image a
       let same : id' ≡ r.to id = cc in
       record {
         id_is = same;
-        like = subst (λ z. IsAlikeTask r.to task z) (sym (task_one b id' (r.to id) task' t.y same two.runs.on.there t.is.on.there)) t.alike;
+        like =
+            subst (λ z. IsAlikeTask r.to task z) (sym (task_one b id' (r.to id) task' t.y same two.runs.on.there t.is.on.there)) t.alike;
       }
 
 -- an abort of the tasks in conflict with an access takes as many back, and leaves views that are alike
-module _ (image : ImageValue) (r : Renaming) (a b : View) (sound : Sound image a) (sound' : Sound image b) (alike : AreAlike r a b) where
+module _ (image : ImageValue) (r : IdPermutation) (a b : View) (sound : Sound image a) (sound' : Sound image b) (alike : AreAlike r a b) where
   conflicts_alike : (task task' : Task) → IsAlikeTask r.to task task'
       → (offset : ℕ) (write : Bool) (n m : ℕ) (a' b' : View)
       → Aborts (Conflicts a task (offset / a.settings.line) write) a n a'
@@ -161,7 +162,7 @@ module _ (image : ImageValue) (r : Renaming) (a b : View) (sound : Sound image a
       (conflict_firsts image (inverse_of r) b a sound' sound (alike_turned r a b alike) task' task (task_turned r task task' same) offset write)
       n m a' b' one two
 
-module _ (image : ImageValue) (r : Renaming) (old other : BookView) (sound : Sound image old.view) (sound' : Sound image other.view) (alike : AreAlikeBooks r old other) where
+module _ (image : ImageValue) (r : IdPermutation) (old other : BookView) (sound : Sound image old.view) (sound' : Sound image other.view) (alike : AreAlikeBooks r old other) where
   quietly : (n m : ℕ) (new new' : View) (p p' : List Policy) → n ≡ 0 → m ≡ 0 → p ≡ old.placers → p' ≡ other.placers
       → AreAlike r new new' → OneMade n m new new' p p'
   quietly n m new new' p p' none none' same same' views =
@@ -219,7 +220,8 @@ module _ (image : ImageValue) (r : Renaming) (old other : BookView) (sound : Sou
         let freed = commit_alike r old.view other.view alike.view sound'.heir sound'.order tile task task' (finished_is_dispatched image other.view sound' tile) one.forced two.forced in
         record {
           aborted = freed.aborted;
-          alike = finishes_alike r one.mid two.mid freed.alike tile core id task task' leg like new new' one.change two.change;
+          alike =
+              finishes_alike r one.mid two.mid freed.alike tile core id task task' leg like new new' one.change two.change;
         }
 
     pub comes_one : (request : Request) → ComesTo tile core leg id task request old n new p

@@ -17,23 +17,23 @@ use Rattle.spec_state.specs.Least.{Spot, Queued, Spilled_at, IsQueuedAt, HasKey,
 use Rattle.spec_state.specs.Least.{IsTheLeast, IsLeastSpilled, IsAllCommitted, IsHeir, IsFirm, HasName, Precedes}
 use Rattle.spec_state.proofs.Proved.{map_at}
 use Rattle.event_def.specs.End.{HasEnd, IsOver, LeastIsTrapped}
-use Rattle.outcome_law.specs.Alike.{Renaming, inverse_of, renamed_creator, IsAlikeTask, AreAlike}
+use Rattle.outcome_law.specs.Alike.{IdPermutation, inverse_of, permuted_creator, IsAlikeTask, AreAlike}
 use Rattle.outcome_law.specs.Laws.{EndIsAlike}
 use Rattle.outcome_law.proofs.Alike.{partner, alike_turned}
 
 -- a task stands at the place, and its partner there
-pub record QueuedToo (r : Renaming) (b : View) (tile place k : ℕ) (x : Task) : Type 0 where
+pub record QueuedToo (r : IdPermutation) (b : View) (tile place k : ℕ) (x : Task) : Type 0 where
   pub y : Task
   pub at : IsQueuedAt b tile place (r.to k) y
   pub alike : IsAlikeTask r.to x y
 
 -- the least task is the partner
-pub record LeastToo (r : Renaming) (b : View) (id : ℕ) (x : Task) : Type 0 where
+pub record LeastToo (r : IdPermutation) (b : View) (id : ℕ) (x : Task) : Type 0 where
   pub y : Task
   pub least : IsLeastTask b (r.to id) y
   pub alike : IsAlikeTask r.to x y
 
-module _ (r : Renaming) (a b : View) (alike : AreAlike r a b) where
+module _ (r : IdPermutation) (a b : View) (alike : AreAlike r a b) where
   pub queue_too : (tile : ℕ) → queue_at b tile ≡ map r.to (queue_at a tile)
   queue_too tile =
       ap (λ (qs : List (List ℕ)). slice_index_or qs tile []) alike.queues ∙ map_at (map r.to) a.queues tile []
@@ -73,7 +73,7 @@ module _ (r : Renaming) (a b : View) (alike : AreAlike r a b) where
       (r.to has.0, q.y, q.at, has.3 ∙ sym (ap (λ t. t.key) q.alike.other_is))
   key_too (Spilled_at tile place) key has = (has.0, ap (λ block. slice_get block place) (block_too tile) ∙ has.1, has.2)
 
-module _ (r : Renaming) (a b : View) (alike : AreAlike r a b) where
+module _ (r : IdPermutation) (a b : View) (alike : AreAlike r a b) where
   pub spot_too : (spot : Spot) → IsLeastSpot a spot → IsLeastSpot b spot
   spot_too spot is = record {
     key = is.key;
@@ -109,12 +109,12 @@ module _ (r : Renaming) (a b : View) (alike : AreAlike r a b) where
   heir_too id is = let l = least_too id is.0 is.1 in (l.y, l.least, ap is_dispatched l.alike.other_is ∙ is.2)
 
   pub firm_too : (x y : Task) → IsAlikeTask r.to x y → IsFirm a x → IsFirm b y
-  firm_too x y same (inl is) = inl (is.0, is.1, ap (λ t. t.creator) same.other_is ∙ ap (renamed_creator r.to) is.2)
+  firm_too x y same (inl is) = inl (is.0, is.1, ap (λ t. t.creator) same.other_is ∙ ap (permuted_creator r.to) is.2)
   firm_too x y same (inr is) =
-      inr (r.to is.0, is.1, ap (λ t. t.creator) same.other_is ∙ ap (renamed_creator r.to) is.2, heir_too is.0 is.3)
+      inr (r.to is.0, is.1, ap (λ t. t.creator) same.other_is ∙ ap (permuted_creator r.to) is.2, heir_too is.0 is.3)
 
   pub name_too : (creator : Creator) (name : Name) → HasName a creator name
-      → HasName b (renamed_creator r.to creator) name
+      → HasName b (permuted_creator r.to creator) name
   name_too (Committed turn index) name has = (subst (λ h. turn ≤ length h) (sym (history_too r a b alike)) has.0, has.1)
   name_too (Live task index) name has =
       (heir_too task.0 has.0, has.1 ∙ ap (λ h. record { creator = length h + 1; index = index }) (sym (history_too r a b alike)))
@@ -128,7 +128,7 @@ module _ (r : Renaming) (a b : View) (alike : AreAlike r a b) where
         core = is.core;
         least = l.least;
         trapped = ap (λ t. t.status) l.alike.other_is ∙ is.trapped;
-        named = ap (λ t. t.creator) l.alike.other_is ∙ ap (renamed_creator r.to) is.named;
+        named = ap (λ t. t.creator) l.alike.other_is ∙ ap (permuted_creator r.to) is.named;
         pc_is = ap (λ t. t.core.pc) l.alike.other_is ∙ is.pc_is;
       }
 
@@ -138,7 +138,7 @@ module _ (r : Renaming) (a b : View) (alike : AreAlike r a b) where
   pub commits_too : b.settings.commits ≡ a.settings.commits
   commits_too = ap (λ v. v.settings.commits) alike.frame
 
-module _ (r : Renaming) (a b : View) (alike : AreAlike r a b) where
+module _ (r : IdPermutation) (a b : View) (alike : AreAlike r a b) where
   pub end_too : (end : End) → HasEnd a end → HasEnd b end
   end_too ends.Normal has = committed_too r a b alike has
   end_too ends.Limit has =
@@ -151,7 +151,7 @@ module _ (r : Renaming) (a b : View) (alike : AreAlike r a b) where
   over_too over = (over.0, end_too over.0 over.1)
 
 -- where one task of a tile comes before another, the partner of the one comes before that of the other
-pub precedes_too : (r : Renaming) (a b : View) → AreAlike r a b → (tile k j : ℕ) → Precedes a tile k j
+pub precedes_too : (r : IdPermutation) (a b : View) → AreAlike r a b → (tile k j : ℕ) → Precedes a tile k j
     → Precedes b tile (r.to k) (r.to j)
 precedes_too r a b alike tile k j before p q x y first second =
     let back = alike_turned r a b alike in

@@ -1,4 +1,4 @@
--- Lists that are renamed, and marks that are counted.
+-- Lists that are permuted, and marks that are counted.
 use Rattle.std.proofs.Common.{◌≡◌, ◌≢◌, ◌≤◌, ◌+◌, zero, suc, ℕ, Bool, true, false, List, [], ◌∷◌, map, set, length}
 use Rattle.std.proofs.Common.{Option, Some, None, option_map, is_some, refl, sym, ap, subst, ◌∙◌, arith, cond}
 use Rattle.std.specs.Prelude.{slice_get, slice_index_or, Contains, filter, count_by}
@@ -56,7 +56,7 @@ cleared (x ∷ ys) (suc i) at =
     let after = counted x ys in
     omega arith
 
--- marks that are renamed are no fewer
+-- marks that are permuted are no fewer
 pub count_upto : (to : ℕ → ℕ) → ((i j : ℕ) → to i ≡ to j → i ≡ j) → (xs ys : List Bool)
     → ((k : ℕ) → slice_index_or xs k false ≡ true → slice_index_or ys (to k) false ≡ true)
     → count_by (λ m. m) xs ≤ count_by (λ m. m) ys

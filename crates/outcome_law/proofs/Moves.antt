@@ -21,20 +21,20 @@ use Rattle.spec_state.specs.Groups.{room_tasks}
 use Rattle.spec_state.specs.Least.{HasName, Precedes}
 use Rattle.spec_state.specs.Room.{IsMovable, AreChosen, IsSpilledAs, Coalesces}
 use Rattle.spec_law.proofs.Proved.{contains_in, in_contains}
-use Rattle.outcome_law.specs.Alike.{Renaming, inverse_of, renamed_creator, IsAlikeAt, AreAlike}
+use Rattle.outcome_law.specs.Alike.{IdPermutation, inverse_of, permuted_creator, IsAlikeAt, AreAlike}
 use Rattle.outcome_law.proofs.Alike.{partner, alike_turned}
-use Rattle.outcome_law.proofs.Aborts.{was_in, in_renamed, one_to, there_same}
+use Rattle.outcome_law.proofs.Aborts.{was_in, in_permuted, one_to, there_same}
 use Rattle.outcome_law.proofs.Leasts.{block_too, precedes_too, name_too}
 use Rattle.outcome_law.proofs.Lists.{contains_mapped, map_same, left_mapped}
 use Rattle.outcome_law.proofs.Queries.{idle_firm_too}
 use Rattle.outcome_law.proofs.Picks.{task_one}
 use Rattle.outcome_law.proofs.Chosen.{in_or_not, chosen_are_one}
 
-module _ (r : Renaming) (a b : View) (alike : AreAlike r a b) (tile : ℕ) where
+module _ (r : IdPermutation) (a b : View) (alike : AreAlike r a b) (tile : ℕ) where
   pub movable_too : (k : ℕ) → IsMovable a tile k → IsMovable b tile (r.to k)
   movable_too k is = let t = idle_firm_too r a b alike tile k is.0 is.1 in (t.y, t.is)
 
-module _ (r : Renaming) (a b : View) (alike : AreAlike r a b) (tile : ℕ) where
+module _ (r : IdPermutation) (a b : View) (alike : AreAlike r a b) (tile : ℕ) where
   chosen_too : (ids : List ℕ) → AreChosen a tile ids → AreChosen b tile (map r.to ids)
   chosen_too ids c =
       let way_back : (k : ℕ) → IsMovable b tile k → IsMovable a tile (r.from k) = movable_too (inverse_of r) b a (alike_turned r a b alike) tile in
@@ -57,14 +57,14 @@ name_one : (view : View) (c : Creator) (name other : Name) → HasName view c na
 name_one view (Committed turn index) name other one two = one.1 ∙ sym two.1
 name_one view (Live task index) name other one two = one.1 ∙ sym two.1
 
-module _ (r : Renaming) (a b : View) (alike : AreAlike r a b) where
+module _ (r : IdPermutation) (a b : View) (alike : AreAlike r a b) where
   spilled_same : (id : ℕ) (s s' : Spilled) → IsSpilledAs a id s → IsSpilledAs b (r.to id) s' → s' ≡ s
   spilled_same id s s' one two =
       let p = partner r a b alike id one.task one.there in
       let task : two.task ≡ p.y = task_one b (r.to id) (r.to id) two.task p.y refl two.there p.there in
-      let like : two.task ≡ record one.task { creator = renamed_creator r.to one.task.creator; lines = p.y.lines } = task ∙ p.alike.other_is in
-      let named : HasName b (renamed_creator r.to one.task.creator) two.name = subst (λ (t : Task). HasName b t.creator two.name) like two.named in
-      let name : two.name ≡ one.name = name_one b (renamed_creator r.to one.task.creator) two.name one.name named (name_too r a b alike one.task.creator one.name one.named) in
+      let like : two.task ≡ record one.task { creator = permuted_creator r.to one.task.creator; lines = p.y.lines } = task ∙ p.alike.other_is in
+      let named : HasName b (permuted_creator r.to one.task.creator) two.name = subst (λ (t : Task). HasName b t.creator two.name) like two.named in
+      let name : two.name ≡ one.name = name_one b (permuted_creator r.to one.task.creator) two.name one.name named (name_too r a b alike one.task.creator one.name one.named) in
       two.spilled_is ∙ ((λ i. spilled_as (name i) (descriptor_of (like i))) ∙ sym one.spilled_is)
 
   all_same : (ids : List ℕ) (ss ss' : List Spilled) → AllZip (IsSpilledAs a) ids ss
@@ -84,7 +84,7 @@ module _ (r : Renaming) (a b : View) (alike : AreAlike r a b) where
       let moved : two.moved ≡ one.moved = all_same one.ids one.moved two.moved one.spilled (subst (λ is. AllZip (IsSpilledAs b) is two.moved) ids two.spilled) in
       let tasks : (k : ℕ) → IsAlikeAt r.to (task_at a' k) (task_at b' (r.to k)) = λ k. elim (in_or_not k one.ids) [
         | inl is ↦ subst (λ s. IsAlikeAt r.to s (task_at b' (r.to k))) (sym (one.gone k (in_contains one.ids k is)))
-            (subst (λ s. IsAlikeAt r.to None s) (sym (two.gone (r.to k) (in_contains two.ids (r.to k) (subst (In (r.to k)) (sym ids) (in_renamed r.to k one.ids is))))) tt)
+            (subst (λ s. IsAlikeAt r.to None s) (sym (two.gone (r.to k) (in_contains two.ids (r.to k) (subst (In (r.to k)) (sym ids) (in_permuted r.to k one.ids is))))) tt)
         | inr none ↦ subst (λ s. IsAlikeAt r.to s (task_at b' (r.to k))) (sym (one.others k (λ has. none (contains_in one.ids k has))))
             (subst (λ s. IsAlikeAt r.to (task_at a k) s) (sym (two.others (r.to k) (λ has. (let w = was_in r.to (r.to k) one.ids (subst (In (r.to k)) ids (contains_in two.ids (r.to k) has)) in
             none (subst (λ j. In j one.ids) (sym (one_to r k w.0 w.2)) w.1))))) (alike.tasks k))

@@ -24,7 +24,7 @@ use Rattle.spec_state.specs.Least.{HasName}
 use Rattle.spec_state.specs.Room.{Splits}
 use Rattle.spec_state.proofs.Proved.{one_least}
 use Rattle.spec_law.proofs.Proved.{get_contains}
-use Rattle.outcome_law.specs.Alike.{Renaming, renamed_creator, IsAlikeTask, IsAlikeAt, AreAlike}
+use Rattle.outcome_law.specs.Alike.{IdPermutation, permuted_creator, IsAlikeTask, IsAlikeAt, AreAlike}
 use Rattle.outcome_law.proofs.Alike.{partner}
 use Rattle.outcome_law.proofs.Aborts.{one_to}
 use Rattle.outcome_law.proofs.Anew.{with_new, named_so, HoldsTasks, alike_anew, keeps_name}
@@ -75,14 +75,14 @@ creator_one view (Live task index) (Live other index') name one two =
 
 -- an idle task, and the one that its creator makes under the other id
 pub idle_alike : (to : ℕ → ℕ) (version : ℕ) (d : Descriptor) (c : Creator) (tile : ℕ)
-    → IsAlikeTask to (idle_task version d c tile) (idle_task version d (renamed_creator to c) tile)
+    → IsAlikeTask to (idle_task version d c tile) (idle_task version d (permuted_creator to c) tile)
 idle_alike to version d c tile = record { other_is = refl; touched = λ line. refl; written = λ line. refl }
 
--- there is a renaming under which the views are alike
+-- there is a permutation under which the views are alike
 abbrev pub AlikeSomehow : View → View → Type 0
-AlikeSomehow a b = (r : Renaming) × AreAlike r a b
+AlikeSomehow a b = (r : IdPermutation) × AreAlike r a b
 
-module _ (r : Renaming) (a b : View) (alike : AreAlike r a b) (holds : HoldsTasks a) where
+module _ (r : IdPermutation) (a b : View) (alike : AreAlike r a b) (holds : HoldsTasks a) where
   -- a split
   pub splits_alike : (tile : ℕ) (a' b' : View) → Splits tile a a' → Splits tile b b' → AlikeSomehow a' b'
   splits_alike tile a' b' one two =
@@ -94,18 +94,18 @@ module _ (r : Renaming) (a b : View) (alike : AreAlike r a b) (holds : HoldsTask
       let entries : Some two.spilled ≡ Some one.spilled = sym first.there ∙ (ap (slice_get (block_at a tile)) place ∙ one.least.least.there) in
       let entry : two.spilled ≡ one.spilled = cc in
       let blocks : two.block ≡ one.block = two.least.others ∙ ((λ i. remove (block i) (place i)) ∙ sym one.least.others) in
-      let creator : two.creator ≡ renamed_creator s.to one.creator = creator_one b two.creator (renamed_creator s.to one.creator) two.spilled.desc.name two.named
-      (subst (λ (e : Spilled). HasName b (renamed_creator s.to one.creator) e.desc.name) (sym entry) (name_too s a b now one.creator one.spilled.desc.name one.named)) in
-      let task : idle_task b.version (spilled_descriptor two.spilled) two.creator tile ≡ idle_task a.version (spilled_descriptor one.spilled) (renamed_creator s.to one.creator) tile =
+      let creator : two.creator ≡ permuted_creator s.to one.creator = creator_one b two.creator (permuted_creator s.to one.creator) two.spilled.desc.name two.named
+      (subst (λ (e : Spilled). HasName b (permuted_creator s.to one.creator) e.desc.name) (sym entry) (name_too s a b now one.creator one.spilled.desc.name one.named)) in
+      let task : idle_task b.version (spilled_descriptor two.spilled) two.creator tile ≡ idle_task a.version (spilled_descriptor one.spilled) (permuted_creator s.to one.creator) tile =
       (λ i. idle_task (version_same s a b now i) (spilled_descriptor (entry i)) (creator i) tile) in
-      let changes : ChangesTask b b' (s.to one.id) (Some (idle_task a.version (spilled_descriptor one.spilled) (renamed_creator s.to one.creator) tile)) =
-      subst (λ k. ChangesTask b b' k (Some (idle_task a.version (spilled_descriptor one.spilled) (renamed_creator s.to one.creator) tile))) (sym (named_so r one.id two.id))
+      let changes : ChangesTask b b' (s.to one.id) (Some (idle_task a.version (spilled_descriptor one.spilled) (permuted_creator s.to one.creator) tile)) =
+      subst (λ k. ChangesTask b b' k (Some (idle_task a.version (spilled_descriptor one.spilled) (permuted_creator s.to one.creator) tile))) (sym (named_so r one.id two.id))
       (subst (λ t. ChangesTask b b' two.id (Some t)) task two.changes) in
       let all_blocks : b'.blocks ≡ a'.blocks = two.blocks ∙ ((λ i. slice_set (ap (λ v. v.blocks) alike.frame i) tile (blocks i)) ∙ sym one.blocks) in (
         s,
         record {
           tasks =
-              changed_alike s a b a' b' now one.id (Some (idle_task a.version (spilled_descriptor one.spilled) one.creator tile)) (Some (idle_task a.version (spilled_descriptor one.spilled) (renamed_creator s.to one.creator) tile))
+              changed_alike s a b a' b' now one.id (Some (idle_task a.version (spilled_descriptor one.spilled) one.creator tile)) (Some (idle_task a.version (spilled_descriptor one.spilled) (permuted_creator s.to one.creator) tile))
               (idle_alike s.to a.version (spilled_descriptor one.spilled) one.creator tile) one.changes changes;
           queues =
               two.queues

@@ -18,7 +18,7 @@ use Rattle.spec_law.proofs.Proved.{least_is_one}
 use Rattle.event_def.specs.declared.event.Event.{Event}
 use Rattle.event_def.specs.declared.event.Event.TheVariants as event
 use Rattle.event_def.specs.Advancing.{IsLegFrom, IsLeastLeg, IsLeastEvent}
-use Rattle.outcome_law.specs.Alike.{Renaming, inverse_of, IsAlikeTask, AreAlike}
+use Rattle.outcome_law.specs.Alike.{IdPermutation, inverse_of, IsAlikeTask, AreAlike}
 use Rattle.outcome_law.proofs.Alike.{alike_turned}
 use Rattle.outcome_law.proofs.Leasts.{least_too, spilled_too}
 use Rattle.outcome_law.proofs.Picks.{task_one}
@@ -71,7 +71,7 @@ leg_one image size budget quantum leg other same one two' =
 
 -- ---- the event for the least task
 
-module _ (r : Renaming) (a b : View) (alike : AreAlike r a b) where
+module _ (r : IdPermutation) (a b : View) (alike : AreAlike r a b) where
   -- the two least tasks are partners
   pub leasts_alike : (k j : ℕ) (x y : Task) → IsLeastTask a k x → IsLeastTask b j y → IsAlikeTask r.to x y
   leasts_alike k j x y one two =
@@ -96,7 +96,7 @@ module _ (r : Renaming) (a b : View) (alike : AreAlike r a b) where
       let same : Spilled_at other two.place ≡ Spilled_at tile s.place = least_is_one b (Spilled_at other two.place) (Spilled_at tile s.place) two.least s.least in
       cc
 
-module _ (image : ImageValue) (r : Renaming) (a b : View) (alike : AreAlike r a b) where
+module _ (image : ImageValue) (r : IdPermutation) (a b : View) (alike : AreAlike r a b) where
   legs_same : (tile core tile' core' : ℕ) (leg leg' : LegValue) → IsLeastLeg image a tile core leg
       → IsLeastLeg image b tile' core' leg' → (tile' ≡ tile) × (core' ≡ core) × (leg' ≡ leg)
   legs_same tile core tile' core' leg leg' one two =
@@ -111,7 +111,7 @@ module _ (image : ImageValue) (r : Renaming) (a b : View) (alike : AreAlike r a 
             (subst (λ s. IsLeg image image.data_size s.budget s.quantum leg'.from leg'.to leg'.steps leg'.stop) (ap (λ v. v.settings) alike.frame) two.runs_on.is_leg),
       )
 
-module _ {N : Type 0} (image : ImageValue) (r : Renaming) (a b : View) (alike : AreAlike r a b) where
+module _ {N : Type 0} (image : ImageValue) (r : IdPermutation) (a b : View) (alike : AreAlike r a b) where
   pub next_one : (e f : Event N) → IsLeastEvent image a e → IsLeastEvent image b f → f ≡ e
   next_one (event.Split tile) (event.Split other) one two = ap event.Split (spilled_one r a b alike tile other one two)
   next_one (event.Split tile) (event.Dispatch other) one two =

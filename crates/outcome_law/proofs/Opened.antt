@@ -21,7 +21,7 @@ use Rattle.spec_law.proofs.Proved.{queue_filtered, filter_is, contains_in, in_co
 use Rattle.event_def.specs.Book.{BookView, picked_tile}
 use Rattle.event_def.specs.Opening.{PlacesImageTask, PlacesAll, opening_book, image_descriptor}
 use Rattle.event_law.proofs.Proved.{kept_at, last_was, opening_is_sound, there_of, none_held}
-use Rattle.outcome_law.specs.Alike.{Renaming, IsAlikeAt, AreAlike, AreAlikeBooks}
+use Rattle.outcome_law.specs.Alike.{IdPermutation, IsAlikeAt, AreAlike, AreAlikeBooks}
 use Rattle.outcome_law.specs.Laws.{AreSameBooks, OpeningIsOne, ScriptIsOne}
 use Rattle.outcome_law.proofs.Closes.{close_is_one}
 use Rattle.outcome_law.proofs.Leasts.{end_is_alike}
@@ -73,8 +73,8 @@ module _ (image : ImageValue) (settings : Settings) where
     rooted = λ k x there. absurd (let clash : None ≡ Some x = sym (is.none k) ∙ there in cc (clash));
   }
 
-same_renaming : Renaming
-same_renaming = record { to = λ k. k; from = λ k. k; back = λ k. refl; forth = λ k. refl }
+same_permutation : IdPermutation
+same_permutation = record { to = λ k. k; from = λ k. k; back = λ k. refl; forth = λ k. refl }
 
 module _ (image : ImageValue) (settings : Settings) (a b : View) (one : IsEmptyView image settings a) (two : IsEmptyView image settings b) where
   none_alike : (s t : Option Task) → s ≡ None → t ≡ None → IsAlikeAt (λ k. k) s t
@@ -84,7 +84,7 @@ module _ (image : ImageValue) (settings : Settings) (a b : View) (one : IsEmptyV
   mapped_none f zero x same = refl
   mapped_none f (suc n) x same = λ i. same i ∷ mapped_none f n x same i
 
-  empty_alike : (r : Renaming) → r.to ≡ (λ k. k) → AreAlike r a b
+  empty_alike : (r : IdPermutation) → r.to ≡ (λ k. k) → AreAlike r a b
   empty_alike r same = record {
     tasks =
         λ k. subst (λ (to : ℕ → ℕ). IsAlikeAt to (task_at a k) (task_at b (to k))) (sym same) (none_alike (task_at a k) (task_at b k) (one.none k) (two.none k));
@@ -146,7 +146,7 @@ module _ (kind : Kind) (index : ℕ) (task : ImageTask) where
         ];
       }
 
-  room_alike : (r : Renaming) (a b mid mid' : View) (tile : ℕ) → AreAlike r a b
+  room_alike : (r : IdPermutation) (a b mid mid' : View) (tile : ℕ) → AreAlike r a b
       → (QueueHasRoom a tile × (mid ≡ a)) ⊎ (IsFull a tile × Coalesces tile a mid)
       → (QueueHasRoom b tile × (mid' ≡ b)) ⊎ (IsFull b tile × Coalesces tile b mid') → AreAlike r mid mid'
   room_alike r a b mid mid' tile alike (inl free) (inl free') =
@@ -157,7 +157,7 @@ module _ (kind : Kind) (index : ℕ) (task : ImageTask) where
       absurd (let high = full_too r a b alike tile full.0 in let low = free.0 in omega arith)
   room_alike r a b mid mid' tile alike (inr full) (inr full') = coalesces_alike r a b alike tile mid mid' full.1 full'.1
 
-  placed_one : (r : Renaming) (old other new new' : BookView) → AreAlikeBooks r old other → IsFresh old.view
+  placed_one : (r : IdPermutation) (old other new new' : BookView) → AreAlikeBooks r old other → IsFresh old.view
       → PlacesImageTask kind index task old new → PlacesImageTask kind index task other new' → AreSameBooks new new'
   placed_one r old other new new' alike fresh one two =
       let tile = picked_tile old index in
@@ -209,11 +209,11 @@ all_placed kind (e ∷ es) old other new new' same fresh one two =
     all_placed kind es one.0 two.0 new new' (placed_one kind e.0 e.1 same.0 old other one.0 two.0 same.1 fresh one.1 two.1) (placed_fresh kind e.0 e.1 old one.0 fresh one.1) one.2 two.2
 
 pub opening_is_one : OpeningIsOne
-unfolding same_renaming
+unfolding same_permutation
 opening_is_one image settings placers taps book other one two =
-    let empty = empty_alike image settings one.empty two.empty one.is_empty two.is_empty same_renaming refl in
+    let empty = empty_alike image settings one.empty two.empty one.is_empty two.is_empty same_permutation refl in
     all_placed image.kind (enumerate_from 0 image.tasks) (opening_book one.empty placers taps) (opening_book two.empty placers taps) book other
-    (same_renaming, record { view = empty; placers = refl; taps = refl; steps = refl; stopped = refl })
+    (same_permutation, record { view = empty; placers = refl; taps = refl; steps = refl; stopped = refl })
     (empty_fresh image settings one.empty one.is_empty) one.placed two.placed
 
 -- so a script from the opening on says and leaves the same

@@ -14,13 +14,13 @@ use Rattle.spec_law.specs.Sound.{Sound}
 use Rattle.event_def.specs.declared.event.Event.{Event}
 use Rattle.event_def.specs.declared.event.Event.TheVariants as event
 use Rattle.event_def.specs.declared.event.Reply.{Reply}
-use Rattle.event_def.specs.declared.event.Reply.TheVariants as reply
+use Rattle.event_def.specs.declared.event.Reply.TheVariants as replies
 use Rattle.event_def.specs.Book.{BookView, next_count}
 use Rattle.event_def.specs.Causes.{IsRefused, IsGranted}
 use Rattle.event_def.specs.Happens.{Happens, IsMade, Refuses, IsUnchanged}
 use Rattle.event_def.specs.Trace.{IsRecord, record_of, deed_of, line_of_request}
 use Rattle.event_law.proofs.Proved.{reply_is_one, refusals_change_nothing}
-use Rattle.outcome_law.specs.Alike.{Renaming, inverse_of, IsAlikeTask, AreAlike, AreAlikeBooks}
+use Rattle.outcome_law.specs.Alike.{IdPermutation, inverse_of, IsAlikeTask, AreAlike, AreAlikeBooks}
 use Rattle.outcome_law.specs.Laws.{AreSameBooks, IsSameOutcome, OutcomeIsOne}
 use Rattle.outcome_law.proofs.Alike.{alike_turned}
 use Rattle.outcome_law.proofs.Causes.{books_turned, refused_too}
@@ -29,7 +29,7 @@ use Rattle.outcome_law.proofs.Events.{OneMade, makes_one, takers, request_same}
 use Rattle.outcome_law.proofs.Leasts.{least_too}
 use Rattle.outcome_law.proofs.Picks.{task_one}
 
-module _ {N : Type 0} (image : ImageValue) (r : Renaming) (a b : View) (sound : Sound image a) (sound' : Sound image b) (alike : AreAlike r a b) where
+module _ {N : Type 0} (image : ImageValue) (r : IdPermutation) (a b : View) (sound : Sound image a) (sound' : Sound image b) (alike : AreAlike r a b) where
   -- the taps are told the same
   record_one : (event : Event N) (n m : ℕ) (new new' : View) (seen seen' : Record) → m ≡ n
       → length new'.history ≡ length new.history
@@ -51,10 +51,11 @@ module _ {N : Type 0} (image : ImageValue) (r : Renaming) (a b : View) (sound : 
   record_one (event.Coalesce tile) n m new new' seen seen' count commits one two = two ∙ ((λ i. record { deed = deed.Coalesce; tile = tile; line = None; aborted = count i; commits = commits i }) ∙ sym one)
   record_one (event.Split tile) n m new new' seen seen' count commits one two = two ∙ ((λ i. record { deed = deed.Split; tile = tile; line = None; aborted = count i; commits = commits i }) ∙ sym one)
 
-module _ {N : Type 0} (image : ImageValue) (r : Renaming) (old other new other_new : BookView) (event : Event N) (n m : ℕ)
+module _ {N : Type 0} (image : ImageValue) (r : IdPermutation) (old other new other_new : BookView) (event : Event N) (n m : ℕ)
     (sound : Sound image old.view) (sound' : Sound image other.view) (alike : AreAlikeBooks r old other) where
   -- an event that is made of both
-  made_one : IsMade old event n new → IsMade other event m other_new → IsSameOutcome reply.Ok reply.Ok n m new other_new
+  made_one : IsMade old event n new → IsMade other event m other_new
+      → IsSameOutcome replies.Ok replies.Ok n m new other_new
   made_one one two =
       let made = makes_one image r old other sound sound' alike N event n m new.view other_new.view new.placers other_new.placers one.makes two.makes in
       let commits : length other_new.view.history ≡ length new.view.history = ap (λ v. length v.history) made.alike.1.frame in
@@ -75,70 +76,70 @@ module _ {N : Type 0} (image : ImageValue) (r : Renaming) (old other new other_n
       }
 
   -- one that is refused leaves both
-  refused_one : (answer answer' : Reply) → answer' ≡ answer → (n ≡ 0) × (new ≡ old) → (m ≡ 0) × (other_new ≡ other)
-      → IsSameOutcome answer answer' n m new other_new
-  refused_one answer answer' same one two = record {
+  refused_one : (reply reply' : Reply) → reply' ≡ reply → (n ≡ 0) × (new ≡ old) → (m ≡ 0) × (other_new ≡ other)
+      → IsSameOutcome reply reply' n m new other_new
+  refused_one reply reply' same one two = record {
     reply_is = same;
     aborted_is = two.0 ∙ sym one.0;
     books =
         (r, subst (λ (x : BookView). AreAlikeBooks r x other_new) (sym one.1) (subst (λ (y : BookView). AreAlikeBooks r old y) (sym two.1) alike));
   }
 
-module _ {N : Type 0} (r : Renaming) (old other new : BookView) (event : Event N) (n : ℕ) (alike : AreAlikeBooks r old other) where
-  refuses_too : (answer : Reply) → Refuses old event answer n new → Refuses other event answer 0 other
-  refuses_too answer is = record {
+module _ {N : Type 0} (r : IdPermutation) (old other new : BookView) (event : Event N) (n : ℕ) (alike : AreAlikeBooks r old other) where
+  refuses_too : (reply : Reply) → Refuses old event reply n new → Refuses other event reply 0 other
+  refuses_too reply is = record {
     goes_on = alike.stopped ∙ is.goes_on;
-    refused = refused_too r old other alike event answer is.refused;
+    refused = refused_too r old other alike event reply is.refused;
     unchanged = record { none = refl; same = refl };
   }
 
   -- a refusal is one in the other book too
-  pub refusal_too : (answer : Reply) → answer ≢ reply.Ok → answer ≢ reply.Memory → Happens old event answer n new
-      → Happens other event answer 0 other
-  refusal_too reply.Ok not_made has happens = absurd (not_made refl)
-  refusal_too reply.Empty not_made has happens = refuses_too reply.Empty happens
-  refusal_too reply.Busy not_made has happens = refuses_too reply.Busy happens
-  refusal_too reply.Stall not_made has happens = refuses_too reply.Stall happens
-  refusal_too reply.Stale not_made has happens = refuses_too reply.Stale happens
-  refusal_too reply.Firm not_made has happens = refuses_too reply.Firm happens
-  refusal_too reply.Ended not_made has happens = refuses_too reply.Ended happens
-  refusal_too reply.Memory not_made has happens = absurd (has refl)
+  pub refusal_too : (reply : Reply) → reply ≢ replies.Ok → reply ≢ replies.Memory → Happens old event reply n new
+      → Happens other event reply 0 other
+  refusal_too replies.Ok not_made has happens = absurd (not_made refl)
+  refusal_too replies.Empty not_made has happens = refuses_too replies.Empty happens
+  refusal_too replies.Busy not_made has happens = refuses_too replies.Busy happens
+  refusal_too replies.Stall not_made has happens = refuses_too replies.Stall happens
+  refusal_too replies.Stale not_made has happens = refuses_too replies.Stale happens
+  refusal_too replies.Firm not_made has happens = refuses_too replies.Firm happens
+  refusal_too replies.Ended not_made has happens = refuses_too replies.Ended happens
+  refusal_too replies.Memory not_made has happens = absurd (has refl)
 
-is_ok_or_not : (answer : Reply) → (answer ≡ reply.Ok) ⊎ (answer ≢ reply.Ok)
-is_ok_or_not reply.Ok = inl refl
-is_ok_or_not reply.Empty = inr (λ e. absurd (cc (e)))
-is_ok_or_not reply.Busy = inr (λ e. absurd (cc (e)))
-is_ok_or_not reply.Stall = inr (λ e. absurd (cc (e)))
-is_ok_or_not reply.Stale = inr (λ e. absurd (cc (e)))
-is_ok_or_not reply.Firm = inr (λ e. absurd (cc (e)))
-is_ok_or_not reply.Ended = inr (λ e. absurd (cc (e)))
-is_ok_or_not reply.Memory = inr (λ e. absurd (cc (e)))
+is_ok_or_not : (reply : Reply) → (reply ≡ replies.Ok) ⊎ (reply ≢ replies.Ok)
+is_ok_or_not replies.Ok = inl refl
+is_ok_or_not replies.Empty = inr (λ e. absurd (cc (e)))
+is_ok_or_not replies.Busy = inr (λ e. absurd (cc (e)))
+is_ok_or_not replies.Stall = inr (λ e. absurd (cc (e)))
+is_ok_or_not replies.Stale = inr (λ e. absurd (cc (e)))
+is_ok_or_not replies.Firm = inr (λ e. absurd (cc (e)))
+is_ok_or_not replies.Ended = inr (λ e. absurd (cc (e)))
+is_ok_or_not replies.Memory = inr (λ e. absurd (cc (e)))
 
-module _ (N : Type 0) (image : ImageValue) (r : Renaming) (old other new other_new : BookView) (event : Event N) (answer answer' : Reply) (n m : ℕ)
+module _ (N : Type 0) (image : ImageValue) (r : IdPermutation) (old other new other_new : BookView) (event : Event N) (reply reply' : Reply) (n m : ℕ)
     (sound : Sound image old.view) (sound' : Sound image other.view) (alike : AreAlikeBooks r old other)
-    (one : Happens old event answer n new) (two : Happens other event answer' m other_new) (has : answer ≢ reply.Memory) (has' : answer' ≢ reply.Memory) where
-  same_reply : (answer ≡ reply.Ok) ⊎ (answer ≢ reply.Ok) → (answer' ≡ reply.Ok) ⊎ (answer' ≢ reply.Ok)
-      → answer' ≡ answer
+    (one : Happens old event reply n new) (two : Happens other event reply' m other_new) (has : reply ≢ replies.Memory) (has' : reply' ≢ replies.Memory) where
+  same_reply : (reply ≡ replies.Ok) ⊎ (reply ≢ replies.Ok) → (reply' ≡ replies.Ok) ⊎ (reply' ≢ replies.Ok)
+      → reply' ≡ reply
   same_reply (inl made) (inl made') = made' ∙ sym made
   same_reply (inr refused) second =
-      reply_is_one N other other_new other event answer' answer m 0 two (refusal_too r old other new event n alike answer refused has one) has' has
+      reply_is_one N other other_new other event reply' reply m 0 two (refusal_too r old other new event n alike reply refused has one) has' has
   same_reply (inl made) (inr refused) =
-      reply_is_one N old old new event answer' answer 0 n (refusal_too (inverse_of r) other old other_new event m (books_turned r old other alike) answer' refused has' two) one has' has
+      reply_is_one N old old new event reply' reply 0 n (refusal_too (inverse_of r) other old other_new event m (books_turned r old other alike) reply' refused has' two) one has' has
 
-  by_reply : (answer ≡ reply.Ok) ⊎ (answer ≢ reply.Ok) → answer' ≡ answer
-      → IsSameOutcome answer answer' n m new other_new
+  by_reply : (reply ≡ replies.Ok) ⊎ (reply ≢ replies.Ok) → reply' ≡ reply
+      → IsSameOutcome reply reply' n m new other_new
   by_reply (inl made) same =
-      let ok : IsSameOutcome reply.Ok reply.Ok n m new other_new = made_one image r old other new other_new event n m sound sound' alike
+      let ok : IsSameOutcome replies.Ok replies.Ok n m new other_new = made_one image r old other new other_new event n m sound sound' alike
       (subst (λ x. Happens old event x n new) made one) (subst (λ x. Happens other event x m other_new) (same ∙ made) two) in
       record { reply_is = same; aborted_is = ok.aborted_is; books = ok.books }
   by_reply (inr refused) same =
-      refused_one image r old other new other_new event n m sound sound' alike answer answer' same
-      (refusals_change_nothing N old new event answer n one refused) (refusals_change_nothing N other other_new event answer' m two (λ e. refused (sym same ∙ e)))
+      refused_one image r old other new other_new event n m sound sound' alike reply reply' same
+      (refusals_change_nothing N old new event reply n one refused) (refusals_change_nothing N other other_new event reply' m two (λ e. refused (sym same ∙ e)))
 
-  pub one_outcome : IsSameOutcome answer answer' n m new other_new
-  one_outcome = by_reply (is_ok_or_not answer) (same_reply (is_ok_or_not answer) (is_ok_or_not answer'))
+  pub one_outcome : IsSameOutcome reply reply' n m new other_new
+  one_outcome = by_reply (is_ok_or_not reply) (same_reply (is_ok_or_not reply) (is_ok_or_not reply'))
 
 -- what comes of an event is one thing
 pub outcome_is_one : (N : Type 0) → OutcomeIsOne N
-outcome_is_one N image old other new other_new event answer answer' n m sound sound' same one two has has' =
-    one_outcome N image same.0 old other new other_new event answer answer' n m sound sound' same.1 one two has has'
+outcome_is_one N image old other new other_new event reply reply' n m sound sound' same one two has has' =
+    one_outcome N image same.0 old other new other_new event reply reply' n m sound sound' same.1 one two has has'

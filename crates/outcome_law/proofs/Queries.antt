@@ -10,7 +10,7 @@ use Rattle.spec_state.specs.Tasks.{is_dispatched}
 use Rattle.spec_state.specs.Least.{Precedes}
 use Rattle.spec_state.specs.Queries.{IsQueued, IsIdle, IsLeastIdle, IsIdleFirm, IsDispatched, IsOnCore, IsRunning}
 use Rattle.spec_state.specs.Queries.{IsFinished, IsLatest, IsFreeCore, IsLowestFree, IsLater, HasLine, Conflicts}
-use Rattle.outcome_law.specs.Alike.{Renaming, inverse_of, IsAlikeTask, AreAlike}
+use Rattle.outcome_law.specs.Alike.{IdPermutation, inverse_of, IsAlikeTask, AreAlike}
 use Rattle.outcome_law.proofs.Alike.{partner, alike_turned}
 use Rattle.outcome_law.proofs.Leasts.{queue_too, finished_too, cores_too, firm_too, precedes_too}
 use Rattle.outcome_law.proofs.Lists.{contains_mapped}
@@ -24,7 +24,7 @@ pub record Too (to : ℕ → ℕ) (kind : ℕ → Task → Type 0) (k : ℕ) (x 
 key_same : (to : ℕ → ℕ) (x y : Task) → IsAlikeTask to x y → y.key ≡ x.key
 key_same to x y alike = ap (λ t. t.key) alike.other_is
 
-module _ (r : Renaming) (a b : View) (alike : AreAlike r a b) where
+module _ (r : IdPermutation) (a b : View) (alike : AreAlike r a b) where
   pub is_queued_too : (tile k : ℕ) → IsQueued a tile k → IsQueued b tile (r.to k)
   is_queued_too tile k is =
       subst (λ (q : List ℕ). Contains q (r.to k)) (sym (queue_too r a b alike tile)) (contains_mapped r.to (queue_at a tile) k is)
@@ -34,7 +34,12 @@ module _ (r : Renaming) (a b : View) (alike : AreAlike r a b) where
       let p = partner r a b alike k x is.there in
       record {
         y = p.y;
-        is = record { queued = is_queued_too tile k is.queued; there = p.there; idle = ap (λ t. t.status) p.alike.other_is ∙ is.idle };
+        is =
+            record {
+              queued = is_queued_too tile k is.queued;
+              there = p.there;
+              idle = ap (λ t. t.status) p.alike.other_is ∙ is.idle;
+            };
         alike = p.alike;
       }
 
@@ -43,7 +48,12 @@ module _ (r : Renaming) (a b : View) (alike : AreAlike r a b) where
       let p = partner r a b alike k x is.there in
       record {
         y = p.y;
-        is = record { queued = is_queued_too tile k is.queued; there = p.there; dispatched = ap is_dispatched p.alike.other_is ∙ is.dispatched };
+        is =
+            record {
+              queued = is_queued_too tile k is.queued;
+              there = p.there;
+              dispatched = ap is_dispatched p.alike.other_is ∙ is.dispatched;
+            };
         alike = p.alike;
       }
 
@@ -122,7 +132,7 @@ module _ (r : Renaming) (a b : View) (alike : AreAlike r a b) where
       record { other = l.y; later = l.is; has_line = line_too write is.other l.y line l.alike is.has_line }
 
 -- the partner of the latest of a kind is the latest of the kind of the partners
-pub latest_too : (r : Renaming) (kind kind' : ℕ → Task → Type 0)
+pub latest_too : (r : IdPermutation) (kind kind' : ℕ → Task → Type 0)
     → ((k : ℕ) (x : Task) → kind k x → Too r.to kind' k x) → ((k : ℕ) (x : Task) → kind' k x → Too r.from kind k x)
     → (k : ℕ) (x : Task) → IsLatest kind k x → Too r.to (IsLatest kind') k x
 latest_too r kind kind' on back k x is =
@@ -138,7 +148,7 @@ latest_too r kind kind' on back k x is =
       alike = t.alike;
     }
 
-module _ (r : Renaming) (a b : View) (alike : AreAlike r a b) where
+module _ (r : IdPermutation) (a b : View) (alike : AreAlike r a b) where
   -- the way back
   back : AreAlike (inverse_of r) b a
   back = alike_turned r a b alike

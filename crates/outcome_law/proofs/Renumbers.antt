@@ -11,7 +11,7 @@ use Rattle.spec_state.specs.Groups.{all_spilled}
 use Rattle.spec_state.specs.Numbers.{IsTieOf, IsInUse, on_path, in_domain, of_task, of_spilled, IsNumberTable}
 use Rattle.spec_state.specs.Numbers.{renumbered_task, Renumbers, FreesNumber, has_free, renumbers}
 use Rattle.spec_state.proofs.Proved.{map_at}
-use Rattle.outcome_law.specs.Alike.{Renaming, inverse_of, IsAlikeAt, AreAlike}
+use Rattle.outcome_law.specs.Alike.{IdPermutation, inverse_of, IsAlikeAt, AreAlike}
 use Rattle.outcome_law.proofs.Alike.{partner, alike_turned}
 use Rattle.outcome_law.proofs.Chosen.{rises, one_order}
 use Rattle.spec_law.proofs.Proved.{contains_in, in_contains}
@@ -29,7 +29,7 @@ table_is_one view table other one two =
     (λ x at. contains_in other x ((two.exact x).1 ((one.exact x).0 (in_contains table x at))))
     (λ x at. contains_in table x ((one.exact x).1 ((two.exact x).0 (in_contains other x at))))
 
-module _ (r : Renaming) (a b : View) (alike : AreAlike r a b) where
+module _ (r : IdPermutation) (a b : View) (alike : AreAlike r a b) where
   in_use_too : (number : ℕ) → IsInUse a number → IsInUse b number
   in_use_too number (on_path is) = on_path (subst (λ p. IsTieOf p number) (sym (ap (λ v. v.path) alike.frame)) is)
   in_use_too number (in_domain id task there is) =
@@ -58,7 +58,7 @@ renumbered_at old new table is k =
     ap (λ (ts : List (Option Task)). slice_index_or ts k None) is
     ∙ map_at (option_map (renumbered_task table)) old.tasks k None
 
-module _ (r : Renaming) (a b : View) (alike : AreAlike r a b) where
+module _ (r : IdPermutation) (a b : View) (alike : AreAlike r a b) where
   table_too : (table : List ℕ) → IsNumberTable a table → IsNumberTable b table
   table_too table is = record {
     rising = is.rising;

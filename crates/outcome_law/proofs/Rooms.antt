@@ -21,9 +21,9 @@ use Rattle.event_def.specs.Events.{FreesCore, FreesCommit}
 use Rattle.event_def.specs.Events as ended
 use Rattle.spec_law.specs.Sound.{SoundOrder}
 use Rattle.spec_law.proofs.Proved.{in_contains, not_both_ways}
-use Rattle.outcome_law.specs.Alike.{Renaming, inverse_of, IsAlikeTask, AreAlike}
+use Rattle.outcome_law.specs.Alike.{IdPermutation, inverse_of, IsAlikeTask, AreAlike}
 use Rattle.outcome_law.proofs.Alike.{partner, alike_turned, task_turned}
-use Rattle.outcome_law.proofs.Aborts.{AreFirsts, AbortAlike, aborts_alike, one_to, live_renamed}
+use Rattle.outcome_law.proofs.Aborts.{AreFirsts, AbortAlike, aborts_alike, one_to, live_permuted}
 use Rattle.outcome_law.proofs.Anew.{HoldsTasks, IsThere}
 use Rattle.outcome_law.proofs.Leasts.{queue_too, finished_too, firm_too, precedes_too, the_least_too, spilled_too}
 use Rattle.outcome_law.proofs.Moves.{movable_too, coalesces_alike}
@@ -36,14 +36,14 @@ asker_too to (Enqueuer id) = Enqueuer (to id)
 asker_too to Splitter = Splitter
 
 -- an abort of one task, and of its partner
-one_first : (r : Renaming) (a : View) (v w : ℕ) (x : Task) → task_at a v ≡ Some x → w ≡ r.to v
+one_first : (r : IdPermutation) (a : View) (v w : ℕ) (x : Task) → task_at a v ≡ Some x → w ≡ r.to v
     → AreFirsts r a (OnlyNode v) (OnlyNode w)
 one_first r a v w x there same = record {
   there = λ k is. (x, ap (task_at a) is ∙ there);
   to = λ k is. ap r.to is ∙ sym same;
 }
 
-module _ (r : Renaming) (a b : View) (alike : AreAlike r a b) where
+module _ (r : IdPermutation) (a b : View) (alike : AreAlike r a b) where
   pub abort_of_one : (v w : ℕ) (x y : Task) → task_at a v ≡ Some x → task_at b w ≡ Some y → w ≡ r.to v
       → (n m : ℕ) (a' b' : View) → Aborts (OnlyNode v) a n a' → Aborts (OnlyNode w) b m b' → AbortAlike r n m a' b'
   abort_of_one v w x y there there' same n m a' b' one two =
@@ -79,18 +79,18 @@ module _ (r : Renaming) (a b : View) (alike : AreAlike r a b) where
       by_list (k ∷ ids) is =
           none k (c.chosen.movable k (subst (λ (l : List ℕ). Contains l k) (sym is) (in_contains (k ∷ ids) k (inl refl))))
 
-enqueuer_back : (r : Renaming) (k : ℕ) → asker_too r.to (Enqueuer (r.from k)) ≡ Enqueuer k
+enqueuer_back : (r : IdPermutation) (k : ℕ) → asker_too r.to (Enqueuer (r.from k)) ≡ Enqueuer k
 enqueuer_back r k = ap Enqueuer (r.forth k)
 
 same_enqueuer : (k j : ℕ) → Enqueuer k ≡ Enqueuer j → k ≡ j
 same_enqueuer k j e = cc
 
 -- who asks is this one where it is so under the other ids
-asker_is : (r : Renaming) (asker : Asker) (k : ℕ) → asker_too r.to asker ≡ Enqueuer (r.to k) → asker ≡ Enqueuer k
+asker_is : (r : IdPermutation) (asker : Asker) (k : ℕ) → asker_too r.to asker ≡ Enqueuer (r.to k) → asker ≡ Enqueuer k
 asker_is r (Enqueuer id) k e = ap Enqueuer (one_to r id k (same_enqueuer (r.to id) (r.to k) e))
 asker_is r Splitter k e = absurd (cc (e))
 
-module _ (r : Renaming) (a b : View) (alike : AreAlike r a b) (tile : ℕ) (asker : Asker) where
+module _ (r : IdPermutation) (a b : View) (alike : AreAlike r a b) (tile : ℕ) (asker : Asker) where
   pub none_moves_too : NoneMoves a tile → NoneMoves b tile
   none_moves_too none k movable =
       none (r.from k) (movable_too (inverse_of r) b a (alike_turned r a b alike) tile k movable)
@@ -135,7 +135,7 @@ creator_there view holds v x c there made =
     let l = live_is x.creator c made in
     subst (IsThere view) l.3 (holds.creators v x l.0 l.1 there l.2)
 
-module _ (r : Renaming) (a b : View) (alike : AreAlike r a b) (tile : ℕ) (asker : Asker) where
+module _ (r : IdPermutation) (a b : View) (alike : AreAlike r a b) (tile : ℕ) (asker : Asker) where
   -- what two victims have in common
   record OneVictim (v w : ℕ) (x y : Task) : Type 0 where
     id : w ≡ r.to v
@@ -188,7 +188,7 @@ module _ (r : Renaming) (a b : View) (alike : AreAlike r a b) (tile : ℕ) (aske
       absurd (loose (firm_too (inverse_of r) b a (alike_turned r a b alike) y x (task_turned r x y same.task) firm))
   rooms_alike holds (aborts_creator n v c x new full none least victim loose made aborts) (aborts_creator m w d y new' full' none' least' victim' loose' made' aborts') =
       let same = victims v w x y victim victim' in
-      let ids : Some d ≡ Some (r.to c) = sym made' ∙ (ap (λ t. live_creator t.creator) same.task.other_is ∙ (live_renamed r.to x.creator ∙ ap (option_map r.to) made)) in
+      let ids : Some d ≡ Some (r.to c) = sym made' ∙ (ap (λ t. live_creator t.creator) same.task.other_is ∙ (live_permuted r.to x.creator ∙ ap (option_map r.to) made)) in
       let id : d ≡ r.to c = cc in
       creator_taken c d id (creator_there a holds v x c victim.there made) n m new new' aborts aborts'
     where
@@ -202,7 +202,7 @@ module _ (r : Renaming) (a b : View) (alike : AreAlike r a b) (tile : ℕ) (aske
 
 -- ---- cores and commit queues
 
-module _ (r : Renaming) (a b : View) (alike : AreAlike r a b) (heir : Option ℕ) (order : SoundOrder b heir) where
+module _ (r : IdPermutation) (a b : View) (alike : AreAlike r a b) (heir : Option ℕ) (order : SoundOrder b heir) where
   -- the latest of a kind is one, and is taken back alike
   pub latest_taken : (kind kind' : ℕ → Task → Type 0)
       → ((k : ℕ) (x : Task) → kind k x → Too r.to kind' k x) → ((k : ℕ) (x : Task) → kind' k x → Too r.from kind k x)

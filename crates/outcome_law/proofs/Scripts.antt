@@ -13,7 +13,7 @@ use Rattle.event_def.specs.declared.event.Advance.TheVariants as answers
 use Rattle.event_def.specs.declared.event.Event.{Event}
 use Rattle.event_def.specs.declared.event.Event.TheVariants as event
 use Rattle.event_def.specs.declared.event.Reply.{Reply}
-use Rattle.event_def.specs.declared.event.Reply.TheVariants as reply
+use Rattle.event_def.specs.declared.event.Reply.TheVariants as replies
 use Rattle.event_def.specs.Advancing.{AdvanceAnswers, IsNoCommit, IsNextEvent}
 use Rattle.event_def.specs.End.{IsOver}
 use Rattle.event_def.specs.Events.{IsGiven}
@@ -30,7 +30,7 @@ use Rattle.step_script.specs.Playing.{step_runs, step_ended, step_stale, take_ho
 use Rattle.step_script.specs.Playing.{give_stale}
 use Rattle.step_script.specs.Ranges.{ActIsInRange}
 use Rattle.step_script.proofs.Proved.{AreRuns, held_runs, without_runs, ended_runs}
-use Rattle.outcome_law.specs.Alike.{Renaming, inverse_of, AreAlike}
+use Rattle.outcome_law.specs.Alike.{IdPermutation, inverse_of, AreAlike}
 use Rattle.outcome_law.specs.Laws.{AreSameBooks, PlayIsOne}
 use Rattle.outcome_law.proofs.Alike.{alike_turned}
 use Rattle.outcome_law.proofs.Leasts.{over_too}
@@ -53,7 +53,7 @@ record SaysOne (image : ImageValue) (settings : Settings) (said said' : Said) (p
   go : GoAlike image settings p q
 
 module _ (N : Type 0) (image : ImageValue) (settings : Settings) (p q p' q' : PlayState) (said said' : Said) (go : GoAlike image settings p q) where
-  r : Renaming
+  r : IdPermutation
   r = go.books.0
 
   views : AreAlike go.books.0 p.book.view q.book.view
@@ -91,9 +91,9 @@ module _ (N : Type 0) (image : ImageValue) (settings : Settings) (p q p' q' : Pl
   makes_says e given one two =
       hands_one e given one.hands_in two.hands_in (two.held ∙ (go.held ∙ sym one.held)) (subst (AreRuns image settings) (sym one.held) go.runs)
 
-  stays_one : (answer : Reply) → Stays answer p said p' → Stays answer q said' q'
+  stays_one : (reply : Reply) → Stays reply p said p' → Stays reply q said' q'
       → SaysOne image settings said said' p' q'
-  stays_one answer one two = record {
+  stays_one reply one two = record {
     same = two.word ∙ sym one.word;
     go =
         subst (λ x. GoAlike image settings x q') (sym one.same) (subst (λ y. GoAlike image settings p y) (sym two.same) go);
@@ -147,20 +147,20 @@ module _ (N : Type 0) (image : ImageValue) (settings : Settings) (p q p' q' : Pl
   steps_one tile core in_tile in_core (step_ended over stays) (step_runs leg on has makes) =
       absurd (on (over_there over))
   steps_one tile core in_tile in_core (step_ended over stays) (step_ended over' stays') =
-      stays_one reply.Ended stays stays'
+      stays_one replies.Ended stays stays'
   steps_one tile core in_tile in_core (step_ended over stays) (step_stale on none stays') =
       absurd (on (over_there over))
   steps_one tile core in_tile in_core (step_stale on none stays) (step_runs leg on' has makes) =
       absurd (none_here tile core leg has none)
   steps_one tile core in_tile in_core (step_stale on none stays) (step_ended over stays') = absurd (on (over_here over))
   steps_one tile core in_tile in_core (step_stale on none stays) (step_stale on' none' stays') =
-      stays_one reply.Stale stays stays'
+      stays_one replies.Stale stays stays'
 
   -- the held legs alone change
-  holds_one : (answer : Reply) (list : List HeldLeg) → said ≡ plainly answer → said' ≡ plainly answer
+  holds_one : (reply : Reply) (list : List HeldLeg) → said ≡ plainly reply → said' ≡ plainly reply
       → p' ≡ record p { held = list } → q' ≡ record q { held = list } → AreRuns image settings list
       → SaysOne image settings said said' p' q'
-  holds_one answer list word word' one two runs = record {
+  holds_one reply list word word' one two runs = record {
     same = word' ∙ sym word;
     go =
         subst (λ x. GoAlike image settings x q') (sym one) (subst (λ y. GoAlike image settings (record p { held = list }) y) (sym two)
@@ -172,14 +172,14 @@ module _ (N : Type 0) (image : ImageValue) (settings : Settings) (p q p' q' : Pl
   takes_one tile core (take_holds leg has word now) (take_holds leg' has' word' now') =
       let same = legs_one tile core leg leg' has has' in
       let list : q' ≡ record q { held = holding tile core leg p.held } = now' ∙ (λ i. record q { held = holding tile core (same i) (go.held i) }) in
-      holds_one reply.Ok (holding tile core leg p.held) word word' now list
+      holds_one replies.Ok (holding tile core leg p.held) word word' now list
       (ended_runs image settings tile core (without_held_leg tile core p.held) (record { tile = tile; core = core; leg = leg }) (without_runs image settings tile core p.held go.runs) (leg_runs tile core leg has))
   takes_one tile core (take_holds leg has word now) (take_stale none word' now') =
       absurd (none_there tile core leg has none)
   takes_one tile core (take_stale none word now) (take_holds leg has word' now') =
       absurd (none_here tile core leg has none)
   takes_one tile core (take_stale none word now) (take_stale none' word' now') =
-      holds_one reply.Stale (without_held_leg tile core p.held) word word' now (now' ∙ ap (λ l. record q { held = without_held_leg tile core l }) go.held) (without_runs image settings tile core p.held go.runs)
+      holds_one replies.Stale (without_held_leg tile core p.held) word word' now (now' ∙ ap (λ l. record q { held = without_held_leg tile core l }) go.held) (without_runs image settings tile core p.held go.runs)
 
   gives_one : (tile core : ℕ) → tile < settings.tiles → core < settings.cores → Gives N tile core p said p'
       → Gives N tile core q said' q' → SaysOne image settings said said' p' q'
@@ -195,36 +195,36 @@ module _ (N : Type 0) (image : ImageValue) (settings : Settings) (p q p' q' : Pl
   gives_one tile core in_tile in_core (give_ended over stays) (give_hands leg on is hands held) =
       absurd (on (over_there over))
   gives_one tile core in_tile in_core (give_ended over stays) (give_ended over' stays') =
-      stays_one reply.Ended stays stays'
+      stays_one replies.Ended stays stays'
   gives_one tile core in_tile in_core (give_ended over stays) (give_stale on none stays') =
       absurd (on (over_there over))
   gives_one tile core in_tile in_core (give_stale on none stays) (give_hands leg on' is hands held) =
       absurd (let clash : Some leg ≡ None = sym is ∙ (ap (held_for tile core) go.held ∙ none) in cc (clash))
   gives_one tile core in_tile in_core (give_stale on none stays) (give_ended over stays') = absurd (on (over_here over))
   gives_one tile core in_tile in_core (give_stale on none stays) (give_stale on' none' stays') =
-      stays_one reply.Stale stays stays'
+      stays_one replies.Stale stays stays'
 
   no_commit : (e : Event N) → IsNoCommit e → e ≡ event.Commit → ⊥
   no_commit e other same = subst IsNoCommit same other
 
   made_both : (e f : Event N) (said_n said_m : ℕ) → IsNextEvent image p.book.view e → IsNextEvent image q.book.view f
-      → Happens p.book e reply.Ok said_n p'.book → Happens q.book f reply.Ok said_m q'.book
+      → Happens p.book e replies.Ok said_n p'.book → Happens q.book f replies.Ok said_m q'.book
       → q'.held ≡ p'.held → p'.held ≡ p.held → (said_m ≡ said_n) × GoAlike image settings p' q'
   made_both e f n m next next' one two' held kept_held =
       let events : f ≡ e = next_one image go.books.0 p.book.view q.book.view go.books.1.view e f next.least next'.least in
-      let two : Happens q.book e reply.Ok m q'.book = subst (λ x. Happens q.book x reply.Ok m q'.book) events two' in
-      let is = outcome_is_one N image p.book q.book p'.book q'.book e reply.Ok reply.Ok n m go.sound go.sound' go.books one two (λ c. absurd (cc (c))) (λ c. absurd (cc (c))) in
-      let kept = happens_keeps N image p.book p'.book e n (next_event_is_given N image p.book.view e go.sound next) go.sound reply.Ok one in
-      let kept' = happens_keeps N image q.book q'.book f m (next_event_is_given N image q.book.view f go.sound' next') go.sound' reply.Ok two' in
+      let two : Happens q.book e replies.Ok m q'.book = subst (λ x. Happens q.book x replies.Ok m q'.book) events two' in
+      let is = outcome_is_one N image p.book q.book p'.book q'.book e replies.Ok replies.Ok n m go.sound go.sound' go.books one two (λ c. absurd (cc (c))) (λ c. absurd (cc (c))) in
+      let kept = happens_keeps N image p.book p'.book e n (next_event_is_given N image p.book.view e go.sound next) go.sound replies.Ok one in
+      let kept' = happens_keeps N image q.book q'.book f m (next_event_is_given N image q.book.view f go.sound' next') go.sound' replies.Ok two' in
       (is.aborted_is, record { books = is.books; held = held; sound = kept.now; sound' = kept'.now; settings_are = kept.settings ∙ go.settings_are; runs = subst (AreRuns image settings) (sym kept_held) go.runs })
 
   advances_one : (x y : Advance) → said_of x ≡ Some said → said_of y ≡ Some said'
       → AdvanceAnswers N image p.book x p'.book → AdvanceAnswers N image q.book y q'.book → p'.held ≡ p.held
       → q'.held ≡ q.held → SaysOne image settings said said' p' q'
   advances_one (answers.Ended end) (answers.Ended other) says says' one two held held' =
-      let word : plainly reply.Ended ≡ said = cc in
-      let word' : plainly reply.Ended ≡ said' = cc in
-      stays_one reply.Ended (record { word = sym word; same = λ i. record { book = one.2 i; held = held i } }) (record { word = sym word'; same = λ i. record { book = two.2 i; held = held' i } })
+      let word : plainly replies.Ended ≡ said = cc in
+      let word' : plainly replies.Ended ≡ said' = cc in
+      stays_one replies.Ended (record { word = sym word; same = λ i. record { book = one.2 i; held = held i } }) (record { word = sym word'; same = λ i. record { book = two.2 i; held = held' i } })
   advances_one (answers.Ended end) answers.Committed says says' one two held held' =
       absurd (two.0.goes_on (over_there (end, one.1)))
   advances_one (answers.Ended end) (answers.Moved m) says says' one two held held' =

@@ -10,24 +10,24 @@ use Rattle.event_def.specs.Book.{BookView}
 
 -- each id is given an id, maybe the same, and no two are given the same one: all ids, so that it maps lists of them,
 -- and a new task swaps two of them
-pub record Renaming : Type 0 where
+pub record IdPermutation : Type 0 where
   pub to : ℕ → ℕ
   pub from : ℕ → ℕ
   pub back : (k : ℕ) → from (to k) ≡ k
   pub forth : (k : ℕ) → to (from k) ≡ k
 
 -- the ids the other way round
-abbrev pub inverse_of : Renaming → Renaming
+abbrev pub inverse_of : IdPermutation → IdPermutation
 inverse_of r = record { to = r.from; from = r.to; back = r.forth; forth = r.back }
 
 -- the creator under the id that it is given
-abbrev pub renamed_creator : (ℕ → ℕ) → Creator → Creator
-renamed_creator to (Committed turn index) = Committed turn index
-renamed_creator to (Live task index) = Live (record { 0 = to task.0 }) index
+abbrev pub permuted_creator : (ℕ → ℕ) → Creator → Creator
+permuted_creator to (Committed turn index) = Committed turn index
+permuted_creator to (Live task index) = Live (record { 0 = to task.0 }) index
 
 -- the second task is the first one, its creator has the other id, and its filter answers alike
 pub record IsAlikeTask (to : ℕ → ℕ) (x y : Task) : Type 0 where
-  pub other_is : y ≡ record x { creator = renamed_creator to x.creator; lines = y.lines }
+  pub other_is : y ≡ record x { creator = permuted_creator to x.creator; lines = y.lines }
   pub touched : (line : ℕ) → has_touched y line ≡ has_touched x line
   pub written : (line : ℕ) → has_written y line ≡ has_written x line
 
@@ -39,7 +39,7 @@ IsAlikeAt to None (Some y) = ⊥
 IsAlikeAt to (Some x) None = ⊥
 
 -- the second view is the first one under other ids
-pub record AreAlike (r : Renaming) (a b : View) : Type 0 where
+pub record AreAlike (r : IdPermutation) (a b : View) : Type 0 where
   pub tasks : (k : ℕ) → IsAlikeAt r.to (task_at a k) (task_at b (r.to k))
   pub queues : b.queues ≡ map (map r.to) a.queues
   pub finished : b.finished ≡ map (map r.to) a.finished
@@ -47,7 +47,7 @@ pub record AreAlike (r : Renaming) (a b : View) : Type 0 where
   pub frame : b ≡ record a { tasks = b.tasks; queues = b.queues; finished = b.finished; cores = b.cores }
 
 -- books that are alike: their views are, and all else is the same
-pub record AreAlikeBooks (r : Renaming) (a b : BookView) : Type 0 where
+pub record AreAlikeBooks (r : IdPermutation) (a b : BookView) : Type 0 where
   pub view : AreAlike r a.view b.view
   pub placers : b.placers ≡ a.placers
   pub taps : b.taps ≡ a.taps

@@ -16,7 +16,7 @@ use Rattle.spec_law.specs.Sound.{Sound}
 use Rattle.event_def.specs.declared.event.Applied.{Applied}
 use Rattle.event_def.specs.declared.event.Event.{Event}
 use Rattle.event_def.specs.declared.event.Reply.{Reply}
-use Rattle.event_def.specs.declared.event.Reply.TheVariants as reply
+use Rattle.event_def.specs.declared.event.Reply.TheVariants as replies
 use Rattle.event_def.specs.Book.{BookView}
 use Rattle.event_def.specs.End.{HasEnd}
 use Rattle.event_def.specs.Events.{IsGiven}
@@ -25,35 +25,35 @@ use Rattle.step_script.specs.declared.act.Act.{Act}
 use Rattle.step_script.specs.declared.saying.Said.{Said}
 use Rattle.step_script.specs.Playing.{Plays}
 use Rattle.step_script.specs.Ranges.{ActIsInRange}
-use Rattle.outcome_law.specs.Alike.{Renaming, AreAlike, AreAlikeBooks}
+use Rattle.outcome_law.specs.Alike.{IdPermutation, AreAlike, AreAlikeBooks}
 
 -- views that are alike have the same ends
 abbrev pub EndIsAlike : Type 0
-EndIsAlike = (r : Renaming) (a b : View) (end : End) → AreAlike r a b → HasEnd a end → HasEnd b end
+EndIsAlike = (r : IdPermutation) (a b : View) (end : End) → AreAlike r a b → HasEnd a end → HasEnd b end
 
--- the books are alike under some renaming
+-- the books are alike under some permutation
 abbrev pub AreSameBooks : BookView → BookView → Type 0
-AreSameBooks a b = (r : Renaming) × AreAlikeBooks r a b
+AreSameBooks a b = (r : IdPermutation) × AreAlikeBooks r a b
 
 -- one reply, as many taken back, and books that are alike
-pub record IsSameOutcome (answer other : Reply) (aborted other_aborted : ℕ) (new other_new : BookView) : Type 0 where
-  pub reply_is : other ≡ answer
+pub record IsSameOutcome (reply other : Reply) (aborted other_aborted : ℕ) (new other_new : BookView) : Type 0 where
+  pub reply_is : other ≡ reply
   pub aborted_is : other_aborted ≡ aborted
   pub books : AreSameBooks new other_new
 
 -- what comes of one event on sound books that are alike is one thing, want of memory aside
 abbrev pub OutcomeIsOne : Type 0 → Type 0
 OutcomeIsOne N =
-    (image : ImageValue) (old other_old new other_new : BookView) (event : Event N) (answer other : Reply)
+    (image : ImageValue) (old other_old new other_new : BookView) (event : Event N) (reply other : Reply)
     (aborted other_aborted : ℕ)
     → Sound image old.view → Sound image other_old.view → AreSameBooks old other_old
-    → Happens old event answer aborted new → Happens other_old event other other_aborted other_new
-    → answer ≢ reply.Memory → other ≢ reply.Memory
-    → IsSameOutcome answer other aborted other_aborted new other_new
+    → Happens old event reply aborted new → Happens other_old event other other_aborted other_new
+    → reply ≢ replies.Memory → other ≢ replies.Memory
+    → IsSameOutcome reply other aborted other_aborted new other_new
 
 -- memory did not run out
 abbrev pub HasMemory : Applied → Type 0
-HasMemory applied = applied.reply ≢ reply.Memory
+HasMemory applied = applied.reply ≢ replies.Memory
 
 -- the same events on sound books that are alike have the same answers, want of memory aside, and leave books that
 -- are alike

@@ -3,7 +3,7 @@
 //!
 //! Each change of a state is as its definition says and keeps what the state's type keeps. What takes memory takes
 //! it before its first change, so that the state stays as it was where memory runs out. Whether an event is allowed
-//! is decided above. It stands on the state; `event_move`, `event_room` and the book call it. A commit with children
+//! is decided above. It stands on the state; `event_move`, `event_prelude` and the book call it. A commit with children
 //! costs a look at each child where it was put, and at each slot of tasks only where the notes of children aren't
 //! complete; events leave them complete.
 #![tactic(auto)]

@@ -24,7 +24,7 @@ use Rattle.event_def.specs.declared.event.Reply.TheVariants as reply
 use Rattle.event_def.specs.Advancing.{IsNextEvent}
 use Rattle.event_def.specs.Book.{BookView}
 use Rattle.event_def.specs.End.{IsOver}
-use Rattle.event_lemma.proofs.Proved.{next_is_step, trapped_is_over}
+use Rattle.event_basis.proofs.Proved.{next_is_step, trapped_is_over}
 use Rattle.step_script.specs.declared.act.Act.{Act}
 use Rattle.step_script.specs.declared.act.Act.TheVariants as acts
 use Rattle.step_script.specs.Playing.{HasLegAt, HeldLeg, PlayerValue, held_for, holding}

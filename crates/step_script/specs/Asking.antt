@@ -8,7 +8,7 @@ use Rattle.spec_state.specs.Effects.{EffectValue}
 use Rattle.event_def.specs.declared.event.Event.{Event}
 use Rattle.event_def.specs.declared.event.Event.TheVariants as event
 use Rattle.event_def.specs.declared.event.Reply.{Reply}
-use Rattle.event_def.specs.declared.event.Reply.TheVariants as reply
+use Rattle.event_def.specs.declared.event.Reply.TheVariants as replies
 use Rattle.event_def.specs.Advancing.{IsNextEvent}
 use Rattle.event_def.specs.Book.{BookView}
 use Rattle.event_def.specs.End.{IsOver}
@@ -32,13 +32,13 @@ pub data Attempt (N : Type 0) : Type 0 where
 abbrev pub asks_of : {N : Type 0} → Asked → LegValue → Attempt N
 asks_of (asked.Legless event) leg = Hands (event_of event)
 asks_of (asked.Ready tile core) leg = Hands (event.Step tile core leg)
-asks_of (asked.Says answer) leg = Says answer
+asks_of (asked.Says reply) leg = Says reply
 
 -- the tile and the core that it names are there
 abbrev pub AskedIsInRange : Type 0 → Settings → Asked → Type 0
 AskedIsInRange N settings (asked.Legless event) = IsInRange {N = N} settings (event_of event)
 AskedIsInRange N settings (asked.Ready tile core) = (tile < settings.tiles) × (core < settings.cores)
-AskedIsInRange N settings (asked.Says answer) = Unit {0}
+AskedIsInRange N settings (asked.Says reply) = Unit {0}
 
 -- this event is handed in, and the legs stay that are held
 pub record HandsEvent {N : Type 0} (event : Event N) (old : PlayState) (asks : Attempt N) (held : List HeldLeg)
@@ -47,9 +47,9 @@ pub record HandsEvent {N : Type 0} (event : Event N) (old : PlayState) (asks : A
   pub held_is : held ≡ old.held
 
 -- this is said, and the legs stay that are held
-pub record SaysWord {N : Type 0} (answer : Reply) (old : PlayState) (asks : Attempt N) (held : List HeldLeg)
+pub record SaysWord {N : Type 0} (reply : Reply) (old : PlayState) (asks : Attempt N) (held : List HeldLeg)
     : Type 0 where
-  pub asks_is : asks ≡ Says answer
+  pub asks_is : asks ≡ Says reply
   pub held_is : held ≡ old.held
 
 -- `step`: the leg of the running task there; at the end of a run, and where none runs there, that is said
@@ -57,16 +57,16 @@ pub data AsksStep {N : Type 0} (image : ImageValue) (tile core : ℕ) (old : Pla
     (held : List HeldLeg) : Type 0 where
   step_runs : (leg : LegValue) → (IsOver old.book.view → ⊥) → HasLegAt image old.book.view tile core leg
       → HandsEvent (event.Step tile core leg) old asks held → AsksStep image tile core old asks held
-  step_ended : IsOver old.book.view → SaysWord reply.Ended old asks held → AsksStep image tile core old asks held
-  step_stale : (IsOver old.book.view → ⊥) → NoneRuns old.book.view tile core → SaysWord reply.Stale old asks held
+  step_ended : IsOver old.book.view → SaysWord replies.Ended old asks held → AsksStep image tile core old asks held
+  step_stale : (IsOver old.book.view → ⊥) → NoneRuns old.book.view tile core → SaysWord replies.Stale old asks held
       → AsksStep image tile core old asks held
 
 -- `take`: the leg of the running task there is held; where none runs there nothing is held for that core
 pub data AsksTake {N : Type 0} (image : ImageValue) (tile core : ℕ) (old : PlayState) (asks : Attempt N)
     (held : List HeldLeg) : Type 0 where
-  take_holds : (leg : LegValue) → HasLegAt image old.book.view tile core leg → asks ≡ Says reply.Ok
+  take_holds : (leg : LegValue) → HasLegAt image old.book.view tile core leg → asks ≡ Says replies.Ok
       → held ≡ holding tile core leg old.held → AsksTake image tile core old asks held
-  take_stale : NoneRuns old.book.view tile core → asks ≡ Says reply.Stale
+  take_stale : NoneRuns old.book.view tile core → asks ≡ Says replies.Stale
       → held ≡ without_held_leg tile core old.held → AsksTake image tile core old asks held
 
 -- `give`: the leg that is held for that core, which is no longer held then; at the end of a run it stays held
@@ -75,8 +75,8 @@ pub data AsksGive {N : Type 0} (tile core : ℕ) (old : PlayState) (asks : Attem
   give_hands : (leg : LegValue) → (IsOver old.book.view → ⊥) → held_for tile core old.held ≡ Some leg
       → asks ≡ Hands (event.Step tile core leg) → held ≡ without_held_leg tile core old.held
       → AsksGive tile core old asks held
-  give_ended : IsOver old.book.view → SaysWord reply.Ended old asks held → AsksGive tile core old asks held
-  give_stale : (IsOver old.book.view → ⊥) → held_for tile core old.held ≡ None → SaysWord reply.Stale old asks held
+  give_ended : IsOver old.book.view → SaysWord replies.Ended old asks held → AsksGive tile core old asks held
+  give_stale : (IsOver old.book.view → ⊥) → held_for tile core old.held ≡ None → SaysWord replies.Stale old asks held
       → AsksGive tile core old asks held
 
 -- `advance`: the event for the least task; at the end of a run, that is said
@@ -84,7 +84,7 @@ pub data AsksAdvance {N : Type 0} (image : ImageValue) (old : PlayState) (asks :
     : Type 0 where
   advance_next : (event : Event N) → IsNextEvent image old.book.view event → HandsEvent event old asks held
       → AsksAdvance image old asks held
-  advance_ended : IsOver old.book.view → SaysWord reply.Ended old asks held → AsksAdvance image old asks held
+  advance_ended : IsOver old.book.view → SaysWord replies.Ended old asks held → AsksAdvance image old asks held
 
 -- what an act comes to, and which legs are held then
 abbrev pub AsksFor : {N : Type 0} → ImageValue → Act → PlayState → Attempt N → List HeldLeg → Type 0
@@ -107,15 +107,15 @@ RunsOut other old new = new ≡ old
 
 -- the event has this reply; or the word is said, and nothing happens
 abbrev pub AttemptComes : {N : Type 0} → Attempt N → Reply → ℕ → BookView → BookView → Type 0
-AttemptComes (Hands event) answer aborted old new = Happens old event answer aborted new
-AttemptComes (Says word) answer aborted old new = (answer ≡ word) × (aborted ≡ 0) × (new ≡ old)
+AttemptComes (Hands event) reply aborted old new = Happens old event reply aborted new
+AttemptComes (Says word) reply aborted old new = (reply ≡ word) × (aborted ≡ 0) × (new ≡ old)
 
 -- what the event tells that it did beside its one change; of a word there is nothing to tell
 abbrev pub AttemptTells : {N : Type 0} → Attempt N → Reply → ℕ → BookView → BookView → EffectValue → Type 0
-AttemptTells (Hands event) answer aborted old new effect = HappensTelling old event answer aborted new effect
-AttemptTells (Says word) answer aborted old new effect = Unit {0}
+AttemptTells (Hands event) reply aborted old new effect = HappensTelling old event reply aborted new effect
+AttemptTells (Says word) reply aborted old new effect = Unit {0}
 
 -- what comes of it where the reply to an event isn't that memory ran out
 abbrev pub ComesOf : {N : Type 0} → Attempt N → Reply → ℕ → BookView → BookView → Type 0
-ComesOf (Hands event) answer aborted old new = (answer ≢ reply.Memory) × Happens old event answer aborted new
-ComesOf (Says word) answer aborted old new = (answer ≡ word) × (aborted ≡ 0) × (new ≡ old)
+ComesOf (Hands event) reply aborted old new = (reply ≢ replies.Memory) × Happens old event reply aborted new
+ComesOf (Says word) reply aborted old new = (reply ≡ word) × (aborted ≡ 0) × (new ≡ old)

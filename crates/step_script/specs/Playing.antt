@@ -12,7 +12,7 @@ use Rattle.event_def.specs.declared.event.Advance.TheVariants as answers
 use Rattle.event_def.specs.declared.event.Event.{Event}
 use Rattle.event_def.specs.declared.event.Event.TheVariants as event
 use Rattle.event_def.specs.declared.event.Reply.{Reply}
-use Rattle.event_def.specs.declared.event.Reply.TheVariants as reply
+use Rattle.event_def.specs.declared.event.Reply.TheVariants as replies
 use Rattle.event_def.specs.Advancing.{AdvanceAnswers, IsLegFrom}
 use Rattle.event_def.specs.Book.{BookView}
 use Rattle.event_def.specs.End.{IsOver}
@@ -60,14 +60,14 @@ pub record PlayState : Type 0 where
 
 -- this word is said, and no task was taken back
 abbrev pub plainly : Reply → Said
-plainly answer = record { word = words.Plain answer; aborted = 0 }
+plainly reply = record { word = words.Plain reply; aborted = 0 }
 
 -- the event is handed in, and its reply is said, which isn't that memory ran out
 pub record HandsIn {N : Type 0} (event : Event N) (old : BookView) (said : Said) (new : BookView) : Type 0 where
-  pub answer : Reply
-  pub word : said.word ≡ words.Plain answer
-  pub there : answer ≢ reply.Memory
-  pub happens : Happens old event answer said.aborted new
+  pub reply : Reply
+  pub word : said.word ≡ words.Plain reply
+  pub there : reply ≢ replies.Memory
+  pub happens : Happens old event reply said.aborted new
 
 -- the event is handed in, and the legs stay that are held
 pub record MakesInPlay {N : Type 0} (event : Event N) (old : PlayState) (said : Said) (new : PlayState) : Type 0 where
@@ -75,8 +75,8 @@ pub record MakesInPlay {N : Type 0} (event : Event N) (old : PlayState) (said : 
   pub held : new.held ≡ old.held
 
 -- nothing happens but that this word is said
-pub record Stays (answer : Reply) (old : PlayState) (said : Said) (new : PlayState) : Type 0 where
-  pub word : said ≡ plainly answer
+pub record Stays (reply : Reply) (old : PlayState) (said : Said) (new : PlayState) : Type 0 where
+  pub word : said ≡ plainly reply
   pub same : new ≡ old
 
 -- a task runs on that core, and this is its leg from the core that it has, with the quantum of the settings
@@ -97,16 +97,16 @@ pub data Steps (N : Type 0) (image : ImageValue) (tile core : ℕ) (old : PlaySt
     (new : PlayState) : Type 0 where
   step_runs : (leg : LegValue) → (IsOver old.book.view → ⊥) → HasLegAt image old.book.view tile core leg
       → MakesInPlay {N = N} (event.Step tile core leg) old said new → Steps N image tile core old said new
-  step_ended : IsOver old.book.view → Stays reply.Ended old said new → Steps N image tile core old said new
-  step_stale : (IsOver old.book.view → ⊥) → NoneRuns old.book.view tile core → Stays reply.Stale old said new
+  step_ended : IsOver old.book.view → Stays replies.Ended old said new → Steps N image tile core old said new
+  step_stale : (IsOver old.book.view → ⊥) → NoneRuns old.book.view tile core → Stays replies.Stale old said new
       → Steps N image tile core old said new
 
 -- `take`: the leg of the running task there is held; where none runs there nothing is held for that core. It is no
 -- event, and an end does not refuse it
 pub data Takes (image : ImageValue) (tile core : ℕ) (old : PlayState) (said : Said) (new : PlayState) : Type 0 where
-  take_holds : (leg : LegValue) → HasLegAt image old.book.view tile core leg → said ≡ plainly reply.Ok
+  take_holds : (leg : LegValue) → HasLegAt image old.book.view tile core leg → said ≡ plainly replies.Ok
       → new ≡ record old { held = holding tile core leg old.held } → Takes image tile core old said new
-  take_stale : NoneRuns old.book.view tile core → said ≡ plainly reply.Stale
+  take_stale : NoneRuns old.book.view tile core → said ≡ plainly replies.Stale
       → new ≡ record old { held = without_held_leg tile core old.held } → Takes image tile core old said new
 
 -- `give`: the leg that is held for that core is handed in, and is no longer held, whatever the reply; at the end of
@@ -116,23 +116,23 @@ pub data Gives (N : Type 0) (tile core : ℕ) (old : PlayState) (said : Said) (n
       → HandsIn {N = N} (event.Step tile core leg) old.book said new.book
       → new.held ≡ without_held_leg tile core old.held
       → Gives N tile core old said new
-  give_ended : IsOver old.book.view → Stays reply.Ended old said new → Gives N tile core old said new
-  give_stale : (IsOver old.book.view → ⊥) → held_for tile core old.held ≡ None → Stays reply.Stale old said new
+  give_ended : IsOver old.book.view → Stays replies.Ended old said new → Gives N tile core old said new
+  give_stale : (IsOver old.book.view → ⊥) → held_for tile core old.held ≡ None → Stays replies.Stale old said new
       → Gives N tile core old said new
 
 -- what is said of an advance; nothing where memory ran out
 abbrev pub said_of : Advance → Option Said
 said_of (answers.Moved aborted) = Some (record { word = words.Moved; aborted = aborted })
 said_of answers.Committed = Some (record { word = words.Committed; aborted = 0 })
-said_of (answers.Ended end) = Some (plainly reply.Ended)
+said_of (answers.Ended end) = Some (plainly replies.Ended)
 said_of answers.Memory = None
 
 -- `advance`: the event for the least task
 pub record DoesAdvance (N : Type 0) (image : ImageValue) (old : PlayState) (said : Said)
     (new : PlayState) : Type 0 where
-  pub answer : Advance
-  pub says : said_of answer ≡ Some said
-  pub answers : AdvanceAnswers N image old.book answer new.book
+  pub reply : Advance
+  pub says : said_of reply ≡ Some said
+  pub answers : AdvanceAnswers N image old.book reply new.book
   pub held : new.held ≡ old.held
 
 -- the act is played, this is said of it, and it leaves this

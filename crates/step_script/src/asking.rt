@@ -14,7 +14,7 @@ use crate::holding::{Held, forget, hand_out, hold};
 use crate::running::{leg_at, run_at};
 use conflict_book::{Book, Legless};
 use event_def::Reply;
-use event_room::least_going;
+use event_prelude::least_going;
 use guest_image::Image;
 use place_policy::Placer;
 use rv_core::{Leg, Naming};

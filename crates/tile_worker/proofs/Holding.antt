@@ -7,7 +7,7 @@ use Rattle.event_def.specs.declared.event.Advance.TheVariants as answers
 use Rattle.event_def.specs.declared.event.Event.{Event}
 use Rattle.event_def.specs.declared.event.Event.TheVariants as event
 use Rattle.event_def.specs.declared.event.Reply.{Reply}
-use Rattle.event_def.specs.declared.event.Reply.TheVariants as reply
+use Rattle.event_def.specs.declared.event.Reply.TheVariants as replies
 use Rattle.event_def.specs.Advancing.{AdvanceAnswers, IsNextEvent}
 use Rattle.event_def.specs.Book.{BookView, next_count}
 use Rattle.event_def.specs.End.{IsOver}
@@ -25,21 +25,21 @@ use Rattle.tile_worker.proofs.Growing.{event_grows, grows_refl}
 abbrev stopped : BookView → BookView
 stopped book = record book { stopped = true }
 
-module _ (N : Type 0) (old mid new : BookView) (e : Event N) (aborted : ℕ) (answer : Reply) (happens : Happens old e answer aborted mid) where
+module _ (N : Type 0) (old mid new : BookView) (e : Event N) (aborted : ℕ) (reply : Reply) (happens : Happens old e reply aborted mid) where
   -- an event that was made is one
-  pub event_made : answer ≡ reply.Ok → new ≡ mid → MakesOne N old new
+  pub event_made : reply ≡ replies.Ok → new ≡ mid → MakesOne N old new
   event_made ok same =
       subst (λ (b : BookView). MakesOne N old b) (sym same)
       (record { event = e; aborted = aborted; made = subst (λ (r : Reply). Happens old e r aborted mid) ok happens })
 
   -- one that found the run over left the book
-  pub event_ended : answer ≡ reply.Ended → new ≡ mid → IsOver old.view × (new ≡ old)
+  pub event_ended : reply ≡ replies.Ended → new ≡ mid → IsOver old.view × (new ≡ old)
   event_ended over same =
       let refuses = subst (λ (r : Reply). Happens old e r aborted mid) over happens in
       (refuses.refused.cause, same ∙ refuses.unchanged.same)
 
   -- and where memory ran out the book was stopped for it
-  pub event_ran_out : answer ≡ reply.Memory → new ≡ stopped mid → RunsOut N old new
+  pub event_ran_out : reply ≡ replies.Memory → new ≡ stopped mid → RunsOut N old new
   event_ran_out out is =
       let refused = subst (λ (r : Reply). Happens old e r aborted mid) out happens in
       record { event = e; may = refused.0; stopped = is ∙ ap stopped refused.1.same }
@@ -47,36 +47,36 @@ module _ (N : Type 0) (old mid new : BookView) (e : Event N) (aborted : ℕ) (an
 pub ruleset event_tries = (event_made, event_ended, event_ran_out)
 
 module _ (N : Type 0) (image : ImageValue) (old mid new : BookView) where
-  by_least : (answer : Advance) → AdvanceAnswers N image old answer mid → AdvanceGoesOn answer → MakesOne N old mid
+  by_least : (reply : Advance) → AdvanceAnswers N image old reply mid → AdvanceGoesOn reply → MakesOne N old mid
   by_least (answers.Moved aborted) so on = record { event = so.0; aborted = aborted; made = so.3 }
   by_least answers.Committed so on = record { event = event.Commit; aborted = 0; made = so.1 }
   by_least (answers.Ended end) so on = absurd on
   by_least answers.Memory so on = absurd on
 
-  goes_on : (answer : Advance) → ((n : ℕ) × (answer ≡ answers.Moved n)) ⊎ (answer ≡ answers.Committed)
-      → AdvanceGoesOn answer
-  goes_on answer (inl moved) = subst AdvanceGoesOn (sym moved.1) tt
-  goes_on answer (inr committed) = subst AdvanceGoesOn (sym committed) tt
+  goes_on : (reply : Advance) → ((n : ℕ) × (reply ≡ answers.Moved n)) ⊎ (reply ≡ answers.Committed)
+      → AdvanceGoesOn reply
+  goes_on reply (inl moved) = subst AdvanceGoesOn (sym moved.1) tt
+  goes_on reply (inr committed) = subst AdvanceGoesOn (sym committed) tt
 
   -- and so it is with the event for the least task
-  pub advance_made : (answer : Advance) → AdvanceAnswers N image old answer mid → AdvanceGoesOn answer → new ≡ mid
+  pub advance_made : (reply : Advance) → AdvanceAnswers N image old reply mid → AdvanceGoesOn reply → new ≡ mid
       → MakesOne N old new
-  advance_made answer so on same = subst (λ (b : BookView). MakesOne N old b) (sym same) (by_least answer so on)
+  advance_made reply so on same = subst (λ (b : BookView). MakesOne N old b) (sym same) (by_least reply so on)
 
-  pub advance_moved : (answer : Advance) → AdvanceAnswers N image old answer mid
-      → ((n : ℕ) × (answer ≡ answers.Moved n)) ⊎ (answer ≡ answers.Committed) → new ≡ mid → MakesOne N old new
-  advance_moved answer so is same = advance_made answer so (goes_on answer is) same
+  pub advance_moved : (reply : Advance) → AdvanceAnswers N image old reply mid
+      → ((n : ℕ) × (reply ≡ answers.Moved n)) ⊎ (reply ≡ answers.Committed) → new ≡ mid → MakesOne N old new
+  advance_moved reply so is same = advance_made reply so (goes_on reply is) same
 
-  pub advance_ended : (answer : Advance) (end : End) → AdvanceAnswers N image old answer mid
-      → answer ≡ answers.Ended end → new ≡ mid
+  pub advance_ended : (reply : Advance) (end : End) → AdvanceAnswers N image old reply mid
+      → reply ≡ answers.Ended end → new ≡ mid
       → IsOver old.view × (new ≡ old)
-  advance_ended answer end so over same =
+  advance_ended reply end so over same =
       let ended = subst (λ (a : Advance). AdvanceAnswers N image old a mid) over so in ((end, ended.1), same ∙ ended.2)
 
-  pub advance_ran_out : (answer : Advance) → AdvanceAnswers N image old answer mid → answer ≡ answers.Memory
+  pub advance_ran_out : (reply : Advance) → AdvanceAnswers N image old reply mid → reply ≡ answers.Memory
       → new ≡ stopped mid → RunsOut N old new
-  advance_ran_out answer so out is = go (subst (λ (a : Advance). AdvanceAnswers N image old a mid) out so) where
-    go : ((old.stopped ≡ true) × (mid ≡ old)) ⊎ ((e : Event N) × IsNextEvent image old.view e × Happens old e reply.Memory 0 mid)
+  advance_ran_out reply so out is = go (subst (λ (a : Advance). AdvanceAnswers N image old a mid) out so) where
+    go : ((old.stopped ≡ true) × (mid ≡ old)) ⊎ ((e : Event N) × IsNextEvent image old.view e × Happens old e replies.Memory 0 mid)
         → RunsOut N old new
     go (inl before) = record { event = event.Commit; may = inl before.0; stopped = is ∙ ap stopped before.1 }
     go (inr refused) = record { event = refused.0; may = refused.2.0; stopped = is ∙ ap stopped refused.2.1.same }

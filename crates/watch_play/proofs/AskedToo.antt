@@ -9,12 +9,12 @@ use Rattle.spec_state.specs.View.{View}
 use Rattle.event_def.specs.End.{IsOver}
 use Rattle.step_script.specs.declared.act.Act.{Act}
 use Rattle.step_script.specs.declared.act.Act.TheVariants as acts
-use Rattle.outcome_law.specs.Alike.{AreAlike, IsAlikeTask, Renaming, inverse_of}
+use Rattle.outcome_law.specs.Alike.{AreAlike, IsAlikeTask, IdPermutation, inverse_of}
 use Rattle.outcome_law.proofs.Proved.{alike_turned, over_too, block_too, least_too, spilled_too, the_least_too}
 use Rattle.outcome_law.proofs.Proved.{free_core_too, least_idle_too, running_too, has_room_too}
 use Rattle.watch_play.specs.Courses.{Course, IsAskedBy, IsAskedInRound, OfLeast, OfRounds, OfScript}
 
-module _ (r : Renaming) (a b : View) (alike : AreAlike r a b) where
+module _ (r : IdPermutation) (a b : View) (alike : AreAlike r a b) where
   -- an alike task stands as the other one does
   status_too : (x y : Task) → IsAlikeTask r.to x y → x.status ≡ Finished → y.status ≡ Finished
   status_too x y same is = ap (λ (t : Task). t.status) same.other_is ∙ is
@@ -47,10 +47,11 @@ module _ (r : Renaming) (a b : View) (alike : AreAlike r a b) where
   asked_in_round_too (acts.Coalesce tile) asked = absurd asked
 
 -- a run that isn't over is so on neither
-goes_on_too : (r : Renaming) (a b : View) → AreAlike r a b → (IsOver a → ⊥) → IsOver b → ⊥
+goes_on_too : (r : IdPermutation) (a b : View) → AreAlike r a b → (IsOver a → ⊥) → IsOver b → ⊥
 goes_on_too r a b alike on over = on (over_too (inverse_of r) b a (alike_turned r a b alike) over)
 
-pub asked_too : (course : Course) (r : Renaming) (a b : View) → AreAlike r a b → (act : Act) → IsAskedBy course a act
+pub asked_too : (course : Course) (r : IdPermutation) (a b : View) → AreAlike r a b → (act : Act)
+    → IsAskedBy course a act
     → IsAskedBy course b act
 asked_too (OfScript script) r a b alike act asked = tt
 asked_too OfLeast r a b alike act asked = goes_on_too r a b alike asked

@@ -13,8 +13,8 @@ use Rattle.spec_state.specs.View.{View}
 use Rattle.spec_law.proofs.Proved.{not_both_ways}
 use Rattle.run_journal.specs.declared.end.End.{End}
 use Rattle.event_def.specs.End.{HasEnd, IsOver}
-use Rattle.event_lemma.specs.Whereabouts.{IsUnfinished}
-use Rattle.event_lemma.proofs.Proved.{none_commits}
+use Rattle.event_basis.specs.Whereabouts.{IsUnfinished}
+use Rattle.event_basis.proofs.Proved.{none_commits}
 use Rattle.conflict_book.specs.Ready.{IsReady}
 use Rattle.step_script.specs.declared.act.Act.TheVariants as acts
 use Rattle.watch_play.specs.Courses.{IsAskedInRound}

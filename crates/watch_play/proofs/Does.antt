@@ -6,7 +6,7 @@ use Rattle.event_def.specs.declared.event.Advance.TheVariants as answers
 use Rattle.event_def.specs.declared.event.Event.{Event}
 use Rattle.event_def.specs.declared.event.Event.TheVariants as event
 use Rattle.event_def.specs.declared.event.Reply.{Reply}
-use Rattle.event_def.specs.declared.event.Reply.TheVariants as reply
+use Rattle.event_def.specs.declared.event.Reply.TheVariants as replies
 use Rattle.event_def.specs.Advancing.{IsNextEvent}
 use Rattle.event_def.specs.Happens.{Happens}
 use Rattle.event_law.proofs.Proved.{least_event_is_granted}
@@ -22,40 +22,40 @@ use Rattle.watch_play.specs.Replies.{MomentDoes, advance_word, word_by}
 
 -- an advance, and what is said of it
 abbrev Advanced : (N : Type 0) → ImageValue → PlayState → PlayState → ℕ → Attempt N → Reply → Type 0
-Advanced N image before after aborted asks answer =
-    DoesAdvance N image before (record { word = advance_word asks answer; aborted = aborted }) after
+Advanced N image before after aborted asks reply =
+    DoesAdvance N image before (record { word = advance_word asks reply; aborted = aborted }) after
 
 -- the event for the least task
 module _ (N : Type 0) (image : ImageValue) (before after : PlayState) (aborted : ℕ)
     (sound : Sound image before.book.view)
     (held : after.held ≡ before.held) where
   -- was made
-  next_made : (e : Event N) → IsNextEvent image before.book.view e → Happens before.book e reply.Ok aborted after.book
-      → Advanced N image before after aborted (Hands e) reply.Ok
+  next_made : (e : Event N) → IsNextEvent image before.book.view e → Happens before.book e replies.Ok aborted after.book
+      → Advanced N image before after aborted (Hands e) replies.Ok
   next_made event.Commit next happens =
       let none : aborted ≡ 0 = happens.makes.1 in record {
-        answer = answers.Committed;
+        reply = answers.Committed;
         says = λ i. Some (record { word = words.Committed; aborted = sym none i });
-        answers = (next, subst (λ n. Happens {N = N} before.book event.Commit reply.Ok n after.book) none happens);
+        answers = (next, subst (λ n. Happens {N = N} before.book event.Commit replies.Ok n after.book) none happens);
         held = held;
       }
   next_made (event.Dispatch tile) next happens =
       record {
-        answer = answers.Moved aborted;
+        reply = answers.Moved aborted;
         says = refl;
         answers = (event.Dispatch tile, next, tt, happens);
         held = held;
       }
   next_made (event.Step tile core leg) next happens =
       record {
-        answer = answers.Moved aborted;
+        reply = answers.Moved aborted;
         says = refl;
         answers = (event.Step tile core leg, next, tt, happens);
         held = held;
       }
   next_made (event.Split tile) next happens =
       record {
-        answer = answers.Moved aborted;
+        reply = answers.Moved aborted;
         says = refl;
         answers = (event.Split tile, next, tt, happens);
         held = held;
@@ -64,53 +64,53 @@ module _ (N : Type 0) (image : ImageValue) (before after : PlayState) (aborted :
   next_made (event.Coalesce tile) next happens = absurd next.least
 
   -- since it is never refused but for want of memory
-  next_came : (e : Event N) → IsNextEvent image before.book.view e → (answer : Reply) → answer ≢ reply.Memory
-      → Happens before.book e answer aborted after.book → Advanced N image before after aborted (Hands e) answer
-  next_came e next reply.Ok there happens = next_made e next happens
-  next_came e next reply.Memory there happens = absurd (there refl)
-  next_came e next reply.Empty there happens =
-      absurd (least_event_is_granted N image before.book e sound next reply.Empty happens.refused.cause)
-  next_came e next reply.Busy there happens =
-      absurd (least_event_is_granted N image before.book e sound next reply.Busy happens.refused.cause)
-  next_came e next reply.Stall there happens =
-      absurd (least_event_is_granted N image before.book e sound next reply.Stall happens.refused.cause)
-  next_came e next reply.Stale there happens =
-      absurd (least_event_is_granted N image before.book e sound next reply.Stale happens.refused.cause)
-  next_came e next reply.Firm there happens =
-      absurd (least_event_is_granted N image before.book e sound next reply.Firm happens.refused.cause)
-  next_came e next reply.Ended there happens =
-      absurd (least_event_is_granted N image before.book e sound next reply.Ended happens.refused.cause)
+  next_came : (e : Event N) → IsNextEvent image before.book.view e → (reply : Reply) → reply ≢ replies.Memory
+      → Happens before.book e reply aborted after.book → Advanced N image before after aborted (Hands e) reply
+  next_came e next replies.Ok there happens = next_made e next happens
+  next_came e next replies.Memory there happens = absurd (there refl)
+  next_came e next replies.Empty there happens =
+      absurd (least_event_is_granted N image before.book e sound next replies.Empty happens.refused.cause)
+  next_came e next replies.Busy there happens =
+      absurd (least_event_is_granted N image before.book e sound next replies.Busy happens.refused.cause)
+  next_came e next replies.Stall there happens =
+      absurd (least_event_is_granted N image before.book e sound next replies.Stall happens.refused.cause)
+  next_came e next replies.Stale there happens =
+      absurd (least_event_is_granted N image before.book e sound next replies.Stale happens.refused.cause)
+  next_came e next replies.Firm there happens =
+      absurd (least_event_is_granted N image before.book e sound next replies.Firm happens.refused.cause)
+  next_came e next replies.Ended there happens =
+      absurd (least_event_is_granted N image before.book e sound next replies.Ended happens.refused.cause)
 
-module _ (N : Type 0) (image : ImageValue) (before after : PlayState) (answer : Reply) (aborted : ℕ)
+module _ (N : Type 0) (image : ImageValue) (before after : PlayState) (reply : Reply) (aborted : ℕ)
     (sound : Sound image before.book.view) (going : before.book.stopped ≡ false) where
   advances : (asks : Attempt N) → AsksAdvance image before asks after.held
-      → HasCome N image before after answer aborted asks
-      → Advanced N image before after aborted asks answer
+      → HasCome N image before after reply aborted asks
+      → Advanced N image before after aborted asks reply
   advances asks (asking.advance_next e next hands) came =
-      let is : HasCome N image before after answer aborted (Hands e) = subst
-      (HasCome N image before after answer aborted)
+      let is : HasCome N image before after reply aborted (Hands e) = subst
+      (HasCome N image before after reply aborted)
       hands.asks_is came in
-      subst (λ a. Advanced N image before after aborted a answer) (sym hands.asks_is)
-      (next_came N image before after aborted sound hands.held_is e next answer is.0 is.1)
+      subst (λ a. Advanced N image before after aborted a reply) (sym hands.asks_is)
+      (next_came N image before after aborted sound hands.held_is e next reply is.0 is.1)
   advances asks (asking.advance_ended over says) came =
-      let is : HasCome N image before after answer aborted (Says reply.Ended) = subst
-      (HasCome N image before after answer aborted) says.asks_is came in
-      subst (λ a. Advanced N image before after aborted a answer) (sym says.asks_is) (record {
-        answer = answers.Ended over.0;
+      let is : HasCome N image before after reply aborted (Says replies.Ended) = subst
+      (HasCome N image before after reply aborted) says.asks_is came in
+      subst (λ a. Advanced N image before after aborted a reply) (sym says.asks_is) (record {
+        reply = answers.Ended over.0;
         says = λ i. Some (record { word = words.Plain (sym is.0 i); aborted = sym is.1 i });
         answers = (going, over.1, is.2);
         held = says.held_is;
       })
 
   other : (act : Act) → act ≢ acts.Advance → (asks : Attempt N) → AsksFor image act before asks after.held
-      → HasCome N image before after answer aborted asks
-      → Does N image act before (said N image before after answer aborted) after
-  other act not asks = does_other N image before after answer aborted act asks not
+      → HasCome N image before after reply aborted asks
+      → Does N image act before (said N image before after reply aborted) after
+  other act not asks = does_other N image before after reply aborted act asks not
 
   -- what an act comes to, and what comes of that
-  does : (act : Act) (asks : Attempt N) → AsksFor image act before asks after.held → HasCome N image before after answer
+  does : (act : Act) (asks : Attempt N) → AsksFor image act before asks after.held → HasCome N image before after reply
       aborted asks
-      → Does N image act before (record { word = word_by act asks answer; aborted = aborted }) after
+      → Does N image act before (record { word = word_by act asks reply; aborted = aborted }) after
   does (acts.Dispatch tile) asks asked came = other (acts.Dispatch tile) (λ is. absurd (cc (is))) asks asked came
   does (acts.Step tile core) asks asked came = other (acts.Step tile core) (λ is. absurd (cc (is))) asks asked came
   does (acts.Take tile core) asks asked came = other (acts.Take tile core) (λ is. absurd (cc (is))) asks asked came

@@ -6,7 +6,7 @@ use Rattle.spec_law.specs.Sound.{Sound}
 use Rattle.event_def.specs.declared.event.Event.{Event}
 use Rattle.event_def.specs.declared.event.Event.TheVariants as event
 use Rattle.event_def.specs.declared.event.Reply.{Reply}
-use Rattle.event_def.specs.declared.event.Reply.TheVariants as reply
+use Rattle.event_def.specs.declared.event.Reply.TheVariants as replies
 use Rattle.event_def.specs.Advancing.{HasRest, IsNextEvent, IsNoCommit}
 use Rattle.event_def.specs.Book.{BookView}
 use Rattle.event_def.specs.End.{IsOver}
@@ -45,43 +45,43 @@ module _ (N : Type 0) (old new : BookView) (aborted : ℕ) where
   stay_commits : new ≡ old → length old.view.history ≤ length new.view.history
   stay_commits same = subst (λ (b : BookView). length old.view.history ≤ length b.view.history) (sym same) (le_refl _)
 
-  event_commits : (e : Event N) (answer : Reply) → Happens old e answer aborted new
+  event_commits : (e : Event N) (reply : Reply) → Happens old e reply aborted new
       → length old.view.history ≤ length new.view.history
-  event_commits e reply.Ok happens = made_commits e happens
-  event_commits e reply.Memory happens = stay_commits happens.1.same
-  event_commits e reply.Empty happens = stay_commits happens.unchanged.same
-  event_commits e reply.Busy happens = stay_commits happens.unchanged.same
-  event_commits e reply.Stall happens = stay_commits happens.unchanged.same
-  event_commits e reply.Stale happens = stay_commits happens.unchanged.same
-  event_commits e reply.Firm happens = stay_commits happens.unchanged.same
-  event_commits e reply.Ended happens = stay_commits happens.unchanged.same
+  event_commits e replies.Ok happens = made_commits e happens
+  event_commits e replies.Memory happens = stay_commits happens.1.same
+  event_commits e replies.Empty happens = stay_commits happens.unchanged.same
+  event_commits e replies.Busy happens = stay_commits happens.unchanged.same
+  event_commits e replies.Stall happens = stay_commits happens.unchanged.same
+  event_commits e replies.Stale happens = stay_commits happens.unchanged.same
+  event_commits e replies.Firm happens = stay_commits happens.unchanged.same
+  event_commits e replies.Ended happens = stay_commits happens.unchanged.same
 
   -- whatever came of an act, no commit is taken back
-  pub commits_stay : (asks : Attempt N) (answer : Reply) → ComesOf asks answer aborted old new
+  pub commits_stay : (asks : Attempt N) (reply : Reply) → ComesOf asks reply aborted old new
       → length old.view.history ≤ length new.view.history
-  commits_stay (Hands e) answer came = event_commits e answer came.1
-  commits_stay (Says word) answer came = stay_commits came.2
+  commits_stay (Hands e) reply came = event_commits e reply came.1
+  commits_stay (Says word) reply came = stay_commits came.2
 
 -- ---- advances
 
 module _ (N : Type 0) (image : ImageValue) (old new : BookView) (aborted : ℕ) (sound : Sound image old.view) where
   -- the event for the least task was made
-  pub made_of : (e : Event N) → IsNextEvent image old.view e → (answer : Reply) → answer ≢ reply.Memory
-      → Happens old e answer aborted new → IsMade old e aborted new
-  made_of e next reply.Ok there happens = happens
-  made_of e next reply.Memory there happens = absurd (there refl)
-  made_of e next reply.Empty there happens =
-      absurd (least_event_is_granted N image old e sound next reply.Empty happens.refused.cause)
-  made_of e next reply.Busy there happens =
-      absurd (least_event_is_granted N image old e sound next reply.Busy happens.refused.cause)
-  made_of e next reply.Stall there happens =
-      absurd (least_event_is_granted N image old e sound next reply.Stall happens.refused.cause)
-  made_of e next reply.Stale there happens =
-      absurd (least_event_is_granted N image old e sound next reply.Stale happens.refused.cause)
-  made_of e next reply.Firm there happens =
-      absurd (least_event_is_granted N image old e sound next reply.Firm happens.refused.cause)
-  made_of e next reply.Ended there happens =
-      absurd (least_event_is_granted N image old e sound next reply.Ended happens.refused.cause)
+  pub made_of : (e : Event N) → IsNextEvent image old.view e → (reply : Reply) → reply ≢ replies.Memory
+      → Happens old e reply aborted new → IsMade old e aborted new
+  made_of e next replies.Ok there happens = happens
+  made_of e next replies.Memory there happens = absurd (there refl)
+  made_of e next replies.Empty there happens =
+      absurd (least_event_is_granted N image old e sound next replies.Empty happens.refused.cause)
+  made_of e next replies.Busy there happens =
+      absurd (least_event_is_granted N image old e sound next replies.Busy happens.refused.cause)
+  made_of e next replies.Stall there happens =
+      absurd (least_event_is_granted N image old e sound next replies.Stall happens.refused.cause)
+  made_of e next replies.Stale there happens =
+      absurd (least_event_is_granted N image old e sound next replies.Stale happens.refused.cause)
+  made_of e next replies.Firm there happens =
+      absurd (least_event_is_granted N image old e sound next replies.Firm happens.refused.cause)
+  made_of e next replies.Ended there happens =
+      absurd (least_event_is_granted N image old e sound next replies.Ended happens.refused.cause)
 
   -- and it was no commit, where none came
   no_commit : (e : Event N) → IsMade old e aborted new → length new.view.history ≡ length old.view.history
@@ -111,7 +111,7 @@ module _ (N : Type 0) (image : ImageValue) (first : PlayState) (first_sound : So
         let none : commits_of new ≡ commits_of mid = same ∙ sym before.commits in
         let other = no_commit N image mid.book new.book m.aborted before.sound e made none in
         let given = next_event_is_given N image mid.book.view e before.sound next in record {
-          sound = event_stays_sound N image mid.book new.book e reply.Ok m.aborted given before.sound made;
+          sound = event_stays_sound N image mid.book new.book e replies.Ok m.aborted given before.sound made;
           going = made.stopped;
           commits = same;
           few = λ left has.

@@ -12,7 +12,7 @@ use Rattle.spec_law.proofs.Proved.{one_least_idle}
 use Rattle.event_def.specs.declared.event.Event.{Event}
 use Rattle.event_def.specs.declared.event.Event.TheVariants as event
 use Rattle.event_def.specs.declared.event.Reply.{Reply}
-use Rattle.event_def.specs.declared.event.Reply.TheVariants as reply
+use Rattle.event_def.specs.declared.event.Reply.TheVariants as replies
 use Rattle.event_def.specs.Book.{BookView}
 use Rattle.event_def.specs.Causes.{Cause, IsGranted}
 use Rattle.event_def.specs.End.{IsOver}
@@ -29,122 +29,122 @@ use Rattle.watch_play.specs.Rounds.{AskedIsMade, IsMadeOrStalls, PassedIsRefused
 
 module _ (N : Type 0) (book new : BookView) (aborted : ℕ) (act : Act) (goes_on : IsOver book.view → ⊥) where
   -- an event for which no other cause stands than that a step stalls
-  by_answer : (e : Event N) → ((answer : Reply) → Cause book e answer → IsMadeOrStalls act answer)
-      → (answer : Reply) → Happens book e answer aborted new → IsMadeOrStalls act answer
-  by_answer e allowed reply.Ok happens = tt
-  by_answer e allowed reply.Memory happens = tt
-  by_answer e allowed reply.Empty happens = allowed reply.Empty happens.refused.cause
-  by_answer e allowed reply.Busy happens = allowed reply.Busy happens.refused.cause
-  by_answer e allowed reply.Stall happens = allowed reply.Stall happens.refused.cause
-  by_answer e allowed reply.Stale happens = allowed reply.Stale happens.refused.cause
-  by_answer e allowed reply.Firm happens = allowed reply.Firm happens.refused.cause
-  by_answer e allowed reply.Ended happens = allowed reply.Ended happens.refused.cause
+  by_answer : (e : Event N) → ((reply : Reply) → Cause book e reply → IsMadeOrStalls act reply)
+      → (reply : Reply) → Happens book e reply aborted new → IsMadeOrStalls act reply
+  by_answer e allowed replies.Ok happens = tt
+  by_answer e allowed replies.Memory happens = tt
+  by_answer e allowed replies.Empty happens = allowed replies.Empty happens.refused.cause
+  by_answer e allowed replies.Busy happens = allowed replies.Busy happens.refused.cause
+  by_answer e allowed replies.Stall happens = allowed replies.Stall happens.refused.cause
+  by_answer e allowed replies.Stale happens = allowed replies.Stale happens.refused.cause
+  by_answer e allowed replies.Firm happens = allowed replies.Firm happens.refused.cause
+  by_answer e allowed replies.Ended happens = allowed replies.Ended happens.refused.cause
 
 asked_dispatch : (N : Type 0) (book : BookView) (tile : ℕ) → (IsOver book.view → ⊥)
-    → IsAskedInRound book.view (acts.Dispatch tile) → (answer : Reply)
-    → Cause {N = N} book (event.Dispatch tile) answer → ⊥
-asked_dispatch N book tile goes_on asked reply.Ended over = goes_on over
-asked_dispatch N book tile goes_on asked reply.Empty none = none asked.0 asked.1 asked.2.idle
-asked_dispatch N book tile goes_on asked reply.Busy busy = elim asked.3 [
+    → IsAskedInRound book.view (acts.Dispatch tile) → (reply : Reply)
+    → Cause {N = N} book (event.Dispatch tile) reply → ⊥
+asked_dispatch N book tile goes_on asked replies.Ended over = goes_on over
+asked_dispatch N book tile goes_on asked replies.Empty none = none asked.0 asked.1 asked.2.idle
+asked_dispatch N book tile goes_on asked replies.Busy busy = elim asked.3 [
   | inl free ↦ busy.held free.0 free.1
   | inr least ↦ busy.not_least (subst (IsTheLeast book.view)
       (one_least_idle book.view tile asked.0 busy.id asked.1 busy.task asked.2 busy.idle) least)
 ]
-asked_dispatch N book tile goes_on asked reply.Ok cause = cause
-asked_dispatch N book tile goes_on asked reply.Memory cause = cause
-asked_dispatch N book tile goes_on asked reply.Stall cause = cause
-asked_dispatch N book tile goes_on asked reply.Stale cause = cause
-asked_dispatch N book tile goes_on asked reply.Firm cause = cause
+asked_dispatch N book tile goes_on asked replies.Ok cause = cause
+asked_dispatch N book tile goes_on asked replies.Memory cause = cause
+asked_dispatch N book tile goes_on asked replies.Stall cause = cause
+asked_dispatch N book tile goes_on asked replies.Stale cause = cause
+asked_dispatch N book tile goes_on asked replies.Firm cause = cause
 
 asked_commit : (N : Type 0) (book : BookView) → (IsOver book.view → ⊥) → IsAskedInRound book.view acts.Commit
-    → (answer : Reply) → Cause {N = N} book event.Commit answer → ⊥
-asked_commit N book goes_on asked reply.Ended over = goes_on over
-asked_commit N book goes_on asked reply.Empty none = none asked.0 asked.1 asked.2 asked.3
-asked_commit N book goes_on asked reply.Busy cause = cause
-asked_commit N book goes_on asked reply.Ok cause = cause
-asked_commit N book goes_on asked reply.Memory cause = cause
-asked_commit N book goes_on asked reply.Stall cause = cause
-asked_commit N book goes_on asked reply.Stale cause = cause
-asked_commit N book goes_on asked reply.Firm cause = cause
+    → (reply : Reply) → Cause {N = N} book event.Commit reply → ⊥
+asked_commit N book goes_on asked replies.Ended over = goes_on over
+asked_commit N book goes_on asked replies.Empty none = none asked.0 asked.1 asked.2 asked.3
+asked_commit N book goes_on asked replies.Busy cause = cause
+asked_commit N book goes_on asked replies.Ok cause = cause
+asked_commit N book goes_on asked replies.Memory cause = cause
+asked_commit N book goes_on asked replies.Stall cause = cause
+asked_commit N book goes_on asked replies.Stale cause = cause
+asked_commit N book goes_on asked replies.Firm cause = cause
 
 asked_split : (N : Type 0) (book : BookView) (tile : ℕ) → (IsOver book.view → ⊥)
-    → IsAskedInRound book.view (acts.Split tile) → (answer : Reply)
-    → Cause {N = N} book (event.Split tile) answer → ⊥
-asked_split N book tile goes_on asked reply.Ended over = goes_on over
-asked_split N book tile goes_on asked reply.Empty none = asked.0 none
-asked_split N book tile goes_on asked reply.Stall stalls = elim asked.1 [
+    → IsAskedInRound book.view (acts.Split tile) → (reply : Reply)
+    → Cause {N = N} book (event.Split tile) reply → ⊥
+asked_split N book tile goes_on asked replies.Ended over = goes_on over
+asked_split N book tile goes_on asked replies.Empty none = asked.0 none
+asked_split N book tile goes_on asked replies.Stall stalls = elim asked.1 [
   | inl free ↦
       (let full : book.view.settings.task_queue ≤ length (queue_at book.view tile) = stalls.full in
       absurd (omega (arith, free, full)))
   | inr least ↦ stalls.not_least least
 ]
-asked_split N book tile goes_on asked reply.Busy cause = cause
-asked_split N book tile goes_on asked reply.Ok cause = cause
-asked_split N book tile goes_on asked reply.Memory cause = cause
-asked_split N book tile goes_on asked reply.Stale cause = cause
-asked_split N book tile goes_on asked reply.Firm cause = cause
+asked_split N book tile goes_on asked replies.Busy cause = cause
+asked_split N book tile goes_on asked replies.Ok cause = cause
+asked_split N book tile goes_on asked replies.Memory cause = cause
+asked_split N book tile goes_on asked replies.Stale cause = cause
+asked_split N book tile goes_on asked replies.Firm cause = cause
 
 -- a step of a running task may stall, and is refused for nothing else
 asked_step : (N : Type 0) (book : BookView) (tile core : ℕ) (leg : LegValue) (id : ℕ) (task : Task)
-    → (IsOver book.view → ⊥) → TakesLeg book.view tile core leg id task → (answer : Reply)
-    → Cause {N = N} book (event.Step tile core leg) answer → IsMadeOrStalls (acts.Step tile core) answer
-asked_step N book tile core leg id task goes_on takes reply.Ended over = absurd (goes_on over)
-asked_step N book tile core leg id task goes_on takes reply.Stale stale = absurd (stale id task takes)
-asked_step N book tile core leg id task goes_on takes reply.Stall stalls = tt
-asked_step N book tile core leg id task goes_on takes reply.Empty cause = absurd cause
-asked_step N book tile core leg id task goes_on takes reply.Busy cause = absurd cause
-asked_step N book tile core leg id task goes_on takes reply.Ok cause = absurd cause
-asked_step N book tile core leg id task goes_on takes reply.Memory cause = absurd cause
-asked_step N book tile core leg id task goes_on takes reply.Firm cause = absurd cause
+    → (IsOver book.view → ⊥) → TakesLeg book.view tile core leg id task → (reply : Reply)
+    → Cause {N = N} book (event.Step tile core leg) reply → IsMadeOrStalls (acts.Step tile core) reply
+asked_step N book tile core leg id task goes_on takes replies.Ended over = absurd (goes_on over)
+asked_step N book tile core leg id task goes_on takes replies.Stale stale = absurd (stale id task takes)
+asked_step N book tile core leg id task goes_on takes replies.Stall stalls = tt
+asked_step N book tile core leg id task goes_on takes replies.Empty cause = absurd cause
+asked_step N book tile core leg id task goes_on takes replies.Busy cause = absurd cause
+asked_step N book tile core leg id task goes_on takes replies.Ok cause = absurd cause
+asked_step N book tile core leg id task goes_on takes replies.Memory cause = absurd cause
+asked_step N book tile core leg id task goes_on takes replies.Firm cause = absurd cause
 
 -- an attempt that is handed in
-handed : {N : Type 0} (asks : Attempt N) (e : Event N) (answer : Reply) (aborted : ℕ) (old new : BookView)
-    → asks ≡ Hands e → AttemptComes asks answer aborted old new → Happens old e answer aborted new
-handed asks e answer aborted old new is = subst (λ a. AttemptComes a answer aborted old new) is
+handed : {N : Type 0} (asks : Attempt N) (e : Event N) (reply : Reply) (aborted : ℕ) (old new : BookView)
+    → asks ≡ Hands e → AttemptComes asks reply aborted old new → Happens old e reply aborted new
+handed asks e reply aborted old new is = subst (λ a. AttemptComes a reply aborted old new) is
 
 pub asked_is_made : (N : Type 0) → AskedIsMade N
-asked_is_made N image old new (acts.Dispatch tile) asks held answer aborted goes_on of asked asks_for comes =
+asked_is_made N image old new (acts.Dispatch tile) asks held reply aborted goes_on of asked asks_for comes =
     by_answer N old.book new aborted (acts.Dispatch tile) goes_on (event.Dispatch tile)
-    (λ other cause. absurd (asked_dispatch N old.book tile goes_on asked other cause)) answer
-    (handed asks (event.Dispatch tile) answer aborted old.book new asks_for.asks_is comes)
-asked_is_made N image old new (acts.Step tile core) asks held answer aborted goes_on of asked asks_for comes =
+    (λ other cause. absurd (asked_dispatch N old.book tile goes_on asked other cause)) reply
+    (handed asks (event.Dispatch tile) reply aborted old.book new asks_for.asks_is comes)
+asked_is_made N image old new (acts.Step tile core) asks held reply aborted goes_on of asked asks_for comes =
     by_ask asks_for
   where
-    by_ask : AsksStep image tile core old asks held → IsMadeOrStalls (acts.Step tile core) answer
+    by_ask : AsksStep image tile core old asks held → IsMadeOrStalls (acts.Step tile core) reply
     by_ask (step_runs leg on has hands) =
         by_answer N old.book new aborted (acts.Step tile core) goes_on (event.Step tile core leg)
         (asked_step N old.book tile core leg has.id has.task goes_on
         (record { runs = has.runs; from = sym has.leg_from.from }))
-        answer (handed asks (event.Step tile core leg) answer aborted old.book new hands.asks_is comes)
+        reply (handed asks (event.Step tile core leg) reply aborted old.book new hands.asks_is comes)
     by_ask (step_ended over says) = absurd (goes_on over)
     by_ask (step_stale on none says) = absurd (none asked.0 asked.1 asked.2)
-asked_is_made N image old new acts.Commit asks held answer aborted goes_on of asked asks_for comes =
+asked_is_made N image old new acts.Commit asks held reply aborted goes_on of asked asks_for comes =
     by_answer N old.book new aborted acts.Commit goes_on event.Commit
-    (λ other cause. absurd (asked_commit N old.book goes_on asked other cause)) answer
-    (handed asks event.Commit answer aborted old.book new asks_for.asks_is comes)
-asked_is_made N image old new (acts.Split tile) asks held answer aborted goes_on of asked asks_for comes =
+    (λ other cause. absurd (asked_commit N old.book goes_on asked other cause)) reply
+    (handed asks event.Commit reply aborted old.book new asks_for.asks_is comes)
+asked_is_made N image old new (acts.Split tile) asks held reply aborted goes_on of asked asks_for comes =
     by_answer N old.book new aborted (acts.Split tile) goes_on (event.Split tile)
-    (λ other cause. absurd (asked_split N old.book tile goes_on asked other cause)) answer
-    (handed asks (event.Split tile) answer aborted old.book new asks_for.asks_is comes)
-asked_is_made N image old new (acts.Take tile core) asks held answer aborted goes_on of asked asks_for comes = absurd of
-asked_is_made N image old new (acts.Give tile core) asks held answer aborted goes_on of asked asks_for comes = absurd of
-asked_is_made N image old new (acts.Abort tile) asks held answer aborted goes_on of asked asks_for comes = absurd of
-asked_is_made N image old new (acts.Coalesce tile) asks held answer aborted goes_on of asked asks_for comes = absurd of
-asked_is_made N image old new acts.Advance asks held answer aborted goes_on of asked asks_for comes = absurd of
+    (λ other cause. absurd (asked_split N old.book tile goes_on asked other cause)) reply
+    (handed asks (event.Split tile) reply aborted old.book new asks_for.asks_is comes)
+asked_is_made N image old new (acts.Take tile core) asks held reply aborted goes_on of asked asks_for comes = absurd of
+asked_is_made N image old new (acts.Give tile core) asks held reply aborted goes_on of asked asks_for comes = absurd of
+asked_is_made N image old new (acts.Abort tile) asks held reply aborted goes_on of asked asks_for comes = absurd of
+asked_is_made N image old new (acts.Coalesce tile) asks held reply aborted goes_on of asked asks_for comes = absurd of
+asked_is_made N image old new acts.Advance asks held reply aborted goes_on of asked asks_for comes = absurd of
 
 -- ---- what is passed over
 
 -- an event that isn't granted is refused, or memory was wanting for it
-not_granted : (N : Type 0) (book new : BookView) (e : Event N) (answer : Reply) (aborted : ℕ)
-    → (IsGranted book e → ⊥) → Happens book e answer aborted new → (answer ≢ reply.Ok) × (new ≡ book)
-not_granted N book new e reply.Ok aborted not happens = absurd (not happens.granted)
-not_granted N book new e reply.Memory aborted not happens = (λ is. absurd (cc (is)), happens.1.same)
-not_granted N book new e reply.Empty aborted not happens = (λ is. absurd (cc (is)), happens.unchanged.same)
-not_granted N book new e reply.Busy aborted not happens = (λ is. absurd (cc (is)), happens.unchanged.same)
-not_granted N book new e reply.Stall aborted not happens = (λ is. absurd (cc (is)), happens.unchanged.same)
-not_granted N book new e reply.Stale aborted not happens = (λ is. absurd (cc (is)), happens.unchanged.same)
-not_granted N book new e reply.Firm aborted not happens = (λ is. absurd (cc (is)), happens.unchanged.same)
-not_granted N book new e reply.Ended aborted not happens = (λ is. absurd (cc (is)), happens.unchanged.same)
+not_granted : (N : Type 0) (book new : BookView) (e : Event N) (reply : Reply) (aborted : ℕ)
+    → (IsGranted book e → ⊥) → Happens book e reply aborted new → (reply ≢ replies.Ok) × (new ≡ book)
+not_granted N book new e replies.Ok aborted not happens = absurd (not happens.granted)
+not_granted N book new e replies.Memory aborted not happens = (λ is. absurd (cc (is)), happens.1.same)
+not_granted N book new e replies.Empty aborted not happens = (λ is. absurd (cc (is)), happens.unchanged.same)
+not_granted N book new e replies.Busy aborted not happens = (λ is. absurd (cc (is)), happens.unchanged.same)
+not_granted N book new e replies.Stall aborted not happens = (λ is. absurd (cc (is)), happens.unchanged.same)
+not_granted N book new e replies.Stale aborted not happens = (λ is. absurd (cc (is)), happens.unchanged.same)
+not_granted N book new e replies.Firm aborted not happens = (λ is. absurd (cc (is)), happens.unchanged.same)
+not_granted N book new e replies.Ended aborted not happens = (λ is. absurd (cc (is)), happens.unchanged.same)
 
 -- a list has no element, or it has some
 empty_or_not : {X : Type 0} (xs : List X) → (xs ≡ []) ⊎ (xs ≢ [])
@@ -155,9 +155,9 @@ module _ (N : Type 0) (image : ImageValue) (book : BookView) where
   passed_dispatch : Sound image book.view → (tile : ℕ) → (IsAskedInRound book.view (acts.Dispatch tile) → ⊥)
       → IsGranted {N = N} book (event.Dispatch tile) → ⊥
   passed_dispatch sound tile not granted =
-      granted reply.Empty (λ id task idle.
+      granted replies.Empty (λ id task idle.
       (let least = least_idle book.view tile sound.sizes id task idle in
-      granted reply.Busy (record {
+      granted replies.Busy (record {
         held = λ core free. not (least.0, least.1, least.2, inl (core, free));
         id = least.0;
         task = least.1;
@@ -168,55 +168,55 @@ module _ (N : Type 0) (image : ImageValue) (book : BookView) where
   passed_step : (tile core : ℕ) (leg : LegValue) → (IsAskedInRound book.view (acts.Step tile core) → ⊥)
       → IsGranted {N = N} book (event.Step tile core leg) → ⊥
   passed_step tile core leg not granted =
-      granted reply.Stale (λ id task takes. not (id, task, takes.runs))
+      granted replies.Stale (λ id task takes. not (id, task, takes.runs))
 
   passed_commit : (IsAskedInRound book.view acts.Commit → ⊥) → IsGranted {N = N} book event.Commit → ⊥
-  passed_commit not granted = granted reply.Empty (λ id task least done. not (id, task, least, done))
+  passed_commit not granted = granted replies.Empty (λ id task least done. not (id, task, least, done))
 
   passed_split : (tile : ℕ) → (IsAskedInRound book.view (acts.Split tile) → ⊥)
       → IsGranted {N = N} book (event.Split tile) → ⊥
   passed_split tile not granted = elim (empty_or_not (block_at book.view tile)) [
-    | inl none ↦ granted reply.Empty none
+    | inl none ↦ granted replies.Empty none
     | inr some ↦ elim (cases_lt (length (queue_at book.view tile)) book.view.settings.task_queue) [
       | inl free ↦ not (some, inl free)
       | inr full ↦
-          granted reply.Stall (record { some = some; full = full; not_least = λ least. not (some, inr least) })
+          granted replies.Stall (record { some = some; full = full; not_least = λ least. not (some, inr least) })
     ]
   ]
 
 -- a word that is said changes nothing
-said_so : {N : Type 0} (asks : Attempt N) (word answer : Reply) (aborted : ℕ) (old new : BookView)
-    → asks ≡ Says word → word ≢ reply.Ok → AttemptComes asks answer aborted old new
-    → (answer ≢ reply.Ok) × (new ≡ old)
-said_so asks word answer aborted old new is no_ok comes =
-    let so = subst (λ a. AttemptComes a answer aborted old new) is comes in
+said_so : {N : Type 0} (asks : Attempt N) (word reply : Reply) (aborted : ℕ) (old new : BookView)
+    → asks ≡ Says word → word ≢ replies.Ok → AttemptComes asks reply aborted old new
+    → (reply ≢ replies.Ok) × (new ≡ old)
+said_so asks word reply aborted old new is no_ok comes =
+    let so = subst (λ a. AttemptComes a reply aborted old new) is comes in
     (λ ok. no_ok (sym so.0 ∙ ok), so.2)
 
 pub passed_is_refused : (N : Type 0) → PassedIsRefused N
-passed_is_refused N image old new (acts.Dispatch tile) asks held answer aborted sound of not asks_for comes =
-    not_granted N old.book new (event.Dispatch tile) answer aborted
+passed_is_refused N image old new (acts.Dispatch tile) asks held reply aborted sound of not asks_for comes =
+    not_granted N old.book new (event.Dispatch tile) reply aborted
     (passed_dispatch N image old.book sound tile not)
-    (handed asks (event.Dispatch tile) answer aborted old.book new asks_for.asks_is comes)
-passed_is_refused N image old new (acts.Step tile core) asks held answer aborted sound of not asks_for comes =
+    (handed asks (event.Dispatch tile) reply aborted old.book new asks_for.asks_is comes)
+passed_is_refused N image old new (acts.Step tile core) asks held reply aborted sound of not asks_for comes =
     by_ask asks_for
   where
-    by_ask : AsksStep image tile core old asks held → (answer ≢ reply.Ok) × (new ≡ old.book)
+    by_ask : AsksStep image tile core old asks held → (reply ≢ replies.Ok) × (new ≡ old.book)
     by_ask (step_runs leg on has hands) =
-        not_granted N old.book new (event.Step tile core leg) answer aborted
+        not_granted N old.book new (event.Step tile core leg) reply aborted
         (passed_step N image old.book tile core leg not)
-        (handed asks (event.Step tile core leg) answer aborted old.book new hands.asks_is comes)
+        (handed asks (event.Step tile core leg) reply aborted old.book new hands.asks_is comes)
     by_ask (step_ended over says) =
-        said_so asks reply.Ended answer aborted old.book new says.asks_is (λ is. absurd (cc (is))) comes
+        said_so asks replies.Ended reply aborted old.book new says.asks_is (λ is. absurd (cc (is))) comes
     by_ask (step_stale on none says) =
-        said_so asks reply.Stale answer aborted old.book new says.asks_is (λ is. absurd (cc (is))) comes
-passed_is_refused N image old new acts.Commit asks held answer aborted sound of not asks_for comes =
-    not_granted N old.book new event.Commit answer aborted (passed_commit N image old.book not)
-    (handed asks event.Commit answer aborted old.book new asks_for.asks_is comes)
-passed_is_refused N image old new (acts.Split tile) asks held answer aborted sound of not asks_for comes =
-    not_granted N old.book new (event.Split tile) answer aborted (passed_split N image old.book tile not)
-    (handed asks (event.Split tile) answer aborted old.book new asks_for.asks_is comes)
-passed_is_refused N image old new (acts.Take tile core) asks held answer aborted sound of not asks_for comes = absurd of
-passed_is_refused N image old new (acts.Give tile core) asks held answer aborted sound of not asks_for comes = absurd of
-passed_is_refused N image old new (acts.Abort tile) asks held answer aborted sound of not asks_for comes = absurd of
-passed_is_refused N image old new (acts.Coalesce tile) asks held answer aborted sound of not asks_for comes = absurd of
-passed_is_refused N image old new acts.Advance asks held answer aborted sound of not asks_for comes = absurd of
+        said_so asks replies.Stale reply aborted old.book new says.asks_is (λ is. absurd (cc (is))) comes
+passed_is_refused N image old new acts.Commit asks held reply aborted sound of not asks_for comes =
+    not_granted N old.book new event.Commit reply aborted (passed_commit N image old.book not)
+    (handed asks event.Commit reply aborted old.book new asks_for.asks_is comes)
+passed_is_refused N image old new (acts.Split tile) asks held reply aborted sound of not asks_for comes =
+    not_granted N old.book new (event.Split tile) reply aborted (passed_split N image old.book tile not)
+    (handed asks (event.Split tile) reply aborted old.book new asks_for.asks_is comes)
+passed_is_refused N image old new (acts.Take tile core) asks held reply aborted sound of not asks_for comes = absurd of
+passed_is_refused N image old new (acts.Give tile core) asks held reply aborted sound of not asks_for comes = absurd of
+passed_is_refused N image old new (acts.Abort tile) asks held reply aborted sound of not asks_for comes = absurd of
+passed_is_refused N image old new (acts.Coalesce tile) asks held reply aborted sound of not asks_for comes = absurd of
+passed_is_refused N image old new acts.Advance asks held reply aborted sound of not asks_for comes = absurd of

@@ -8,7 +8,7 @@ use Rattle.task_request.specs.declared.request.Request.{Request}
 use Rattle.spec_state.specs.Effects.{EffectValue}
 use Rattle.spec_state.specs.View.{View}
 use Rattle.event_def.specs.declared.event.Reply.{Reply}
-use Rattle.event_def.specs.declared.event.Reply.TheVariants as reply
+use Rattle.event_def.specs.declared.event.Reply.TheVariants as replies
 use Rattle.step_script.specs.declared.act.Act.{Act}
 use Rattle.step_script.specs.declared.asked.Asked.{Asked}
 use Rattle.step_script.specs.Playing.{PlayState}
@@ -27,7 +27,7 @@ pub where_lines : (telling : Telling) (text : List ℕ) (lines : Bool) → has_l
 where_lines telling text lines is = ap (λ (b : Bool). if b then text else []) is
 
 module _ (N : Type 0) (image : ImageValue) (at number : ℕ) (act : Act) (old new : PlayState) (asks : Attempt N)
-    (task : Option ℕ) (request : Option Request) (answer : Reply) (aborted : ℕ) (effect : EffectValue) where
+    (task : Option ℕ) (request : Option Request) (reply : Reply) (aborted : ℕ) (effect : EffectValue) where
   -- the moment
   abbrev pub made : Moment N
   made = record {
@@ -37,7 +37,7 @@ module _ (N : Type 0) (image : ImageValue) (at number : ℕ) (act : Act) (old ne
     asks = asks;
     task = task;
     request = request;
-    reply = answer;
+    reply = reply;
     aborted = aborted;
     effect = effect;
     old = old.book;
@@ -45,9 +45,9 @@ module _ (N : Type 0) (image : ImageValue) (at number : ℕ) (act : Act) (old ne
   }
 
   pub is_made : AsksFor image act old asks new.held → IsAbout old.book.view asks task
-      → IsAskedFor old.book.view asks request → answer ≢ reply.Memory
-      → AttemptComes asks answer aborted old.book new.book
-      → AttemptTells asks answer aborted old.book new.book effect
+      → IsAskedFor old.book.view asks request → reply ≢ replies.Memory
+      → AttemptComes asks reply aborted old.book new.book
+      → AttemptTells asks reply aborted old.book new.book effect
       → IsMomentAt image at number act made old new
   is_made asked about asked_for there came told = record {
     act_is = refl;
@@ -59,7 +59,7 @@ module _ (N : Type 0) (image : ImageValue) (at number : ℕ) (act : Act) (old ne
       asked = asked;
       about = about;
       asked_for = asked_for;
-      came = comes_of asks answer aborted old.book new.book there came;
+      came = comes_of asks reply aborted old.book new.book there came;
       told = told;
     };
   }
@@ -67,8 +67,8 @@ module _ (N : Type 0) (image : ImageValue) (at number : ℕ) (act : Act) (old ne
   -- by what is read of a state that is the book's, and where what is told behind it leaves the play
   pub moment_is : (seen : View) (after : PlayState) → seen ≡ old.book.view → after ≡ new
       → AsksFor image act old asks new.held → IsAbout seen asks task → IsAskedFor seen asks request
-      → answer ≢ reply.Memory → AttemptComes asks answer aborted old.book new.book
-      → AttemptTells asks answer aborted old.book new.book effect
+      → reply ≢ replies.Memory → AttemptComes asks reply aborted old.book new.book
+      → AttemptTells asks reply aborted old.book new.book effect
       → IsMomentAt image at number act made old after
   moment_is seen after same left asked about asked_for there came told =
       subst (λ p. IsMomentAt image at number act made old p) (sym left)
@@ -79,32 +79,32 @@ module _ (N : Type 0) (image : ImageValue) (at number : ℕ) (act : Act) (old ne
   -- its line, and the view behind it
   pub line_is : (telling : Telling) (cleared front line : List ℕ) (output : ℕ) → has_lines telling ≡ true
       → cleared ≡ [] → front ≡ cleared ++ front_text at act asks task request → output ≡ length old.book.view.output
-      → line ≡ front ++ rest_text effect output new.book.view asks task request answer aborted new.book.steps
+      → line ≡ front ++ rest_text effect output new.book.view asks task request reply aborted new.book.steps
       ++ view_text telling number new.book.view new.book.steps → line ≡ moment_lines telling made
   unfolding line_of
   line_is telling cleared front line output lines none begun output_is is =
       let first : front ≡ front_text at act asks task request =
       begun ∙ ap (λ l. l ++ front_text at act asks task request) none in
-      let text = λ (n : ℕ). rest_text effect n new.book.view asks task request answer aborted new.book.steps in
+      let text = λ (n : ℕ). rest_text effect n new.book.view asks task request reply aborted new.book.steps in
       let behind = view_text telling number new.book.view new.book.steps in
       is ∙ (λ i. (first i ++ text (output_is i)) ++ behind)
       ∙ sym (where_lines telling (line_of made ++ behind) true lines)
 
 -- the same by the leg that stands ready, of which another reader tells
 module _ (N : Type 0) (image : ImageValue) (at number : ℕ) (act : Act) (old new : PlayState) (asked : Asked)
-    (leg ready : LegValue) (task : Option ℕ) (request : Option Request) (answer : Reply) (aborted : ℕ)
+    (leg ready : LegValue) (task : Option ℕ) (request : Option Request) (reply : Reply) (aborted : ℕ)
     (effect : EffectValue) (same : leg ≡ ready) where
   abbrev pub told_by : LegValue → Moment N
-  told_by l = made N image at number act old new (asks_of asked l) task request answer aborted effect
+  told_by l = made N image at number act old new (asks_of asked l) task request reply aborted effect
 
   pub is_told : (seen : View) (after : PlayState) → seen ≡ old.book.view → after ≡ new
       → AsksFor {N = N} image act old (asks_of asked ready) new.held → IsAbout {N = N} seen (asks_of asked leg) task
-      → IsAskedFor {N = N} seen (asks_of asked leg) request → answer ≢ reply.Memory
-      → AttemptComes {N = N} (asks_of asked ready) answer aborted old.book new.book
-      → AttemptTells {N = N} (asks_of asked ready) answer aborted old.book new.book effect
+      → IsAskedFor {N = N} seen (asks_of asked leg) request → reply ≢ replies.Memory
+      → AttemptComes {N = N} (asks_of asked ready) reply aborted old.book new.book
+      → AttemptTells {N = N} (asks_of asked ready) reply aborted old.book new.book effect
       → IsMomentAt image at number act (told_by leg) old after
   is_told seen after read left asks about asked_for there came told =
-      moment_is N image at number act old new (asks_of asked leg) task request answer aborted effect seen after read left
+      moment_is N image at number act old new (asks_of asked leg) task request reply aborted effect seen after read left
       (subst (λ l. AsksFor {N = N} image act old (asks_of asked l) new.held) (sym same) asks) about asked_for there
-      (subst (λ l. AttemptComes {N = N} (asks_of asked l) answer aborted old.book new.book) (sym same) came)
-      (subst (λ l. AttemptTells {N = N} (asks_of asked l) answer aborted old.book new.book effect) (sym same) told)
+      (subst (λ l. AttemptComes {N = N} (asks_of asked l) reply aborted old.book new.book) (sym same) came)
+      (subst (λ l. AttemptTells {N = N} (asks_of asked l) reply aborted old.book new.book effect) (sym same) told)

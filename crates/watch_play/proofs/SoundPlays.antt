@@ -9,12 +9,12 @@ use Rattle.spec_law.specs.Sound.{Sound}
 use Rattle.event_def.specs.declared.event.Event.{Event}
 use Rattle.event_def.specs.declared.event.Event.TheVariants as event
 use Rattle.event_def.specs.declared.event.Reply.{Reply}
-use Rattle.event_def.specs.declared.event.Reply.TheVariants as reply
+use Rattle.event_def.specs.declared.event.Reply.TheVariants as replies
 use Rattle.event_def.specs.Book.{BookView}
 use Rattle.event_def.specs.Events.{IsGiven}
 use Rattle.event_def.specs.Happens.{Happens}
 use Rattle.event_law.proofs.Proved.{event_stays_sound, next_event_is_given, running_within, leg_is_run}
-use Rattle.event_lemma.proofs.Proved.{makes_keeps_settings}
+use Rattle.event_basis.proofs.Proved.{makes_keeps_settings}
 use Rattle.step_script.specs.declared.act.Act.{Act}
 use Rattle.step_script.specs.declared.act.Act.TheVariants as acts
 use Rattle.step_script.specs.Playing.{HasLegAt, HeldLeg, PlayState, without_held_leg}
@@ -45,29 +45,29 @@ module _ (N : Type 0) (image : ImageValue) (settings : Settings) (old new : Book
   book_stays : new ≡ old → IsSoundBook image settings new
   book_stays same = subst (IsSoundBook image settings) (sym same) good
 
-  event_keeps : (e : Event N) → IsGiven image settings e → (answer : Reply) → Happens old e answer aborted new
+  event_keeps : (e : Event N) → IsGiven image settings e → (reply : Reply) → Happens old e reply aborted new
       → IsSoundBook image settings new
-  event_keeps e given reply.Ok happens =
+  event_keeps e given replies.Ok happens =
       let here = subst (λ s. IsGiven image s e) (sym good.settings_are) given in record {
-        sound = event_stays_sound N image old new e reply.Ok aborted here good.sound happens;
+        sound = event_stays_sound N image old new e replies.Ok aborted here good.sound happens;
         going = happens.stopped;
         settings_are =
             makes_keeps_settings N image old e aborted new.view new.placers here good.sound happens.granted
             happens.makes
             ∙ good.settings_are;
       }
-  event_keeps e given reply.Memory happens = book_stays happens.1.same
-  event_keeps e given reply.Empty happens = book_stays happens.unchanged.same
-  event_keeps e given reply.Busy happens = book_stays happens.unchanged.same
-  event_keeps e given reply.Stall happens = book_stays happens.unchanged.same
-  event_keeps e given reply.Stale happens = book_stays happens.unchanged.same
-  event_keeps e given reply.Firm happens = book_stays happens.unchanged.same
-  event_keeps e given reply.Ended happens = book_stays happens.unchanged.same
+  event_keeps e given replies.Memory happens = book_stays happens.1.same
+  event_keeps e given replies.Empty happens = book_stays happens.unchanged.same
+  event_keeps e given replies.Busy happens = book_stays happens.unchanged.same
+  event_keeps e given replies.Stall happens = book_stays happens.unchanged.same
+  event_keeps e given replies.Stale happens = book_stays happens.unchanged.same
+  event_keeps e given replies.Firm happens = book_stays happens.unchanged.same
+  event_keeps e given replies.Ended happens = book_stays happens.unchanged.same
 
-  asks_keeps : (asks : Attempt N) → AsksGiven image settings asks → (answer : Reply)
-      → ComesOf asks answer aborted old new → IsSoundBook image settings new
-  asks_keeps (Hands e) given answer came = event_keeps e given answer came.1
-  asks_keeps (Says word) given answer came = book_stays came.2
+  asks_keeps : (asks : Attempt N) → AsksGiven image settings asks → (reply : Reply)
+      → ComesOf asks reply aborted old new → IsSoundBook image settings new
+  asks_keeps (Hands e) given reply came = event_keeps e given reply came.1
+  asks_keeps (Says word) given reply came = book_stays came.2
 
 module _ (N : Type 0) (image : ImageValue) (settings : Settings) (play : PlayState)
     (good : IsSoundPlay image settings play)
@@ -107,19 +107,19 @@ module _ (N : Type 0) (image : ImageValue) (settings : Settings) (play : PlaySta
     step_to tile core asks held inside (asking.step_runs leg on has hands) =
         hands_to (event.Step tile core leg) asks held (inside.0, inside.1, leg_runs tile core leg has) hands
     step_to tile core asks held inside (asking.step_ended over says) =
-        says_to reply.Ended asks held play.held says.asks_is says.held_is good.runs
+        says_to replies.Ended asks held play.held says.asks_is says.held_is good.runs
     step_to tile core asks held inside (asking.step_stale on none says) =
-        says_to reply.Stale asks held play.held says.asks_is says.held_is good.runs
+        says_to replies.Stale asks held play.held says.asks_is says.held_is good.runs
 
     take_to : (tile core : ℕ) (asks : Attempt N) (held : List HeldLeg) → AsksTake image tile core play asks held
         → Comes_to asks held
     take_to tile core asks held (asking.take_holds leg has asks_is held_is) =
-        says_to reply.Ok asks held _ asks_is held_is
+        says_to replies.Ok asks held _ asks_is held_is
         (ended_runs image settings tile core (without_held_leg tile core play.held)
         (record { tile = tile; core = core; leg = leg }) (without_runs image settings tile core play.held good.runs)
         (leg_runs tile core leg has))
     take_to tile core asks held (asking.take_stale none asks_is held_is) =
-        says_to reply.Stale asks held _ asks_is held_is (without_runs image settings tile core play.held good.runs)
+        says_to replies.Stale asks held _ asks_is held_is (without_runs image settings tile core play.held good.runs)
 
     give_to : (tile core : ℕ) (asks : Attempt N) (held : List HeldLeg) → (tile < settings.tiles) ×
         (core < settings.cores)
@@ -131,9 +131,9 @@ module _ (N : Type 0) (image : ImageValue) (settings : Settings) (play : PlaySta
       runs = subst (AreRuns image settings) (sym held_is) (without_runs image settings tile core play.held good.runs);
     }
     give_to tile core asks held inside (asking.give_ended over says) =
-        says_to reply.Ended asks held play.held says.asks_is says.held_is good.runs
+        says_to replies.Ended asks held play.held says.asks_is says.held_is good.runs
     give_to tile core asks held inside (asking.give_stale on none says) =
-        says_to reply.Stale asks held play.held says.asks_is says.held_is good.runs
+        says_to replies.Stale asks held play.held says.asks_is says.held_is good.runs
 
     advance_to : (asks : Attempt N) (held : List HeldLeg) → AsksAdvance image play asks held → Comes_to asks held
     advance_to asks held (asking.advance_next e next hands) =
@@ -142,7 +142,7 @@ module _ (N : Type 0) (image : ImageValue) (settings : Settings) (play : PlaySta
         next))
         hands
     advance_to asks held (asking.advance_ended over says) =
-        says_to reply.Ended asks held play.held says.asks_is says.held_is good.runs
+        says_to replies.Ended asks held play.held says.asks_is says.held_is good.runs
 
     act_to : (act : Act) (asks : Attempt N) (held : List HeldLeg) → ActIsInRange settings.tiles settings.cores act
         → AsksFor image act play asks held → Comes_to asks held
@@ -157,13 +157,13 @@ module _ (N : Type 0) (image : ImageValue) (settings : Settings) (play : PlaySta
     act_to acts.Advance asks held inside asked = advance_to asks held asked
 
     -- an act within the settings leaves a good play
-    pub stays_good : (act : Act) (asks : Attempt N) (answer : Reply) (aborted : ℕ) (new : PlayState)
+    pub stays_good : (act : Act) (asks : Attempt N) (reply : Reply) (aborted : ℕ) (new : PlayState)
         → ActIsInRange settings.tiles settings.cores act → AsksFor image act play asks new.held
-        → ComesOf asks answer aborted play.book new.book → IsSoundPlay image settings new
-    stays_good act asks answer aborted new inside asked came =
+        → ComesOf asks reply aborted play.book new.book → IsSoundPlay image settings new
+    stays_good act asks reply aborted new inside asked came =
         let to = act_to act asks new.held inside asked in
         let book =
         asks_keeps N image settings play.book new.book aborted
-        (record { sound = good.sound; going = good.going; settings_are = good.settings_are }) asks to.given answer
+        (record { sound = good.sound; going = good.going; settings_are = good.settings_are }) asks to.given reply
         came in
         record { sound = book.sound; going = book.going; settings_are = book.settings_are; runs = to.runs }

@@ -7,7 +7,7 @@ use Rattle.guest_image.specs.ImageValue.{ImageValue}
 use Rattle.spec_law.specs.Sound.{Sound}
 use Rattle.event_def.specs.declared.event.Event.TheVariants as event
 use Rattle.event_def.specs.declared.event.Reply.{Reply}
-use Rattle.event_def.specs.declared.event.Reply.TheVariants as reply
+use Rattle.event_def.specs.declared.event.Reply.TheVariants as replies
 use Rattle.event_def.specs.Book.{BookView}
 use Rattle.event_def.specs.Opening.{IsOpening}
 use Rattle.event_law.proofs.Proved.{opening_is_sound}
@@ -37,23 +37,23 @@ use Rattle.watch_play.proofs.SoundPlays.{IsSoundPlay}
 -- ---- what is said of a moment tells its reply
 
 abbrev reply_of : Word → Reply
-reply_of (words.Plain answer) = answer
-reply_of words.Moved = reply.Ok
-reply_of words.Committed = reply.Ok
+reply_of (words.Plain reply) = reply
+reply_of words.Moved = replies.Ok
+reply_of words.Committed = replies.Ok
 
 module _ {N : Type 0} where
-  advance_tells : (asks : Attempt N) (answer : Reply) → reply_of (advance_word asks answer) ≡ answer
-  advance_tells (Hands event.Commit) reply.Ok = refl
-  advance_tells (Hands (event.Dispatch tile)) reply.Ok = refl
-  advance_tells (Hands (event.Step tile core leg)) reply.Ok = refl
-  advance_tells (Hands (event.Abort tile)) reply.Ok = refl
-  advance_tells (Hands (event.Coalesce tile)) reply.Ok = refl
-  advance_tells (Hands (event.Split tile)) reply.Ok = refl
-  advance_tells asks answer = refl
+  advance_tells : (asks : Attempt N) (reply : Reply) → reply_of (advance_word asks reply) ≡ reply
+  advance_tells (Hands event.Commit) replies.Ok = refl
+  advance_tells (Hands (event.Dispatch tile)) replies.Ok = refl
+  advance_tells (Hands (event.Step tile core leg)) replies.Ok = refl
+  advance_tells (Hands (event.Abort tile)) replies.Ok = refl
+  advance_tells (Hands (event.Coalesce tile)) replies.Ok = refl
+  advance_tells (Hands (event.Split tile)) replies.Ok = refl
+  advance_tells asks reply = refl
 
-  word_tells : (act : Act) (asks : Attempt N) (answer : Reply) → reply_of (word_by act asks answer) ≡ answer
-  word_tells acts.Advance asks answer = advance_tells asks answer
-  word_tells act asks answer = refl
+  word_tells : (act : Act) (asks : Attempt N) (reply : Reply) → reply_of (word_by act asks reply) ≡ reply
+  word_tells acts.Advance asks reply = advance_tells asks reply
+  word_tells act asks reply = refl
 
 -- ---- lists
 

@@ -4,7 +4,7 @@ use Rattle.std.specs.Prelude.{◌≡◌, ◌≢◌, ℕ, List}
 use Rattle.guest_image.specs.ImageValue.{ImageValue}
 use Rattle.spec_law.specs.Sound.{Sound}
 use Rattle.event_def.specs.declared.event.Reply.{Reply}
-use Rattle.event_def.specs.declared.event.Reply.TheVariants as reply
+use Rattle.event_def.specs.declared.event.Reply.TheVariants as replies
 use Rattle.event_def.specs.Book.{BookView}
 use Rattle.event_def.specs.End.{IsOver}
 use Rattle.step_script.specs.declared.act.Act.{Act}
@@ -28,22 +28,22 @@ IsOfRound other = ⊥
 
 -- the act was made, or memory was wanting, or it is a step, and stalled
 abbrev pub IsMadeOrStalls : Act → Reply → Type 0
-IsMadeOrStalls act reply.Ok = Unit {0}
-IsMadeOrStalls act reply.Memory = Unit {0}
-IsMadeOrStalls act reply.Stall = IsStep act
+IsMadeOrStalls act replies.Ok = Unit {0}
+IsMadeOrStalls act replies.Memory = Unit {0}
+IsMadeOrStalls act replies.Stall = IsStep act
 IsMadeOrStalls act other = ⊥
 
 -- while a run goes on: what a round asks for, as the machine stands, is made, unless a step stalls or memory runs out
 abbrev pub AskedIsMade : Type 0 → Type 0
 AskedIsMade N =
     (image : ImageValue) (old : PlayState) (new : BookView) (act : Act) (asks : Attempt N) (held : List HeldLeg)
-    (answer : Reply) (aborted : ℕ) → (IsOver old.book.view → ⊥) → IsOfRound act → IsAskedInRound old.book.view act
-    → AsksFor image act old asks held → AttemptComes asks answer aborted old.book new → IsMadeOrStalls act answer
+    (reply : Reply) (aborted : ℕ) → (IsOver old.book.view → ⊥) → IsOfRound act → IsAskedInRound old.book.view act
+    → AsksFor image act old asks held → AttemptComes asks reply aborted old.book new → IsMadeOrStalls act reply
 
 -- and what it passes over isn't made by whoever hands it in, and leaves the book as it is
 abbrev pub PassedIsRefused : Type 0 → Type 0
 PassedIsRefused N =
     (image : ImageValue) (old : PlayState) (new : BookView) (act : Act) (asks : Attempt N) (held : List HeldLeg)
-    (answer : Reply) (aborted : ℕ) → Sound image old.book.view → IsOfRound act
+    (reply : Reply) (aborted : ℕ) → Sound image old.book.view → IsOfRound act
     → (IsAskedInRound old.book.view act → ⊥) → AsksFor image act old asks held
-    → AttemptComes asks answer aborted old.book new → (answer ≢ reply.Ok) × (new ≡ old.book)
+    → AttemptComes asks reply aborted old.book new → (reply ≢ replies.Ok) × (new ≡ old.book)

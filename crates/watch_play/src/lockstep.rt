@@ -18,7 +18,7 @@ use crate::playing::tell_act;
 use crate::stop::StoryStop;
 use crate::watch::Watch;
 use conflict_book::Book;
-use event_room::{is_at, least_going, may_return};
+use event_prelude::{is_at, least_going, may_return};
 use guest_image::Image;
 use place_policy::Placer;
 use rv_core::Naming;

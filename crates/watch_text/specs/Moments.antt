@@ -41,7 +41,7 @@ task_of about = option_map (λ id. id.0) about.task
 -- the task that an event is about: the one that is dispatched, holds the core, is taken back or commits; none where
 -- there is no such task, and where tasks move between a queue and a block
 abbrev pub IsAbout : {N : Type 0} → View → Attempt N → Option ℕ → Type 0
-IsAbout view (Says answer) task = task ≡ None
+IsAbout view (Says reply) task = task ≡ None
 IsAbout view (Hands (event.Dispatch tile)) None = (id : ℕ) (task : Task) → IsIdle view tile id task → ⊥
 IsAbout view (Hands (event.Dispatch tile)) (Some id) = (task : Task) × IsLeastIdle view tile id task
 IsAbout view (Hands (event.Step tile core leg)) task = slice_get (cores_at view tile) core ≡ Some task

@@ -6,7 +6,7 @@ ghost use Rattle.spec_state.specs.declared.task.Task.{Task};
 ghost use Rattle.spec_state.specs.Changes.{TakesLeg, request_of};
 ghost use Rattle.spec_state.specs.Least.{IsTheLeast};
 ghost use Rattle.event_def.specs.Causes.{IsStale};
-ghost use Rattle.event_lemma.specs.Whereabouts.{queued_in};
+ghost use Rattle.event_basis.specs.Whereabouts.{queued_in};
 ghost use Rattle.step_script.specs.Asking.{AskedIsInRange, asks_of};
 ghost use Rattle.watch_text.specs.Moments.{IsAbout, IsAskedFor, task_of};
 

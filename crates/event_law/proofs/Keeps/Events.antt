@@ -17,7 +17,7 @@ use Rattle.spec_law.proofs.Proved.{least_is_one, split_stays_sound}
 use Rattle.event_def.specs.declared.event.Event.{Event}
 use Rattle.event_def.specs.declared.event.Event.TheVariants as event
 use Rattle.event_def.specs.declared.event.Reply.{Reply}
-use Rattle.event_def.specs.declared.event.Reply.TheVariants as reply
+use Rattle.event_def.specs.declared.event.Reply.TheVariants as replies
 use Rattle.event_def.specs.Book.{BookView}
 use Rattle.event_def.specs.Causes.{IsGranted}
 use Rattle.event_def.specs.Events.{ComesTo, StepEvent, SplitEvent, Makes, IsGiven}
@@ -95,25 +95,25 @@ module _ (image : ImageValue) (book : BookView) (sound : Sound image book.view) 
 
 module _ (N : Type 0) (image : ImageValue) (old new : BookView) (event : Event N) (aborted : ℕ) (given : IsGiven image old.view.settings event) (sound : Sound image old.view) where
   -- one that is refused, whatever the reply
-  refused_keeps : (answer : Reply) → Happens old event answer aborted new → answer ≢ reply.Ok
+  refused_keeps : (reply : Reply) → Happens old event reply aborted new → reply ≢ replies.Ok
       → Follows image old.view new.view
-  refused_keeps answer happens refused =
-      let same : old ≡ new = sym (unchanged old new event aborted answer happens refused).1 in
+  refused_keeps reply happens refused =
+      let same : old ≡ new = sym (unchanged old new event aborted reply happens refused).1 in
       subst (λ (book : BookView). Follows image old.view book.view) same (follows_itself image old.view sound)
 
   -- an event, whatever it is answered
-  pub happens_keeps : (answer : Reply) → Happens old event answer aborted new → Follows image old.view new.view
-  happens_keeps reply.Ok happens =
+  pub happens_keeps : (reply : Reply) → Happens old event reply aborted new → Follows image old.view new.view
+  happens_keeps replies.Ok happens =
       makes_leads image old sound aborted new.view new.placers N event given happens.granted happens.makes
-  happens_keeps reply.Empty happens = refused_keeps reply.Empty happens (λ e. absurd (cc (e)))
-  happens_keeps reply.Busy happens = refused_keeps reply.Busy happens (λ e. absurd (cc (e)))
-  happens_keeps reply.Stall happens = refused_keeps reply.Stall happens (λ e. absurd (cc (e)))
-  happens_keeps reply.Stale happens = refused_keeps reply.Stale happens (λ e. absurd (cc (e)))
-  happens_keeps reply.Firm happens = refused_keeps reply.Firm happens (λ e. absurd (cc (e)))
-  happens_keeps reply.Ended happens = refused_keeps reply.Ended happens (λ e. absurd (cc (e)))
-  happens_keeps reply.Memory happens = refused_keeps reply.Memory happens (λ e. absurd (cc (e)))
+  happens_keeps replies.Empty happens = refused_keeps replies.Empty happens (λ e. absurd (cc (e)))
+  happens_keeps replies.Busy happens = refused_keeps replies.Busy happens (λ e. absurd (cc (e)))
+  happens_keeps replies.Stall happens = refused_keeps replies.Stall happens (λ e. absurd (cc (e)))
+  happens_keeps replies.Stale happens = refused_keeps replies.Stale happens (λ e. absurd (cc (e)))
+  happens_keeps replies.Firm happens = refused_keeps replies.Firm happens (λ e. absurd (cc (e)))
+  happens_keeps replies.Ended happens = refused_keeps replies.Ended happens (λ e. absurd (cc (e)))
+  happens_keeps replies.Memory happens = refused_keeps replies.Memory happens (λ e. absurd (cc (e)))
 
 -- whatever happens keeps a book's view sound
 pub event_stays_sound : (N : Type 0) → EventStaysSound N
-event_stays_sound N image old new event answer aborted given sound happens =
-    (happens_keeps N image old new event aborted given sound answer happens).now
+event_stays_sound N image old new event reply aborted given sound happens =
+    (happens_keeps N image old new event aborted given sound reply happens).now

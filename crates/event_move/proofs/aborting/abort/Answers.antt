@@ -1,5 +1,5 @@
 use Rattle.std.proofs.Common.{sym, ◌∙◌}
-use Rattle.event_room.proofs.Proved.{tests_least}
+use Rattle.event_prelude.proofs.Proved.{tests_least}
 use Rattle.event_move.proofs.Aborted.{least_stays}
 use Rattle.event_move.proofs.aborting.abort.Goals as goal
 

@@ -1,6 +1,6 @@
 use Rattle.std.proofs.Common.{ap}
 use Rattle.std.specs.Prelude.{is_some}
-use Rattle.event_room.proofs.Proved.{tests_least}
+use Rattle.event_prelude.proofs.Proved.{tests_least}
 use Rattle.event_move.proofs.Dispatched.{busy_by, least_unless_busy}
 use Rattle.event_move.proofs.dispatching.is_busy.Goals as goal
 

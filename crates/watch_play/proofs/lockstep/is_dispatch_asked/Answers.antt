@@ -1,5 +1,5 @@
 use Rattle.conflict_book.specs.BookViews.{machine_view}
-use Rattle.event_room.proofs.Proved.{tests_least}
+use Rattle.event_prelude.proofs.Proved.{tests_least}
 use Rattle.watch_play.proofs.Chosen.{least_asked, ready_asked}
 use Rattle.watch_play.proofs.lockstep.is_dispatch_asked.Goals as goal
 

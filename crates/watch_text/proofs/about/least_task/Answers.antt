@@ -5,8 +5,8 @@ use Rattle.spec_state.specs.declared.task.TaskId.{TaskId}
 use Rattle.spec_state.specs.declared.task.Where.{Where}
 use Rattle.spec_state.specs.Least.{IsLeast, IsTheLeast}
 use Rattle.spec_state.specs.View.{View}
-use Rattle.event_lemma.specs.Whereabouts.{queued_in}
-use Rattle.event_lemma.proofs.Proved.{least_where, none_is_least}
+use Rattle.event_basis.specs.Whereabouts.{queued_in}
+use Rattle.event_basis.proofs.Proved.{least_where, none_is_least}
 use Rattle.watch_text.proofs.about.least_task.Goals as goal
 
 module _ (view : View) (w : Where) (is : IsLeast view w) where

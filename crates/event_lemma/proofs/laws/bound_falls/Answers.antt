@@ -1,5 +1,0 @@
-use Rattle.event_lemma.proofs.Falling.{rest_falls}
-use Rattle.event_lemma.proofs.laws.bound_falls.Goals as goal
-
-pub returns : goal.returns
-returns g c = rest_falls g.row.N.Denot

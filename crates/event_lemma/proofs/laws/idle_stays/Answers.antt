@@ -1,5 +1,0 @@
-use Rattle.event_lemma.proofs.Cores.{core_leaves_idle}
-use Rattle.event_lemma.proofs.laws.idle_stays.Goals as goal
-
-pub returns : goal.returns
-returns c = core_leaves_idle

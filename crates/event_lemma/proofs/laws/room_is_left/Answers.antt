@@ -1,5 +1,0 @@
-use Rattle.event_lemma.proofs.Rooms.{room_leaves}
-use Rattle.event_lemma.proofs.laws.room_is_left.Goals as goal
-
-pub returns : goal.returns
-returns c = room_leaves

@@ -1,5 +1,0 @@
-use Rattle.event_lemma.proofs.Rooms.{taker_stays}
-use Rattle.event_lemma.proofs.laws.taker_stays.Goals as goal
-
-pub returns : goal.returns
-returns c = taker_stays

@@ -1,5 +1,0 @@
-use Rattle.event_lemma.proofs.Rooms.{victim_moves}
-use Rattle.event_lemma.proofs.laws.victim_moves.Goals as goal
-
-pub returns : goal.returns
-returns c = victim_moves

@@ -1,7 +1,0 @@
-use Rattle.std.proofs.Common.{ap}
-use Rattle.spec_state.specs.Effects.{EffectValue}
-use Rattle.event_room.proofs.rooming.spill.Goals as goal
-
-pub returns-clause-moves : goal.returns-clause-moves
-returns-clause-moves g c =
-    let ok = c.in-Ok.ensures.ok in (ok.0, ap (λ (e : EffectValue). e.spilled) ok.2)
