@@ -4,14 +4,13 @@
 ghost use Rattle.std.specs.Prelude.{◌≡◌, All, IsTrue};
 ghost use Rattle.spec_state.specs.Settings.{IsValid};
 ghost use Rattle.conflict_book.specs.Ranges.{IsInRange};
-ghost use Rattle.conflict_book.specs.BookViews.{machine_view};
 
 use crate::machines::{
     ENDERS, FOUR_CORES, Hinted, TWO_TILES, image_of, is_normal, one_tap, opening_book,
 };
 use conflict_book::{Applied, Book, Event, Halt, Reply};
 use guest_image::Image;
-use place_policy::Placer;
+use run_journal::Closed;
 use rv_core::{Naming, run_leg};
 use sample_image::{FIRST_MAKER, Program, READER_AND_WRITER};
 use serial_machine::End;
@@ -20,7 +19,6 @@ use std::alloc::{AllocError, Global};
 use std::marker::Brand;
 use std::process::Abort;
 use std::test::Fail;
-use trace_tap::Tap;
 
 /// Takes what may go to another thread.
 fn is_sent<T: Send>(_value: &T) {}
@@ -93,11 +91,9 @@ static FULL_QUEUE: [(Act, Applied); 7] = [
 ];
 
 /// Whether the event's tile and core are there.
-fn may_take<N: Naming, P: Placer, T: Tap>(book: &Book<N, P, T>, event: &Event<N>) -> bool
-    ensures { let view = machine_view book.now in
-        IsTrue result → IsInRange view.settings event.now }
+fn may_take<N: Naming>(settings: &Settings, event: &Event<N>) -> bool
+    ensures { IsTrue result → IsInRange settings.now event.now }
 {
-    let settings = book.settings();
     match event {
         Event::Step { tile, core, .. } => *tile < settings.tiles && *core < settings.cores,
         Event::Commit => true,
@@ -109,12 +105,11 @@ fn may_take<N: Naming, P: Placer, T: Tap>(book: &Book<N, P, T>, event: &Event<N>
 }
 
 /// Whether the tile and the core of each event are there.
-fn may_take_all<N: Naming, P: Placer, T: Tap>(book: &Book<N, P, T>, events: &[Event<N>]) -> bool
-    ensures { let view = machine_view book.now in
-        IsTrue result → All (IsInRange view.settings) events.now }
+fn may_take_all<N: Naming>(settings: &Settings, events: &[Event<N>]) -> bool
+    ensures { IsTrue result → All (IsInRange settings.now) events.now }
 {
     for event in events {
-        if !may_take(book, event) {
+        if !may_take(settings, event) {
             return false;
         }
     }
@@ -147,8 +142,22 @@ fn is_answered<N: Naming>(image: &Image, book: &mut Hinted<N>, act: Act, answer:
     requires image { image.now ≡ N.image }
 {
     match event_of(image, book, act) {
-        Some(event) => may_take(book, &event) && book.apply(event) == *answer,
+        Some(event) => may_take(book.settings(), &event) && book.apply(event) == *answer,
         None => false,
+    }
+}
+
+/// The events of a script are handed in one after another; each is answered as the script says.
+fn are_answered<N: Naming>(
+    rt: &impl Abort,
+    image: &Image,
+    book: &mut Hinted<N>,
+    script: &[(Act, Applied)],
+)
+    requires image { image.now ≡ N.image }
+{
+    for (place, (act, answer)) in script.iter().enumerate() {
+        assert!(rt; is_answered(image, book, *act, answer), "event {place}");
     }
 }
 
@@ -175,39 +184,37 @@ fn add<N: Naming>(events: &mut Vec<Event<N>>, event: Option<Event<N>>) -> Result
     }
 }
 
-/// The events of a script, which are handed in to a book one after another; each is answered as the script says.
-fn events_of<N: Naming>(
+/// Notes the events of a script, which are handed in to a book one after another; each is answered as the script says.
+fn note_events<N: Naming>(
     rt: &impl Abort,
-    alloc: Global,
     image: &Image,
     book: &mut Hinted<N>,
+    events: &mut Vec<Event<N>>,
     script: &[(Act, Applied)],
-) -> Result<Vec<Event<N>>, AllocError>
+) -> Result<(), AllocError>
     requires image { image.now ≡ N.image }
 {
-    let mut events = Vec::new(alloc);
     for (place, (act, answer)) in script.iter().enumerate() {
-        add(&mut events, event_of(image, book, *act))?;
+        add(events, event_of(image, book, *act))?;
         assert!(rt; is_answered(image, book, *act, answer), "event {place}");
     }
-    Ok(events)
+    Ok(())
 }
 
-/// What a book tells of the run of the reader, its child and the writer, whose 17 events it made.
-fn tells_whole<N: Naming>(rt: &impl Abort, book: &Hinted<N>) {
-    assert_eq!(rt; book.steps(), 17);
-    assert!(rt; is_normal(book.end()));
+/// The run of the reader, its child and the writer ended after its 17 events.
+fn ended_whole(rt: &impl Abort, steps: u64, end: Option<End>) {
+    assert_eq!(rt; steps, 17);
+    assert!(rt; is_normal(end));
 }
 
 /// The tap has the last four records.
-fn tap_has_the_last<N: Naming>(rt: &impl Abort, book: &Hinted<N>) {
-    assert!(rt; book.tap_len(0) == Some(20));
-    assert!(rt; book.tap_at(0, 19) == Some(3));
+fn tap_has_the_last(rt: &impl Abort, length: Option<u32>, last: Option<u64>) {
+    assert!(rt; length == Some(20));
+    assert!(rt; last == Some(3));
 }
 
-/// What it leaves.
-fn leaves_whole<N: Naming>(rt: &impl Abort, book: Hinted<N>) {
-    let closed = book.close();
+/// What the run left.
+fn left_whole(rt: &impl Abort, closed: &Closed) {
     assert_eq!(rt;
         closed.memory.as_slice(),
         [7, 0, 0, 0, 8, 0, 0, 0].as_slice()
@@ -217,27 +224,9 @@ fn leaves_whole<N: Naming>(rt: &impl Abort, book: Hinted<N>) {
 
 /// The run came to its end.
 fn is_whole<N: Naming>(rt: &impl Abort, book: Hinted<N>) {
-    tells_whole(rt, &book);
-    tap_has_the_last(rt, &book);
-    leaves_whole(rt, book);
-}
-
-/// A book to which the events of a script were handed in one after another.
-fn book_after<N: Naming>(
-    rt: &impl Abort,
-    alloc: Global,
-    image: &Image,
-    settings: Settings,
-    script: &[(Act, Applied)],
-) -> Result<Hinted<N>, Fail>
-    requires valid { IsValid settings }
-    requires image { image.now ≡ N.image }
-    requires budget { settings.budget ≡ N.budget }
-    requires commits { settings.commits ≡ N.commits }
-{
-    let mut book = book_with_tap::<N>(alloc, image, settings)?;
-    let _events = events_of(rt, alloc, image, &mut book, script)?;
-    Ok(book)
+    ended_whole(rt, book.steps(), book.end());
+    tap_has_the_last(rt, book.tap_len(0), book.tap_at(0, 19));
+    left_whole(rt, &book.close());
 }
 
 /// The events of the first script are made one after another.
@@ -252,10 +241,9 @@ fn made_one_by_one<N: Naming>(
     requires budget { settings.budget ≡ N.budget }
     requires commits { settings.commits ≡ N.commits }
 {
-    is_whole(
-        rt,
-        book_after::<N>(rt, alloc, image, settings, &LATE_WRITER)?,
-    );
+    let mut book = book_with_tap::<N>(alloc, image, settings)?;
+    are_answered(rt, image, &mut book, &LATE_WRITER);
+    is_whole(rt, book);
     Ok(())
 }
 
@@ -279,7 +267,9 @@ fn events_to_make<N: Naming>(
     requires commits { settings.commits ≡ N.commits }
 {
     let mut book = book_with_tap::<N>(alloc, image, settings)?;
-    Ok(events_of(rt, alloc, image, &mut book, script)?)
+    let mut events = Vec::new(alloc);
+    note_events(rt, image, &mut book, &mut events, script)?;
+    Ok(events)
 }
 
 /// The answers are those of a script.
@@ -290,17 +280,35 @@ fn are_as_scripted(rt: &impl Abort, answers: &[Applied], script: &[(Act, Applied
     }
 }
 
-/// The book, to which these events were handed in as one list, and answered as the script says.
-fn made_as_list<N: Naming>(
+/// These events are handed in to a book as one list, and answered as the script says.
+fn make_list<N: Naming>(
     rt: &impl Abort,
-    book: Hinted<N>,
+    book: &mut Hinted<N>,
     events: Vec<Event<N>>,
     script: &[(Act, Applied)],
-) -> Result<Hinted<N>, AllocError> {
-    let mut book = book;
-    assert!(rt; may_take_all(&book, &events));
+) -> Result<(), AllocError> {
+    assert!(rt; may_take_all(book.settings(), &events));
     let answers = book.apply_all(events)?;
     are_as_scripted(rt, &answers, script);
+    Ok(())
+}
+
+/// A book to which the events of a script were handed in as one list.
+fn book_after_list<N: Naming>(
+    rt: &impl Abort,
+    alloc: Global,
+    image: &Image,
+    settings: Settings,
+    script: &[(Act, Applied)],
+) -> Result<Hinted<N>, Fail>
+    requires valid { IsValid settings }
+    requires image { image.now ≡ N.image }
+    requires budget { settings.budget ≡ N.budget }
+    requires commits { settings.commits ≡ N.commits }
+{
+    let events = events_to_make::<N>(rt, alloc, image, settings, script)?;
+    let mut book = book_with_tap::<N>(alloc, image, settings)?;
+    make_list(rt, &mut book, events, script)?;
     Ok(book)
 }
 
@@ -316,9 +324,8 @@ fn made_at_once<N: Naming>(
     requires budget { settings.budget ≡ N.budget }
     requires commits { settings.commits ≡ N.commits }
 {
-    let events = events_to_make::<N>(rt, alloc, image, settings, &LATE_WRITER)?;
-    let book = book_with_tap::<N>(alloc, image, settings)?;
-    is_whole(rt, made_as_list(rt, book, events, &LATE_WRITER)?);
+    let book = book_after_list::<N>(rt, alloc, image, settings, &LATE_WRITER)?;
+    is_whole(rt, book);
     Ok(())
 }
 
@@ -329,10 +336,10 @@ fn a_list_of_events_takes_the_reader_back(rt: HostRuntime) -> Result<(), Fail> {
 }
 
 /// The last of seven events was refused, and the queue stays full.
-fn is_full<N: Naming>(rt: &impl Abort, book: &Hinted<N>) {
-    assert_eq!(rt; book.steps(), 6);
-    assert!(rt; book.end().is_none());
-    assert_eq!(rt; book.loads().as_slice(), [4].as_slice());
+fn is_full(rt: &impl Abort, steps: u64, end: Option<End>, loads: &[u32]) {
+    assert_eq!(rt; steps, 6);
+    assert!(rt; end.is_none());
+    assert_eq!(rt; loads, [4].as_slice());
 }
 
 /// The events of the second script are handed in as one list.
@@ -347,9 +354,8 @@ fn stalls_at_once<N: Naming>(
     requires budget { settings.budget ≡ N.budget }
     requires commits { settings.commits ≡ N.commits }
 {
-    let events = events_to_make::<N>(rt, alloc, image, settings, &FULL_QUEUE)?;
-    let book = book_with_tap::<N>(alloc, image, settings)?;
-    is_full(rt, &made_as_list(rt, book, events, &FULL_QUEUE)?);
+    let book = book_after_list::<N>(rt, alloc, image, settings, &FULL_QUEUE)?;
+    is_full(rt, book.steps(), book.end(), book.loads().as_slice());
     Ok(())
 }
 
@@ -359,21 +365,16 @@ fn a_list_of_events_fills_a_queue(rt: HostRuntime) -> Result<(), Fail> {
     stalls_at_once::<Brand>(&rt, rt.alloc(), &image, FOUR_CORES)
 }
 
-/// The events of the least tasks end the run: a dispatch, its steps and a commit for each.
-fn ends_by_the_least<N: Naming>(rt: &impl Abort, book: &mut Hinted<N>, image: &Image)
-    requires image { image.now ≡ N.image }
-{
-    assert!(rt; matches!(book.run_least(image), Halt::Ended(End::Normal)));
-    assert_eq!(rt; book.steps(), 13);
-    assert_eq!(rt; book.history().len(), 3);
+/// The events of the least tasks ended the run: a dispatch, its steps and a commit for each.
+fn ended_by_the_least(rt: &impl Abort, halt: &Halt, steps: u64, commits: usize) {
+    assert!(rt; matches!(halt, Halt::Ended(End::Normal)));
+    assert_eq!(rt; steps, 13);
+    assert_eq!(rt; commits, 3);
 }
 
 /// A book that was stopped makes no event.
-fn makes_no_more<N: Naming>(rt: &impl Abort, book: &mut Hinted<N>, image: &Image)
-    requires image { image.now ≡ N.image }
-{
-    book.stop();
-    assert!(rt; matches!(book.run_least(image), Halt::Memory));
+fn made_no_more(rt: &impl Abort, halt: &Halt) {
+    assert!(rt; matches!(halt, Halt::Memory));
 }
 
 /// A run by the least tasks.
@@ -389,8 +390,10 @@ fn least_run<N: Naming>(
     requires commits { settings.commits ≡ N.commits }
 {
     let mut book = book_with_tap::<N>(alloc, image, settings)?;
-    ends_by_the_least(rt, &mut book, image);
-    makes_no_more(rt, &mut book, image);
+    let halt = book.run_least(image);
+    ended_by_the_least(rt, &halt, book.steps(), book.history().len());
+    book.stop();
+    made_no_more(rt, &book.run_least(image));
     Ok(())
 }
 
@@ -497,9 +500,8 @@ static STACK_TAKEN_BACK: [(Act, Applied); 14] = [
 ];
 
 /// The task found a stack of zeros, and then what it had stored there.
-fn leaves_zero_and_65<N: Naming>(rt: &impl Abort, book: Hinted<N>) {
-    assert!(rt; is_normal(book.end()));
-    let closed = book.close();
+fn left_zero_and_65(rt: &impl Abort, end: Option<End>, closed: &Closed) {
+    assert!(rt; is_normal(end));
     assert_eq!(rt; closed.output.as_slice(), [0, 65].as_slice());
     assert_eq!(rt; closed.memory.as_slice(), [7, 0, 0, 0].as_slice());
 }
@@ -516,10 +518,10 @@ fn begins_anew<N: Naming>(
     requires budget { settings.budget ≡ N.budget }
     requires commits { settings.commits ≡ N.commits }
 {
-    leaves_zero_and_65(
-        rt,
-        book_after::<N>(rt, alloc, image, settings, &STACK_TAKEN_BACK)?,
-    );
+    let mut book = book_with_tap::<N>(alloc, image, settings)?;
+    are_answered(rt, image, &mut book, &STACK_TAKEN_BACK);
+    let end = book.end();
+    left_zero_and_65(rt, end, &book.close());
     Ok(())
 }
 

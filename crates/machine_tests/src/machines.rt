@@ -72,8 +72,9 @@ pub type Hinted<N> = Book<N, ByHint, LastN>;
 
 /// One tap, which keeps the last four records.
 pub fn one_tap(alloc: Global) -> Result<Vec<LastN>, Fail> {
+    let tap = LastN::new(alloc, 4)?;
     let mut taps = Vec::new(alloc);
-    taps.push(LastN::new(alloc, 4)?)?;
+    taps.push(tap)?;
     Ok(taps)
 }
 

@@ -475,6 +475,12 @@ fn are_the_children(rt: &impl Abort, pending: &[Pending]) {
     assert!(rt; pending.last() == Some(&LAST_CHILD));
 }
 
+/// The run stopped at its limit, with one child in the queue.
+fn stopped_with_one(rt: &impl Abort, halt: &Halt, loads: &[u32]) {
+    assert!(rt; matches!(halt, Halt::Ended(End::Limit)));
+    assert_eq!(rt; loads, [1].as_slice());
+}
+
 /// One child is left in the queue and all others are spilled; all of them pend.
 fn keeps_the_spilled<N: Naming>(
     rt: &impl Abort,
@@ -488,8 +494,8 @@ fn keeps_the_spilled<N: Naming>(
     requires commits { settings.commits ≡ N.commits }
 {
     let mut book = opening_book::<N>(alloc, image, settings, Vec::new(alloc))?;
-    assert!(rt; matches!(book.run_least(image), Halt::Ended(End::Limit)));
-    assert_eq!(rt; book.loads().as_slice(), [1].as_slice());
+    let halt = book.run_least(image);
+    stopped_with_one(rt, &halt, book.loads().as_slice());
     let frozen = frozen_of(book)?;
     are_the_children(rt, frozen.pending.as_slice());
     Ok(())
@@ -522,6 +528,16 @@ fn make_children<N: Naming>(book: &mut Hinted<N>, image: &Image)
     }
 }
 
+/// The queue holds the task and one child.
+fn are_two(rt: &impl Abort, loads: &[u32]) {
+    assert_eq!(rt; loads, [2].as_slice());
+}
+
+/// Only the task that makes children pends.
+fn is_the_maker(rt: &impl Abort, pending: &[Pending]) {
+    assert_eq!(rt; pending, THE_MAKER.as_slice());
+}
+
 /// The children of a task that has not committed don't pend; it does.
 fn keeps_the_maker<N: Naming>(
     rt: &impl Abort,
@@ -536,9 +552,9 @@ fn keeps_the_maker<N: Naming>(
 {
     let mut book = opening_book::<N>(alloc, image, settings, Vec::new(alloc))?;
     make_children(&mut book, image);
-    assert_eq!(rt; book.loads().as_slice(), [2].as_slice());
+    are_two(rt, book.loads().as_slice());
     let frozen = frozen_of(book)?;
-    assert_eq!(rt; frozen.pending.as_slice(), THE_MAKER.as_slice());
+    is_the_maker(rt, frozen.pending.as_slice());
     Ok(())
 }
 

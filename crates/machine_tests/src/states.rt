@@ -10,12 +10,12 @@ use crate::machines::{DEFAULTS, image_of};
 use guest_image::{Image, Kind};
 use rv_core::Naming;
 use sample_image::Program;
-use spec_state::{Emitted, Pending, Settings, State, Task, TaskId, Where};
+use spec_state::{Emitted, Parts, Pending, Settings, State, Task, TaskId, Where};
 use std::alloc::{AllocError, Global};
 use std::marker::Brand;
 use std::process::Abort;
 use std::test::Fail;
-use task_desc::{Desc, Name};
+use task_desc::{Ctx, Desc, Name};
 
 /// Settings, and whether each of their numbers is in its range.
 static RANGES: [(Settings, bool); 4] = [
@@ -83,10 +83,20 @@ const NO_TEXT: Program = Program {
     tasks: &[(0x0001_0000, 5)],
 };
 
+/// Four tiles hold nothing, and nothing was left.
+fn are_empty(rt: &impl Abort, loads: &[u32], commits: usize, bytes: usize) {
+    assert_eq!(rt; loads, [0, 0, 0, 0].as_slice());
+    assert!(rt; commits == 0 && bytes == 0);
+}
+
 /// The state holds nothing yet.
 fn has_nothing<N: Naming>(rt: &impl Abort, state: &State<N>) {
-    assert_eq!(rt; state.loads().as_slice(), [0, 0, 0, 0].as_slice());
-    assert!(rt; state.history().is_empty() && state.output().is_empty());
+    are_empty(
+        rt,
+        state.loads().as_slice(),
+        state.history().len(),
+        state.output().len(),
+    );
     assert!(rt; state.path().levels().is_empty() && state.next == 0);
 }
 
@@ -159,10 +169,7 @@ fn tells_order<N: Naming>(rt: &impl Abort, state: &State<N>, task: TaskId)
 }
 
 /// What the task's next call depends on.
-fn tells_context<N: Naming>(rt: &impl Abort, state: &State<N>, task: TaskId)
-    requires live { IsSome (task_at state.now.view task.0) }
-{
-    let context = state.ctx_of(task);
+fn is_first_context(rt: &impl Abort, context: &Ctx) {
     assert!(rt; context.depth == 1 && context.own == Kind::Ordered && context.outer.is_none());
     assert!(rt; context.ts == 5 && context.floor == 0);
     assert!(rt; context.children == 0 && context.bytes == 0);
@@ -192,7 +199,7 @@ fn tells_one<N: Naming>(rt: &impl Abort, state: &State<N>, task: TaskId)
     requires live { IsSome (task_at state.now.view task.0) }
 {
     tells_order(rt, state, task);
-    tells_context(rt, state, task);
+    is_first_context(rt, &state.ctx_of(task));
     tells_idle(rt, state, task);
 }
 
@@ -217,9 +224,8 @@ fn adds_one<N: Naming>(rt: &impl Abort, state: &mut State<N>) -> Result<(), Allo
     is_reserved(rt, state, task)
 }
 
-/// What the state leaves.
-fn leaves_zeros<N: Naming>(rt: &impl Abort, state: State<N>) {
-    let parts = state.into_parts();
+/// What a state left.
+fn are_zeros(rt: &impl Abort, parts: &Parts) {
     assert!(rt; parts.journal.as_slice().is_empty() && parts.output.as_slice().is_empty());
     assert_eq!(rt; parts.memory.as_slice(), [0; 8].as_slice());
 }
@@ -238,7 +244,7 @@ fn begins_with_one<N: Naming>(
 {
     let mut state = State::<N>::new(alloc, image, settings)?;
     adds_one(rt, &mut state)?;
-    leaves_zeros(rt, state);
+    are_zeros(rt, &state.into_parts());
     Ok(())
 }
 

@@ -25,7 +25,7 @@ use spec_access::{
 };
 use spec_commit::{commit, room_victim};
 use spec_dispatch::free_core;
-use spec_state::{DISPATCH_NUMBERS, Settings, State, Status, Task, TaskId, Where};
+use spec_state::{DISPATCH_NUMBERS, Parts, Settings, State, Status, Task, TaskId, Where};
 use std::alloc::{AllocError, Global};
 use std::marker::Brand;
 use std::process::Abort;
@@ -358,9 +358,8 @@ static JOURNAL: [Entry; 2] = [
     },
 ];
 
-/// What both leave.
-fn leaves_whole<N: Naming>(rt: &impl Abort, state: State<N>) {
-    let parts = state.into_parts();
+/// What both left.
+fn left_whole(rt: &impl Abort, parts: &Parts) {
     assert_eq!(rt; parts.journal.as_slice(), JOURNAL.as_slice());
     assert_eq!(rt; parts.output.as_slice(), [7].as_slice());
     assert_eq!(rt;
@@ -385,7 +384,7 @@ fn runs_whole<N: Naming>(
     let _caller = add(rt, &mut state, CALLER, 1, 0);
     make_all(rt, image, &mut state, &WHOLE)?;
     assert!(rt; state.least().is_none());
-    leaves_whole(rt, state);
+    left_whole(rt, &state.into_parts());
     Ok(())
 }
 

@@ -142,11 +142,21 @@ fn sum_of(shares: &[u64]) -> u64 {
     sum
 }
 
+/// The run ended with so many commits.
+fn ended_with(rt: &impl Abort, halt: &Halt, made: usize, commits: usize) {
+    assert!(rt; matches!(halt, Halt::Ended(End::Normal)));
+    assert_eq!(rt; made, commits);
+}
+
+/// The workers' shares are the book's events.
+fn are_shares(rt: &impl Abort, shares: &[u64], steps: u64) {
+    assert_eq!(rt; sum_of(shares), steps);
+}
+
 /// The run ended with so many commits, and the workers' shares are the book's events.
 fn is_drained<N: Naming>(rt: &impl Abort, drained: &Drained<N, ByHint, LastN>, commits: usize) {
-    assert!(rt; matches!(drained.halt, Halt::Ended(End::Normal)));
-    assert_eq!(rt; drained.book.history().len(), commits);
-    assert_eq!(rt; sum_of(drained.shares.as_slice()), drained.book.steps());
+    ended_with(rt, &drained.halt, drained.book.history().len(), commits);
+    are_shares(rt, drained.shares.as_slice(), drained.book.steps());
 }
 
 /// So many workers end the run with so many commits.
@@ -165,7 +175,7 @@ fn run_by<N: Naming + Send + Sync, G: Gate + Sync>(
     requires workers { (1 ≤ workers) × (workers ≤ 16) }
 {
     let book = book_of::<N>(rt.alloc(), image, settings)?;
-    assert_eq!(rt; book.steps(), 0);
+    assert!(rt; book.steps() == 0);
     let drained = run_tiles(rt, image, book, workers, gate);
     is_drained(rt, &drained, commits);
     Ok(())
@@ -259,11 +269,11 @@ fn watch<N: Naming + Send + Sync, P: Placer + Send, T: Tap + Send, R: Threads + 
     )
 }
 
-/// The book has so many commits and no output, and the writer has told so last.
-fn is_told<N: Naming>(rt: &impl Abort, book: &Hinted<N>, writer: &Writer, commits: u32) {
-    assert_eq!(rt; book.counts(), writer.last());
-    assert_eq!(rt; writer.last().commits, commits);
-    assert_eq!(rt; writer.last().output, 0);
+/// A book has so many commits and no output, and its writer has told so last.
+fn is_told(rt: &impl Abort, counts: Reading, last: Reading, commits: u32) {
+    assert_eq!(rt; counts, last);
+    assert_eq!(rt; last.commits, commits);
+    assert_eq!(rt; last.output, 0);
 }
 
 /// So many workers end the run of a new book with so many commits and no output, and no reading of a reader that
@@ -292,7 +302,7 @@ fn watch_by<N: Naming + Send + Sync>(
     let (watched, (reader, most)) = watch(rt, image, book, workers, board, writer, reader, gate);
     let Watched { drained, writer } = watched;
     assert!(rt; matches!(drained.halt, Halt::Ended(End::Normal)));
-    is_told(rt, &drained.book, &writer, commits);
+    is_told(rt, drained.book.counts(), writer.last(), commits);
     assert!(rt; most.commits <= commits && most.output == 0);
     (writer, reader)
 }
