@@ -8,9 +8,8 @@
 ghost use Rattle.std.specs.Prelude.{◌≡◌, IsTrue};
 ghost use Rattle.spec_state.specs.Settings.{IsValid};
 ghost use Rattle.conflict_book.specs.Ranges.{IsInRange};
-ghost use Rattle.conflict_book.specs.BookViews.{machine_view};
 
-use conflict_book::{Book, Event, Reply};
+use conflict_book::{Applied, Book, Event, Reply};
 use guest_image::Image;
 use load_gen::{Load, make};
 use place_policy::{ByHint, LeastLoaded, Placer, RoundRobin};
@@ -19,7 +18,7 @@ use spec_state::Settings;
 use std::alloc::{AllocError, Global};
 use std::marker::Brand;
 use std::{env, io};
-use trace_tap::{LineProfile, Tap};
+use trace_tap::LineProfile;
 
 /// The settings of a run that no option changes; a row has tiles of its own.
 const DEFAULTS: Settings = Settings {
@@ -82,19 +81,26 @@ fn print_row<P: Placer>(
     requires { IsValid settings }
 {
     let row = row_of_play::<Brand, P>(rt.alloc(), image, settings, placer)?;
-    let (tiles, rounds, acts, stalls) = (settings.tiles, row.rounds, row.acts, row.stalls);
-    let (commits, back, by_access) = (row.commits, row.taken_back, row.by_access);
-    println!(rt; "{name},{tiles},{rounds},{acts},{commits},{back},{by_access},{stalls}")
+    print_counts(rt, name, settings.tiles, &row)
+}
+
+/// Prints a row.
+fn print_counts(rt: &HostRuntime, name: &str, tiles: u32, row: &Row) -> io::Result<()> {
+    let Counts {
+        rounds,
+        acts,
+        stalls,
+        taken_back,
+    } = row.counts;
+    let (commits, by_access) = (row.commits, row.by_access);
+    println!(rt; "{name},{tiles},{rounds},{acts},{commits},{taken_back},{by_access},{stalls}")
 }
 
 /// What a row tells of a run.
 #[derive(Clone, Copy)]
 struct Row {
-    rounds: u64,
-    acts: u64,
-    stalls: u64,
+    counts: Counts,
     commits: usize,
-    taken_back: u64,
     by_access: u64,
 }
 
@@ -110,65 +116,130 @@ fn row_of_play<N: Naming, P: Placer>(
     requires budget { settings.budget ≡ N.budget }
     requires commits { settings.commits ≡ N.commits }
 {
-    let play = whole_play::<N, P>(alloc, image, settings, placer)?;
-    Ok(Row {
-        rounds: play.rounds,
-        acts: play.acts,
-        stalls: play.stalls,
-        commits: play.book.history().len(),
-        taken_back: play.taken_back,
-        by_access: play.by_access(),
-    })
+    let book = opening_book::<N, P>(alloc, image, settings, placer)?;
+    Ok(played(image, book, settings.tiles, settings.cores))
 }
 
-/// A book, and what was counted of its run: rounds; acts up to the end, and those that a full queue refused; tasks that
-/// were taken back.
-#[derive(Drop)]
-struct Play<N: Naming, P: Placer> {
+/// Plays rounds on a book, and tells of them. It closes the book, since a drop of one whose placer is any type costs
+/// the prover half a minute.
+fn played<N: Naming, P: Placer>(
+    image: &Image,
     book: Book<N, P, LineProfile>,
+    tiles: u32,
+    cores: u32,
+) -> Row
+    requires { image.now ≡ N.image }
+{
+    let Play { book, counts } = whole_play(image, book, tiles, cores);
+    let by_access = by_access(&book);
+    let closed = book.close();
+    Row {
+        counts,
+        commits: closed.journal.as_slice().len(),
+        by_access,
+    }
+}
+
+/// How many tasks a load or a store took back, by the tap's two numbers: of the first line and of all others.
+fn by_access<N: Naming, P: Placer>(book: &Book<N, P, LineProfile>) -> u64 {
+    let first = book.tap_at(0, 0).unwrap_or(0);
+    first.saturating_add(book.tap_at(0, 1).unwrap_or(0))
+}
+
+/// What was counted of a run: rounds; acts up to the end, and those that a full queue refused; tasks that were taken
+/// back.
+#[derive(Clone, Copy)]
+struct Counts {
     rounds: u64,
     acts: u64,
     stalls: u64,
     taken_back: u64,
 }
 
-/// Plays rounds on an image until the run is over, at most `MOST_ROUNDS`.
-fn whole_play<N: Naming, P: Placer>(
+/// Nothing was counted yet.
+const NO_COUNTS: Counts = Counts {
+    rounds: 0,
+    acts: 0,
+    stalls: 0,
+    taken_back: 0,
+};
+
+/// Counts what came of an event.
+fn count_answer(counts: &mut Counts, applied: &Applied) {
+    count(&mut counts.acts);
+    counts.taken_back = counts.taken_back.saturating_add(u64::from(applied.aborted));
+    if applied.reply == Reply::Stall {
+        count(&mut counts.stalls);
+    }
+}
+
+/// A book, and what was counted of its run.
+#[derive(Drop)]
+struct Play<N: Naming, P: Placer> {
+    book: Book<N, P, LineProfile>,
+    counts: Counts,
+}
+
+/// One placer, in a list as a book takes it.
+fn one_placer<P: Placer>(alloc: Global, placer: P) -> Result<Vec<P>, AllocError> {
+    let mut placers = Vec::new(alloc);
+    placers.push(placer)?;
+    Ok(placers)
+}
+
+/// One tap, in a list as a book takes it.
+fn one_tap(alloc: Global) -> Result<Vec<LineProfile>, AllocError> {
+    let tap = LineProfile::new(alloc, 1)?;
+    let mut taps = Vec::new(alloc);
+    taps.push(tap)?;
+    Ok(taps)
+}
+
+/// A book of this placer before its first event.
+fn opening_book<N: Naming, P: Placer>(
     alloc: Global,
     image: &Image,
     settings: Settings,
     placer: P,
-) -> Result<Play<N, P>, AllocError>
+) -> Result<Book<N, P, LineProfile>, AllocError>
     requires valid { IsValid settings }
     requires image { image.now ≡ N.image }
     requires budget { settings.budget ≡ N.budget }
     requires commits { settings.commits ≡ N.commits }
 {
-    let (mut placers, mut taps) = (Vec::new(alloc), Vec::new(alloc));
-    placers.push(placer)?;
-    taps.push(LineProfile::new(alloc, 1)?)?;
-    let book = Book::<N, P, LineProfile>::begin(alloc, image, settings, placers, taps)?;
+    let placers = one_placer(alloc, placer)?;
+    let taps = one_tap(alloc)?;
+    Book::begin(alloc, image, settings, placers, taps)
+}
+
+/// Plays rounds on an image until the run is over, at most `MOST_ROUNDS`.
+fn whole_play<N: Naming, P: Placer>(
+    image: &Image,
+    book: Book<N, P, LineProfile>,
+    tiles: u32,
+    cores: u32,
+) -> Play<N, P>
+    requires { image.now ≡ N.image }
+{
     let mut play = Play {
         book,
-        rounds: 0,
-        acts: 0,
-        stalls: 0,
-        taken_back: 0,
+        counts: NO_COUNTS,
     };
     for _round in 0..MOST_ROUNDS {
-        if play.book.end().is_none() {
-            count(&mut play.rounds);
-            play.round(image, settings.tiles, settings.cores);
-        }
+        play.next_round(image, tiles, cores);
     }
-    Ok(play)
+    play
 }
 
 impl<N: Naming, P: Placer> Play<N, P> {
-    /// How many tasks a load or a store took back, by the tap's two numbers: of the first line and of all others.
-    fn by_access(&self) -> u64 {
-        let first = self.book.tap_at(0, 0).unwrap_or(0);
-        first.saturating_add(self.book.tap_at(0, 1).unwrap_or(0))
+    /// Plays one more round, if the run isn't over.
+    fn next_round(&mut self, image: &Image, tiles: u32, cores: u32)
+        requires { image.now ≡ N.image }
+    {
+        if self.book.end().is_none() {
+            count(&mut self.counts.rounds);
+            self.round(image, tiles, cores);
+        }
     }
 
     /// Tile after tile dispatches, and each of its cores that runs a task makes a step; then come a commit for each
@@ -199,30 +270,24 @@ impl<N: Naming, P: Placer> Play<N, P> {
             let leg = run_leg(image, from, quantum, budget);
             self.ask(Event::Step { tile, core, leg });
         } else if self.book.end().is_none() {
-            count(&mut self.acts);
+            count(&mut self.counts.acts);
         }
     }
 
     /// Asks for an event, if its tile and core are there and the run isn't over, and counts what comes of it.
     /// Each time it looks anew, so that no loop has to keep that the settings stay.
     fn ask(&mut self, event: Event<N>) {
-        if is_there(&self.book, &event) && self.book.end().is_none() {
+        if is_there(self.book.settings(), &event) && self.book.end().is_none() {
             let applied = self.book.apply(event);
-            count(&mut self.acts);
-            self.taken_back = self.taken_back.saturating_add(u64::from(applied.aborted));
-            if applied.reply == Reply::Stall {
-                count(&mut self.stalls);
-            }
+            count_answer(&mut self.counts, &applied);
         }
     }
 }
 
 /// Whether the tile and the core of an event are there.
-fn is_there<N: Naming, P: Placer, T: Tap>(book: &Book<N, P, T>, event: &Event<N>) -> bool
-    ensures { let view = machine_view book.now in
-        IsTrue result → IsInRange view.settings event.now }
+fn is_there<N: Naming>(settings: &Settings, event: &Event<N>) -> bool
+    ensures { IsTrue result → IsInRange settings.now event.now }
 {
-    let settings = book.settings();
     match event {
         Event::Step { tile, core, .. } => *tile < settings.tiles && *core < settings.cores,
         Event::Commit => true,
