@@ -268,7 +268,9 @@ fn events_to_make<N: Naming>(
 {
     let mut book = book_with_tap::<N>(alloc, image, settings)?;
     let mut events = Vec::new(alloc);
-    note_events(rt, image, &mut book, &mut events, script)?;
+    let noted = note_events(rt, image, &mut book, &mut events, script);
+    let _closed = book.close();
+    noted?;
     Ok(events)
 }
 
@@ -308,8 +310,13 @@ fn book_after_list<N: Naming>(
 {
     let events = events_to_make::<N>(rt, alloc, image, settings, script)?;
     let mut book = book_with_tap::<N>(alloc, image, settings)?;
-    make_list(rt, &mut book, events, script)?;
-    Ok(book)
+    match make_list(rt, &mut book, events, script) {
+        Ok(()) => Ok(book),
+        Err(error) => {
+            let _closed = book.close();
+            Err(Fail::from(error))
+        }
+    }
 }
 
 /// The events of the first script are made as one list.
@@ -356,6 +363,7 @@ fn stalls_at_once<N: Naming>(
 {
     let book = book_after_list::<N>(rt, alloc, image, settings, &FULL_QUEUE)?;
     is_full(rt, book.steps(), book.end(), book.loads().as_slice());
+    let _closed = book.close();
     Ok(())
 }
 
@@ -394,6 +402,7 @@ fn least_run<N: Naming>(
     ended_by_the_least(rt, &halt, book.steps(), book.history().len());
     book.stop();
     made_no_more(rt, &book.run_least(image));
+    let _closed = book.close();
     Ok(())
 }
 
@@ -441,6 +450,7 @@ fn is_ready_after_each<N: Naming>(
         assert!(rt; is_answered(image, &mut book, *act, &OK));
         assert!(rt; is_ready(&book, 0) == *ready);
     }
+    let _closed = book.close();
     Ok(())
 }
 

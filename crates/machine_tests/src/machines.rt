@@ -67,7 +67,8 @@ pub fn is_normal(end: Option<End>) -> bool {
     matches!(end, Some(End::Normal))
 }
 
-/// A book whose tasks are placed by their hints.
+/// A book whose tasks are placed by their hints. Tests close it, and states are taken apart, since the drop of one in
+/// a function costs its check half a minute.
 pub type Hinted<N> = Book<N, ByHint, LastN>;
 
 /// One tap, which keeps the last four records.

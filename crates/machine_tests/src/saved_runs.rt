@@ -28,7 +28,10 @@ fn frozen_of<N: Naming>(book: Hinted<N>) -> Result<Frozen, Fail>
     book.is_sound();
     match book.freeze() {
         Ok(frozen) => Ok(frozen),
-        Err(_) => Err(Fail::from("no memory")),
+        Err(book) => {
+            let _closed = book.close();
+            Err(Fail::from("no memory"))
+        }
     }
 }
 

@@ -319,16 +319,15 @@ fn said_of<N: Naming>(
     rt: &impl Abort,
     alloc: Global,
     image: &Image,
-    book: Hinted<N>,
+    book: &mut Hinted<N>,
     script: &str,
 ) -> Result<Vec<Said>, Fail>
     requires image { image.now ≡ N.image }
 {
-    let mut book = book;
     let (tiles, cores) = (book.settings().tiles, book.settings().cores);
     assert!(rt; script.len() < 1000);
     let acts = read_script(alloc, script.as_bytes(), tiles, cores)?;
-    Ok(play(alloc, image, &mut book, &acts)?)
+    Ok(play(alloc, image, book, &acts)?)
 }
 
 /// What is said of the acts of a row's script is what the row has.
@@ -343,9 +342,10 @@ fn plays_row<N: Naming>(
     requires budget { row.now.settings.budget ≡ N.budget }
     requires commits { row.now.settings.commits ≡ N.commits }
 {
-    let book = opening_book::<N>(alloc, image, row.settings, Vec::new(alloc))?;
-    let said = said_of(rt, alloc, image, book, row.script)?;
-    assert_eq!(rt; said.as_slice(), row.said, "{}", row.name);
+    let mut book = opening_book::<N>(alloc, image, row.settings, Vec::new(alloc))?;
+    let said = said_of(rt, alloc, image, &mut book, row.script);
+    let _closed = book.close();
+    assert_eq!(rt; said?.as_slice(), row.said, "{}", row.name);
     Ok(())
 }
 

@@ -133,6 +133,7 @@ fn begins_with_nothing<N: Naming>(
 {
     let state = State::<N>::new(alloc, image, settings)?;
     tells_nothing(rt, &state);
+    let _parts = state.into_parts();
     Ok(())
 }
 
@@ -243,9 +244,9 @@ fn begins_with_one<N: Naming>(
     requires commits { settings.commits ≡ N.commits }
 {
     let mut state = State::<N>::new(alloc, image, settings)?;
-    adds_one(rt, &mut state)?;
+    let added = adds_one(rt, &mut state);
     are_zeros(rt, &state.into_parts());
-    Ok(())
+    added
 }
 
 #[test]
@@ -309,7 +310,9 @@ fn begins_with_both<N: Naming>(
     requires commits { settings.commits ≡ N.commits }
 {
     let mut state = State::<N>::new(alloc, image, settings)?;
-    adds_both(rt, &mut state)
+    let added = adds_both(rt, &mut state);
+    let _parts = state.into_parts();
+    added
 }
 
 #[test]

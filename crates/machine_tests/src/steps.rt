@@ -382,9 +382,11 @@ fn runs_whole<N: Naming>(
 {
     let mut state = State::<N>::new(alloc, image, settings)?;
     let _caller = add(rt, &mut state, CALLER, 1, 0);
-    make_all(rt, image, &mut state, &WHOLE)?;
-    assert!(rt; state.least().is_none());
-    left_whole(rt, &state.into_parts());
+    let made = make_all(rt, image, &mut state, &WHOLE);
+    assert!(rt; made.is_err() || state.least().is_none());
+    let parts = state.into_parts();
+    made?;
+    left_whole(rt, &parts);
     Ok(())
 }
 
@@ -409,6 +411,11 @@ fn trap_on<N: Naming>(rt: &impl Abort, state: &State<N>, tile: u32) -> Option<u8
     state.trap_of(id)
 }
 
+/// The tasks of both tiles came to their traps.
+fn has_traps<N: Naming>(rt: &impl Abort, state: &State<N>) -> bool {
+    trap_on(rt, state, 0) == Some(2) && trap_on(rt, state, 1) == Some(9)
+}
+
 /// One task comes to an instruction that is none, and another to a call that is none.
 fn comes_to_traps<N: Naming>(
     rt: &impl Abort,
@@ -424,9 +431,10 @@ fn comes_to_traps<N: Naming>(
     let mut state = State::<N>::new(alloc, image, settings)?;
     let _first = add(rt, &mut state, NO_CODE, 1, 0);
     let _second = add(rt, &mut state, BAD_CALLER, 2, 1);
-    make_all(rt, image, &mut state, &TRAPS)?;
-    assert!(rt; trap_on(rt, &state, 0) == Some(2) && trap_on(rt, &state, 1) == Some(9));
-    Ok(())
+    let made = make_all(rt, image, &mut state, &TRAPS);
+    assert!(rt; made.is_err() || has_traps(rt, &state));
+    let _parts = state.into_parts();
+    made
 }
 
 #[test]
@@ -474,9 +482,10 @@ fn takes_the_latest<N: Naming>(
     let latest = add(rt, &mut state, ENDER, 4, 0);
     let _second = add(rt, &mut state, ENDER, 2, 0);
     let _third = add(rt, &mut state, ENDER, 3, 0);
-    make_all(rt, image, &mut state, &ALL_RUN)?;
-    assert!(rt; victim(rt, &state, Some(first)) == latest);
-    Ok(())
+    let made = make_all(rt, image, &mut state, &ALL_RUN);
+    assert!(rt; made.is_err() || victim(rt, &state, Some(first)) == latest);
+    let _parts = state.into_parts();
+    made
 }
 
 #[test]
@@ -509,9 +518,10 @@ fn takes_the_creator<N: Naming>(
     let first = add(rt, &mut state, ENDER, 1, 0);
     let creator = add(rt, &mut state, MAKER, 2, 0);
     let _third = add(rt, &mut state, ENDER, 3, 0);
-    make_all(rt, image, &mut state, &CHILD_LATEST)?;
-    assert!(rt; victim(rt, &state, Some(first)) == creator);
-    Ok(())
+    let made = make_all(rt, image, &mut state, &CHILD_LATEST);
+    assert!(rt; made.is_err() || victim(rt, &state, Some(first)) == creator);
+    let _parts = state.into_parts();
+    made
 }
 
 #[test]

@@ -154,9 +154,11 @@ fn are_shares(rt: &impl Abort, shares: &[u64], steps: u64) {
 }
 
 /// The run ended with so many commits, and the workers' shares are the book's events.
-fn is_drained<N: Naming>(rt: &impl Abort, drained: &Drained<N, ByHint, LastN>, commits: usize) {
-    ended_with(rt, &drained.halt, drained.book.history().len(), commits);
-    are_shares(rt, drained.shares.as_slice(), drained.book.steps());
+fn is_drained<N: Naming>(rt: &impl Abort, drained: Drained<N, ByHint, LastN>, commits: usize) {
+    let Drained { book, shares, halt } = drained;
+    ended_with(rt, &halt, book.history().len(), commits);
+    are_shares(rt, shares.as_slice(), book.steps());
+    let _closed = book.close();
 }
 
 /// So many workers end the run with so many commits.
@@ -177,7 +179,7 @@ fn run_by<N: Naming + Send + Sync, G: Gate + Sync>(
     let book = book_of::<N>(rt.alloc(), image, settings)?;
     assert!(rt; book.steps() == 0);
     let drained = run_tiles(rt, image, book, workers, gate);
-    is_drained(rt, &drained, commits);
+    is_drained(rt, drained, commits);
     Ok(())
 }
 
@@ -301,8 +303,14 @@ fn watch_by<N: Naming + Send + Sync>(
     assert!(rt; book.steps() == 0 && book.counts() == writer.last());
     let (watched, (reader, most)) = watch(rt, image, book, workers, board, writer, reader, gate);
     let Watched { drained, writer } = watched;
-    assert!(rt; matches!(drained.halt, Halt::Ended(End::Normal)));
-    is_told(rt, drained.book.counts(), writer.last(), commits);
+    let Drained {
+        book,
+        shares: _shares,
+        halt,
+    } = drained;
+    assert!(rt; matches!(halt, Halt::Ended(End::Normal)));
+    is_told(rt, book.counts(), writer.last(), commits);
+    let _closed = book.close();
     assert!(rt; most.commits <= commits && most.output == 0);
     (writer, reader)
 }
@@ -322,8 +330,8 @@ fn watch_whole<N: Naming + Send + Sync>(
     requires commits { settings.commits ≡ N.commits }
     requires workers { (1 ≤ workers) × (workers ≤ 16) }
 {
-    let book = book_of::<N>(rt.alloc(), image, settings)?;
     let (board, mut writer) = Board::new(rt.alloc())?;
+    let book = book_of::<N>(rt.alloc(), image, settings)?;
     let reader = board.reader(&mut writer);
     let (mut writer, reader) = watch_by(
         rt, image, book, workers, commits, &board, writer, reader, gate,
