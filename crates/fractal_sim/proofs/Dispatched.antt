@@ -248,7 +248,7 @@ plays = (
   (
     record { book = played; held = [] },
     record {
-      hands_in = record { answer = reply.Ok; word = refl; there = λ e. cc (e); happens = is_made };
+      hands_in = record { reply = reply.Ok; word = refl; there = λ e. cc (e); happens = is_made };
       held = refl;
     },
     refl,

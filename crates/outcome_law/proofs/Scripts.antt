@@ -69,10 +69,10 @@ module _ (N : Type 0) (image : ImageValue) (settings : Settings) (p q p' q' : Pl
   hands_one : (e : Event N) → IsGiven image settings e → HandsIn e p.book said p'.book → HandsIn e q.book said' q'.book
       → q'.held ≡ p'.held → AreRuns image settings p'.held → SaysOne image settings said said' p' q'
   hands_one e given one two held runs =
-      let is = outcome_is_one N image p.book q.book p'.book q'.book e one.answer two.answer said.aborted said'.aborted go.sound go.sound' go.books one.happens two.happens one.there two.there in
+      let is = outcome_is_one N image p.book q.book p'.book q'.book e one.reply two.reply said.aborted said'.aborted go.sound go.sound' go.books one.happens two.happens one.there two.there in
       let word = two.word ∙ (ap words.Plain is.reply_is ∙ sym one.word) in
-      let kept = happens_keeps N image p.book p'.book e said.aborted (subst (λ s. IsGiven image s e) (sym go.settings_are) given) go.sound one.answer one.happens in
-      let kept' = happens_keeps N image q.book q'.book e said'.aborted (subst (λ s. IsGiven image s e) (sym other_settings) given) go.sound' two.answer two.happens in
+      let kept = happens_keeps N image p.book p'.book e said.aborted (subst (λ s. IsGiven image s e) (sym go.settings_are) given) go.sound one.reply one.happens in
+      let kept' = happens_keeps N image q.book q'.book e said'.aborted (subst (λ s. IsGiven image s e) (sym other_settings) given) go.sound' two.reply two.happens in
       record {
         same = (λ i. record { word = word i; aborted = is.aborted_is i });
         go =
@@ -266,7 +266,7 @@ module _ (N : Type 0) (image : ImageValue) (settings : Settings) (p q p' q' : Pl
   does_one (acts.Coalesce tile) inside one two = makes_says (event.Coalesce tile) inside one two
   does_one (acts.Split tile) inside one two = makes_says (event.Split tile) inside one two
   does_one acts.Advance inside one two =
-      advances_one one.answer two.answer one.says two.says one.answers two.answers one.held two.held
+      advances_one one.reply two.reply one.says two.says one.answers two.answers one.held two.held
 
 pub all_one : (N : Type 0) (image : ImageValue) (settings : Settings) (script : List Act) (p q p' q' : PlayState) (said said' : List Said)
     → GoAlike image settings p q
