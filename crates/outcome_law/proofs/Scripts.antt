@@ -266,7 +266,7 @@ module _ (N : Type 0) (image : ImageValue) (settings : Settings) (p q p' q' : Pl
   does_one (acts.Coalesce tile) inside one two = makes_says (event.Coalesce tile) inside one two
   does_one (acts.Split tile) inside one two = makes_says (event.Split tile) inside one two
   does_one acts.Advance inside one two =
-      advances_one one.reply two.reply one.says two.says one.answers two.answers one.held two.held
+      advances_one one.answer two.answer one.says two.says one.answers two.answers one.held two.held
 
 pub all_one : (N : Type 0) (image : ImageValue) (settings : Settings) (script : List Act) (p q p' q' : PlayState) (said said' : List Said)
     → GoAlike image settings p q

@@ -14,8 +14,8 @@
 //! `Board::new` alone takes memory. But for it and `Writer::last`, a call makes 1 to 7 atomic operations on the words
 //! where no other call comes between.
 //! `publish` takes the words' own lock for these operations, and so does a `read` or a `join` that was overtaken by it;
-//! they wait for each other's operations and for nothing else. After 2^63 readings were told, that lock is taken no
-//! more.
+//! they wait for each other's operations and for nothing else. The lock serves 2^63 readings, more than any run tells;
+//! who takes it after those waits for ever.
 #![tactic(auto)]
 
 mod board;

@@ -1,4 +1,5 @@
-//! The lines of a report behind its first, one function for each kind.
+//! The lines of a report behind its first, one function for each kind: each takes a line without its end and gives
+//! `None` where the line is not of its kind. docs/guest/FORMATS.md has the forms.
 
 ghost use Rattle.std.specs.Prelude.{◌≡◌, option_map, IfOk};
 ghost use Rattle.report_text.specs.Grammar.{end_in, entry_in, output_bytes, output_in, trap_in, window_in};
@@ -11,7 +12,7 @@ use std::alloc::{AllocError, Global};
 use task_desc::Name;
 use text_lines::{behind, cut, field, number};
 
-/// The n-th entry.
+/// The n-th entry of the journal, `<n> <creator>.<index> <depth> <ts>`: n at most 1,000,000, the depth 1 to 16.
 #[tactic(auto, unfolding(crate::specs::Grammar::entry_in))]
 pub(crate) fn entry_in(n: u32, line: &[u8]) -> Option<Entry>
     ensures { result ≡ entry_in n line.now }
@@ -32,7 +33,8 @@ pub(crate) fn entry_in(n: u32, line: &[u8]) -> Option<Entry>
     }
 }
 
-/// The emitted bytes.
+/// The emitted bytes, `output <bytes>`: two hexadecimal digits each, or `-` where there are none. `AllocError` where
+/// memory runs out.
 #[tactic(auto, unfolding(crate::specs::Grammar::output_in))]
 pub(crate) fn output_in(alloc: Global, line: &[u8]) -> Result<Option<Vec<u8>>, AllocError>
     ensures { IfOk result (λ o. option_map (λ v. v.items) o ≡ output_in line.now) }
@@ -43,6 +45,7 @@ pub(crate) fn output_in(alloc: Global, line: &[u8]) -> Result<Option<Vec<u8>>, A
     }
 }
 
+/// The bytes behind the word `output`.
 fn output_bytes(alloc: Global, digits: &[u8]) -> Result<Option<Vec<u8>>, AllocError>
     ensures { IfOk result (λ o. option_map (λ v. v.items) o ≡ output_bytes digits.now) }
 {
@@ -55,7 +58,7 @@ fn output_bytes(alloc: Global, digits: &[u8]) -> Result<Option<Vec<u8>>, AllocEr
     hex_bytes(alloc, digits)
 }
 
-/// A word of the window.
+/// A word of the window, `window <address> <value>`: eight hexadecimal digits each.
 #[tactic(auto, unfolding(crate::specs::Grammar::window_in))]
 pub(crate) fn window_in(line: &[u8]) -> Option<WindowWord>
     ensures { result ≡ window_in line.now }
@@ -67,7 +70,7 @@ pub(crate) fn window_in(line: &[u8]) -> Option<WindowWord>
     Some(WindowWord { addr, value })
 }
 
-/// How the run ended.
+/// How the run ended: `end normal`, `end limit`, `end open` where it can go on, or `end trap` with what follows.
 #[tactic(auto, unfolding(crate::specs::Grammar::end_in))]
 pub(crate) fn end_in(line: &[u8]) -> Option<End>
     ensures { result ≡ end_in line.now }
@@ -84,6 +87,8 @@ pub(crate) fn end_in(line: &[u8]) -> Option<End>
     trap_in(behind(line, b"end trap ".as_slice())?)
 }
 
+/// The trap that ended the run, `<cause> <pc> <creator>.<index>`: the cause 1 to 17, the address of the instruction in
+/// eight hexadecimal digits, and the task's name.
 #[tactic(auto, unfolding(crate::specs::Grammar::trap_in))]
 fn trap_in(rest: &[u8]) -> Option<End>
     ensures { result ≡ trap_in rest.now }

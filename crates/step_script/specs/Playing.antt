@@ -130,9 +130,9 @@ said_of answers.Memory = None
 -- `advance`: the event for the least task
 pub record DoesAdvance (N : Type 0) (image : ImageValue) (old : PlayState) (said : Said)
     (new : PlayState) : Type 0 where
-  pub reply : Advance
-  pub says : said_of reply ≡ Some said
-  pub answers : AdvanceAnswers N image old.book reply new.book
+  pub answer : Advance
+  pub says : said_of answer ≡ Some said
+  pub answers : AdvanceAnswers N image old.book answer new.book
   pub held : new.held ≡ old.held
 
 -- the act is played, this is said of it, and it leaves this

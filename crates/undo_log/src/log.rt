@@ -46,6 +46,7 @@ impl Log {
         self.accesses.clear();
     }
 
+    /// Adds an access at the end. `AllocError` where memory runs out; the log is then as it was.
     pub(crate) fn push(&mut self, access: Access) -> Result<(), AllocError>
         ensures ok { OnOk result (self.new ≡ self.old ++ access ∷ []) }
         ensures err { OnErr result (self.new ≡ self.old) }
