@@ -3,13 +3,17 @@ from __future__ import annotations
 
 import io
 import json
+import random
+import re
 import unittest
-from typing import Any, Callable, Optional
+from collections.abc import Iterator
+from typing import Any, Callable, Optional, Type
 
 from yotarimu.common.outcome import Refusal
 from yotarimu.common.places import EXAMPLES_FOLDER
 from yotarimu.images.image import TEXT, Image, read_image
 from yotarimu.lines.dispatch_numbers import DISPATCH_NUMBERS, DispatchNumbers
+from yotarimu.lines.fields import Line
 from yotarimu.lines.legs import Core, Scratch
 from yotarimu.lines.reader import Reader
 from yotarimu.lines.replay import Task
@@ -18,7 +22,6 @@ from yotarimu.lines.times import UNDISPATCHED, Domain, Time, root
 SCHEDULES = EXAMPLES_FOLDER / "schedules"
 # Texts worked out by hand, and the folders of their images.
 WORKED = {"by_hand": "by_hand", "domains_by_hand": "domains_by_hand", "rounds_by_hand": "by_hand"}
-Line = dict[str, Any]
 
 
 def worked_text(name: str) -> tuple[list[Line], Image]:
@@ -79,6 +82,7 @@ class Refusals(unittest.TestCase):
                 ("by_hand", 13, "old", 8, 13, "finds the byte 8, and 7"),
                 ("by_hand", 9, "value", 6, 13, "finds the byte 7, and 6"),
                 ("by_hand", 5, "addr", 0x10000001, 5, "no multiple of 4"),
+                ("by_hand", 5, "do", {}, 5, "`do` names neither"), ("by_hand", 5, "asks", [], 5, "`asks` is `[]`"),
                 ("by_hand", 8, "number", 2, 8, "1 is the next"),
                 ("by_hand", 21, "window", [7, 9], 21, "word 1 of the window is 9"),
                 ("by_hand", 21, "window", [7], 21, "2 words, and 1"),
@@ -101,6 +105,99 @@ class Refusals(unittest.TestCase):
                                          (1, "root", "unordered", "`root`"), (3, "ts", 3, "another one"),
                                          (2, "entry", 65_540, "another one"), (2, "args", [1, 0, 0], "another one")):
             self.refuse("by_hand", field_change(line, field, value), line, part, True)
+
+
+class ByFields(Reader):
+    """A reader that foresees nothing, and takes each line apart."""
+
+    def line_of(self, text: str) -> Line:
+        return self.shapes.line_of(text)
+
+
+class Foreseeing(Reader):
+    """A reader that counts the lines that were foreseen."""
+    foreseen = 0
+
+    def line_of(self, text: str) -> Line:
+        self.foreseen += self.foresight is not None and self.foresight.line_of(text) is not None
+        return super().line_of(text)
+
+
+def what_comes_of(kind: Type[Reader], text: bytes, image: Image) -> list[object]:
+    """What each line of a text did, and the machine behind it; in the end why the text is refused, where it is."""
+    found: list[object] = []
+    try:
+        reader = kind(io.BytesIO(text), "text", image=image)
+        for told in reader:
+            machine = reader.machine
+            tasks = [(task.id, task.state, task.pc, task.work, task.steps, len(task.accesses), task.emitted)
+                     for task in machine.all_tasks()]
+            found.append((told.number, list(told.line.items()), told.is_made, told.access, tasks, machine.acts,
+                          machine.events, machine.memory.bytes()))
+    except Refusal as refused:
+        found.append(str(refused))
+    return found
+
+
+# What stands behind a field's name, up to the next field: a number, a word, a list or null.
+FIELD = re.compile(rb'"(\w+)":(\[[^]]*\]|"[^"]*"|\w+)')
+# What a value is altered to, beside another number.
+VALUES = (b"0", b"1", b"-1", b"01", b"1.0", b"1e0", b" 1", b"+1", b"1_0", b"4294967296", b"9" * 20, b"9" * 21,
+          b"9" * 5_000, b"null", b"true", b"[]", b"[0,0,0]", b"{}", b'"ok"', b'"stall"', b'"stale"', b'"go"', b'"end"',
+          b'"trap"', b'"load"', b'"st\\u0065p"', b"\xff", b"")
+
+
+def altered_field(line: bytes, chance: random.Random) -> bytes:
+    """A line of which a field has another value, is gone, stands twice, or has another name."""
+    field = chance.choice(list(FIELD.finditer(line)))
+    before, name, value, after = line[:field.start()], field[1], field[2], line[field.end():]
+    number = b"%d" % max(0, int(value) + chance.choice((-4, -1, 1, 4))) if value.isdigit() else value[:-1]
+    return chance.choice((
+        *[b'%s"%s":%s%s' % (before, name, other, after) for other in (number, number, chance.choice(VALUES))],
+        before + after.lstrip(b","), b"%s%s,%s%s" % (before, field[0], field[0], after),
+        b'%s"%s":%s%s' % (before, chance.choice((b"leg", b"n", b"old", b"new", b"odd")), value, after)))
+
+
+def altered_text(text: bytes, chance: random.Random) -> bytes:
+    """A text of which a line is altered, is gone, stands twice or goes before the one before it."""
+    lines = text.splitlines(keepends=True)
+    place = chance.randrange(len(lines))
+    line, way = lines[place], chance.randrange(12)
+    if way == 0:
+        lines[place] = chance.choice((b"", line + line, line + b"\n", line[:-1]))
+    elif way == 1:
+        lines[place - 1:place + 1] = lines[place - 1:place + 1][::-1]
+    elif way == 2:
+        lines[place] = chance.choice((b" " + line, line[:-1] + b" \n", line[:-2] + b",\n", line.replace(b",", b", ")))
+    else:
+        lines[place] = altered_field(line, chance)
+    return b"".join(lines)
+
+
+class Foreseen(unittest.TestCase):
+    """Lines that are foreseen: what comes of them is what comes of taking them apart."""
+
+    def texts(self) -> Iterator[tuple[bytes, Image]]:
+        """Whole texts, and their images."""
+        for folder, name in (*((it, "worked") for it in WORKED), ("conflict", "lines")):
+            image = SCHEDULES / WORKED.get(folder, folder) / "image.bin"
+            yield (SCHEDULES / folder / name).read_bytes(), read_image(image.read_bytes(), folder)
+
+    def test_steps_are_foreseen(self) -> None:
+        for text, image in self.texts():
+            reader = Foreseeing(io.BytesIO(text), "text", image=image)
+            steps = sum(told.line["do"] == "step" and told.line.get("asks", "enqueue") != "enqueue" and told.is_made
+                        and "back" not in told.line for told in reader if "do" in told.line)
+            self.assertEqual(reader.foreseen, steps)
+            self.assertGreater(steps, 3)
+
+    def test_altered_texts_are_refused_as_by_their_fields(self) -> None:
+        for text, image in self.texts():
+            self.assertEqual(what_comes_of(Reader, text, image), what_comes_of(ByFields, text, image))
+            for seed in range(150):
+                altered = altered_text(text, random.Random(seed))
+                with self.subTest(seed=seed):
+                    self.assertEqual(what_comes_of(Reader, altered, image), what_comes_of(ByFields, altered, image))
 
 
 # addi a0, a0, 1, which is straight; ecall, with the number 0 in a7; and j 0, back to itself.

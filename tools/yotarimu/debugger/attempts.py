@@ -36,17 +36,12 @@ class Attempt:
         """The task's timestamp, which counts as 0 in an unordered domain."""
         return self.task.timestamp if self.task.domain.kinds[-1] else 0
 
-    @property
-    def executed_count(self) -> int:
-        """How many instructions are executed so far, or at its end."""
-        return self.counts[-1] if self.counts else 0
-
-    def note(self, stretch: int, length: int) -> int:
-        """It goes on by a stretch of so many instructions; how many were executed before."""
-        executed = self.executed_count
-        self.counts.append(executed + length)
+    def note(self, stretch: int, executed: int) -> int:
+        """It goes on by a stretch, behind which so many instructions are executed; how many were before."""
+        before = self.counts[-1] if self.counts else 0
+        self.counts.append(executed)
         self.stretches.append(stretch)
-        return executed
+        return before
 
     def is_there(self, position: Position) -> bool:
         """Whether the attempt has begun at a position, and isn't gone yet."""

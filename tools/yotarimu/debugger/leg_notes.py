@@ -14,7 +14,7 @@ from yotarimu.images.image import DATA, Image
 from yotarimu.lines.causes import causes_of
 from yotarimu.lines.legs import Core
 from yotarimu.lines.reader import open_lines
-from yotarimu.lines.replay import NOT_EXECUTED, Access, Task, ToldLine
+from yotarimu.lines.replay import Access, Task, ToldLine
 
 Line = dict[str, Any]
 
@@ -89,31 +89,32 @@ class LegNotes:
 
     def leg(self, told: ToldLine, task: Task, line: Line) -> None:
         """Notes a leg, what its event takes back, and then the access or the call at its end."""
-        attempt, first, number = self.running[task], len(self.memory.stores), len(self.stretches)
-        asks, passed = line["asks"], self.passed_by(self.cores[task])
-        length = line["leg"] + (asks not in NOT_EXECUTED)
-        self.need_room(length)
+        attempt, stores, number = self.running[task], self.memory.stores, len(self.stretches)
+        first, start = len(stores), attempt.note(number, task.work)
+        length, core = task.work - start, self.cores[task]
+        self.steps += length
+        if self.steps > MOST_STEPS:
+            raise Refusal(f"these are more than {MOST_STEPS:,} instructions, and no more are gone along; a run up to "
+                          "fewer --commits is shorter.")
         if told.taken:
             self.take_back(told, Position(number, length - 1), Position(number, length))
         if told.access is not None:
             self.access(attempt, told.access)
         elif told.arrived is not None:
             self.made[told.arrived] = Origin(attempt, Position(number, line["leg"]), line["pc"])
-        elif asks == "trap":
+        elif line["asks"] == "trap":
             attempt.trap = line["cause"], line["pc"]
             self.trapped[Position(number, length)] = attempt
-        self.starts.append(attempt.note(number, length))
+        self.starts.append(start)
         self.owners.append(attempt)
         self.events.append(line["n"])
-        self.stretches.append(Stretch(length, passed, first, len(self.memory.stores)))
+        passed = self.passed.get(core.path) or self.passed_by(core)
+        self.stretches.append(Stretch(length, passed, first, len(stores)))
 
     def passed_by(self, core: Core) -> frozenset[int]:
-        """Where the last leg of a core came by."""
-        path = tuple(core.path)
-        found = self.passed.get(path)
-        if found is None:
-            passed = core.passed
-            found = self.passed[path] = self.known.setdefault(passed, passed)
+        """Where the last leg of a core came by, on a path that none came before."""
+        passed = core.passed
+        found = self.passed[core.path] = self.known.setdefault(passed, passed)
         return found
 
     def access(self, attempt: Attempt, access: Access) -> None:
@@ -123,13 +124,6 @@ class LegNotes:
             self.memory.write(access.address - DATA, access.value.to_bytes(access.bytes, "little"))
         else:
             attempt.loaded.append(access.old)
-
-    def need_room(self, count: int) -> None:
-        """Counts instructions, and refuses more of them than can be gone along."""
-        self.steps += count
-        if self.steps > MOST_STEPS:
-            raise Refusal(f"these are more than {MOST_STEPS:,} instructions, and no more are gone along; a run up to "
-                          "fewer --commits is shorter.")
 
     def take_back(self, told: ToldLine, here: Position, gone: Position) -> None:
         """Undoes the stores of tasks, whose attempts are gone from a position on."""

@@ -138,11 +138,17 @@ def end_fields(line: Line) -> Fields:
             ("window", numbers()))
 
 
+def word_of(line: Line, name: str) -> str:
+    """The word that a field tells; none where it isn't there, or tells no word."""
+    value = line.get(name)
+    return value if isinstance(value, str) else ""
+
+
 def leg_fields(line: Line) -> Fields:
     """The fields that tell the leg of a step; none where it has none."""
     if line["do"] != "step" or "leg" not in line:
         return ()
-    asks = line.get("asks", "")
+    asks = word_of(line, "asks")
     return (("leg", NUMBER), ("pc", NUMBER), ("asks", one_of(*ASKED)), *ASKED.get(asks, ()))
 
 
@@ -156,12 +162,12 @@ def change_fields(line: Line) -> Fields:
     """The fields that tell what an act changed; none where it made no event."""
     if line.get("reply") != "ok" or line["do"] not in EVENTS:
         return ()
-    return (*MOVED, *OWN.get(line.get("asks", "") if line["do"] == "step" else line["do"], ()))
+    return (*MOVED, *OWN.get(word_of(line, "asks") if line["do"] == "step" else line["do"], ()))
 
 
 def act_fields(line: Line) -> Fields:
     """The fields of an act, or of a task that is placed."""
-    word = line.get("do")
+    word = word_of(line, "do")
     if word == "place":
         return PLACED
     if word not in PLACES:

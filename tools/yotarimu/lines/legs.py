@@ -1,7 +1,8 @@
 """Legs, replayed on the image: which plain instructions a task executes, where it stops, and what it asks for there.
 
 An image's text is read as RV32I by `yotarimu.images.serial_machine`. Each task that was dispatched has a core here. A
-leg that a line tells has to be the one that this core runs; then what it asked for is done, unless it was refused.
+leg that a line tells has to be the one that this core runs; then what it asked for is done, unless it was refused. As
+nothing but its core says how a leg goes, it may be run before its line is read, and waits until a line takes it.
 """
 from __future__ import annotations
 
@@ -140,18 +141,9 @@ def store_of(word: int) -> Last:
 
 
 def ask_by_call(core: Core) -> Asked:
-    """What a call asks for. What it changes the core has aside, until it is granted."""
-    before = core.inner, core.children, core.emitted
+    """What a call asks for. What it changes in the core nothing reads before it is granted."""
     core.call()
-    core.changed = core.inner, core.children, core.emitted
-    core.inner, core.children, core.emitted = before
     return core.request()
-
-
-def grant_call(core: Core, _found: int) -> None:
-    """Makes a call that is granted."""
-    core.inner, core.children, core.emitted = core.changed
-    core.pc += 4
 
 
 def pass_over(core: Core, _found: int) -> None:
@@ -164,7 +156,7 @@ def no_instruction(_run: Run) -> None:
     raise TaskTrap(FETCH)
 
 
-CALL = Last(ask_by_call, grant_call)
+CALL = Last(ask_by_call, pass_over)
 NO_INSTRUCTION = Last(no_instruction, pass_over)
 
 
@@ -178,16 +170,16 @@ class Core(Run):
         # Where the data ends.
         self.end: int = DATA + len(scratch.memory)
         # Where the last leg came into blocks, and where it stopped: at this instruction.
-        self.path = [self.pc, self.pc]
+        self.path: tuple[int, ...] = self.pc, self.pc
         self.last = NO_INSTRUCTION
-        # What the call at which it stopped changes: the subdomain, and how many children and bytes there are.
-        self.changed: tuple[Optional[serial_machine.Domain], int, int] = None, 0, 0
+        # The leg that was run and that no line has taken yet.
+        self.waiting: Optional[Asked] = None
 
     def leg(self, quantum: int, budget: int) -> Asked:
         """Runs a leg, and gives the fields of the line that tell it."""
         count, most, blocks = 0, min(quantum, budget - self.used), self.blocks
         asked: Optional[Asked] = None
-        self.path = path = [self.pc]
+        path = [self.pc]
         try:
             while count < most:
                 straight, self.last = blocks[self.pc]
@@ -207,9 +199,8 @@ class Core(Run):
         except TaskTrap as trapped:
             asked = {"asks": "trap", "cause": trapped.cause}
         self.used += count
-        path.append(self.pc)
-        asked["leg"], asked["pc"] = count, self.pc
-        return asked
+        self.path = (*path, self.pc)
+        return {"leg": count, "pc": self.pc, **asked}
 
     @property
     def passed(self) -> frozenset[int]:
@@ -272,20 +263,25 @@ class Legs:
         if [line["entry"], line["ts"], line["args"]] != [task.entry, timestamp, list(task.arguments)]:
             raise WrongLine(f"the image's task {place} is another one")
 
-    def need_leg(self, task: Task, line: dict[str, Any]) -> None:
-        """Holds a leg against the one that the task makes by the image's text."""
+    def next_leg(self, task: Task) -> Asked:
+        """The fields that tell the next leg of a task. It is run once, however often what it asks for is refused."""
         core = self.cores.get(task)
         if core is None:
             core = self.cores[task] = Core(self.scratch, task)
-        is_taken = line["reply"] == "ok"
-        before = None if is_taken else (core.pc, list(core.registers), bytes(core.stack), core.used)
-        wanted = core.leg(self.quantum, self.budget)
+        if core.waiting is None:
+            core.waiting = core.leg(self.quantum, self.budget)
+        return core.waiting
+
+    def need_leg(self, task: Task, line: dict[str, Any]) -> None:
+        """Holds a leg against the one that the task makes by the image's text."""
+        wanted = self.next_leg(task)
         # What is asked for says which fields a line has, so it has no others where it has these.
         if not wanted.items() <= line.items():
             name = next(it for it in FIELDS if line.get(it) != wanted.get(it))
             raise WrongLine(f"`{name}` is {line.get(name, 'missing')}, and by the image's text it is "
                             f"{wanted.get(name, 'missing')}")
-        if before is not None:
-            core.pc, core.registers, core.stack[:], core.used = before
-        elif wanted["asks"] not in ("go", "trap"):
-            core.grant(line.get("old", 0))
+        if line["reply"] == "ok":
+            core = self.cores[task]
+            core.waiting = None
+            if wanted["asks"] not in ("go", "trap"):
+                core.grant(line.get("old", 0))

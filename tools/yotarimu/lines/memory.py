@@ -39,6 +39,11 @@ class Memory:
         """The byte at a place of the data; None where it isn't known."""
         return self.data[place] if self.is_image_known or self.touched[place] else None
 
+    def number(self, address: int, count: int) -> int:
+        """The number in so many bytes from an address on, where all of them are known."""
+        place = address - DATA_START
+        return int.from_bytes(self.data[place:place + count], "little")
+
     def meet(self, address: int, count: int, old: int) -> None:
         """Takes what stood at an address before an access; Wrong where something else stood there."""
         if old >> 8 * count:

@@ -23,6 +23,7 @@ from yotarimu.common.outcome import Refusal
 from yotarimu.courses.schedules import MOST_CORES, MOST_TILES
 from yotarimu.images.image import Image
 from yotarimu.lines.fields import Line, Shapes, WrongLine
+from yotarimu.lines.foresight import Foresight
 from yotarimu.lines.replay import Machine, ToldLine
 
 # The values that the numbers of a head may have: docs/guest/FORMATS.md.
@@ -49,6 +50,8 @@ class Reader:
         self.head = self.read_head()
         with self.place_told():
             self.machine = Machine(self.head, image)
+        legs = self.machine.legs
+        self.foresight = None if legs is None else Foresight(self.machine, legs)
 
     def read_head(self) -> Line:
         """Reads the first line, which tells of which machine the others are; refuses what can't be one."""
@@ -61,10 +64,10 @@ class Reader:
         return head
 
     def __iter__(self) -> Iterator[ToldLine]:
-        follow, line_of = self.machine.follow, self.shapes.line_of
+        follow = self.machine.follow
         with self.place_told():
             while (text := self.next_text()) is not None:
-                line = line_of(text)
+                line = self.line_of(text)
                 if self.end is not None:
                     raise WrongLine("nothing may follow on the end")
                 if "at" in line or "view" in line:
@@ -75,6 +78,11 @@ class Reader:
                     self.close(line)
         if self.end is None and not self.is_cut_allowed:
             raise Refusal(f"{self.name}: it has no end: it was cut behind line {self.number}.")
+
+    def line_of(self, text: str) -> Line:
+        """The fields of a line: those that are foreseen, or else those that are read."""
+        foreseen = None if self.foresight is None else self.foresight.line_of(text)
+        return self.shapes.line_of(text) if foreseen is None else foreseen
 
     def close(self, line: Line) -> None:
         """Takes the last line."""
