@@ -34,28 +34,28 @@ module _ (N : Type 0) (image : ImageValue) (before after : PlayState) (aborted :
       → Advanced N image before after aborted (Hands e) replies.Ok
   next_made event.Commit next happens =
       let none : aborted ≡ 0 = happens.makes.1 in record {
-        reply = answers.Committed;
+        answer = answers.Committed;
         says = λ i. Some (record { word = words.Committed; aborted = sym none i });
         answers = (next, subst (λ n. Happens {N = N} before.book event.Commit replies.Ok n after.book) none happens);
         held = held;
       }
   next_made (event.Dispatch tile) next happens =
       record {
-        reply = answers.Moved aborted;
+        answer = answers.Moved aborted;
         says = refl;
         answers = (event.Dispatch tile, next, tt, happens);
         held = held;
       }
   next_made (event.Step tile core leg) next happens =
       record {
-        reply = answers.Moved aborted;
+        answer = answers.Moved aborted;
         says = refl;
         answers = (event.Step tile core leg, next, tt, happens);
         held = held;
       }
   next_made (event.Split tile) next happens =
       record {
-        reply = answers.Moved aborted;
+        answer = answers.Moved aborted;
         says = refl;
         answers = (event.Split tile, next, tt, happens);
         held = held;
@@ -96,7 +96,7 @@ module _ (N : Type 0) (image : ImageValue) (before after : PlayState) (reply : R
       let is : HasCome N image before after reply aborted (Says replies.Ended) = subst
       (HasCome N image before after reply aborted) says.asks_is came in
       subst (λ a. Advanced N image before after aborted a reply) (sym says.asks_is) (record {
-        reply = answers.Ended over.0;
+        answer = answers.Ended over.0;
         says = λ i. Some (record { word = words.Plain (sym is.0 i); aborted = sym is.1 i });
         answers = (going, over.1, is.2);
         held = says.held_is;
