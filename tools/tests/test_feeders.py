@@ -4,8 +4,9 @@ from __future__ import annotations
 import unittest
 from collections.abc import Sequence
 
+from yotarimu.figures.cells import Cells
 from yotarimu.figures.feeders import Chain, Feeders, sentence
-from yotarimu.figures.limits import Call, Cells, CommittedTask, Limits, Point
+from yotarimu.figures.limits import Call, CommittedTask, Limits, Point
 
 
 def task(key: str, work: int, children: Sequence[str], stores: bool = False) -> CommittedTask:

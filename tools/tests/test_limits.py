@@ -7,8 +7,9 @@ import unittest
 from typing import Optional
 
 from yotarimu.common.places import HOME
+from yotarimu.figures.cells import Cells
 from yotarimu.figures.limits import (
-    UNBOUNDED, Cells, CommittedTask, Limit, Limits, Manner, Point, WindowKind, Unit, Window)
+    UNBOUNDED, CommittedTask, Limit, Limits, Manner, Point, WindowKind, Unit, Window)
 from yotarimu.figures.orders import Bounds
 
 from tests.best_schedule import Best, Text

@@ -12,13 +12,17 @@ instruction, or a step.
 """
 from __future__ import annotations
 
+import array
 import collections
 import copy
 import dataclasses
 import enum
 import heapq
-from collections.abc import Callable, Hashable, Mapping, Sequence
-from typing import Any, NamedTuple, Optional, Union
+import operator
+from collections.abc import Callable, Hashable, Iterable, Sequence
+from typing import NamedTuple, Optional, Union
+
+from yotarimu.figures.cells import Cells, Table
 
 
 class Manner(enum.Enum):
@@ -59,6 +63,10 @@ class Unit(enum.Enum):
     def delay(self) -> int:
         """How much later than what it waits for a unit has to come."""
         return self.value
+
+
+# What waits for an instruction comes so much later.
+DELAY = Unit.INSTRUCTION.delay
 
 
 class OrderGate:
@@ -103,42 +111,11 @@ Gate = Union[OrderGate, SlotGate]
 GATES: dict[WindowKind, Callable[[int], Gate]] = {WindowKind.ORDER: OrderGate, WindowKind.SLOTS: SlotGate}
 # Times, one for each plan.
 Times = Sequence[int]
-# What tells a byte's cell from a word's.
-BYTES = 1 << 33
 
 
-class Cells:
-    """What limits look at: the words of the data, and the bytes of those words of which some access touches less. Each
-    table that goes by cells is told here, and is split where a word is."""
-
-    def __init__(self) -> None:
-        self.split: set[int] = set()
-        self.tables: list[dict[int, Any]] = []
-        self.called: list[Callable[[int, tuple[int, ...]], None]] = []
-
-    def table(self) -> dict[int, Any]:
-        """A table by cells, whose values are never changed."""
-        self.tables.append({})
-        return self.tables[-1]
-
-    def of(self, address: int, count: int) -> tuple[int, ...]:
-        """The cells of an access at a multiple of its width."""
-        word = address & ~3
-        if word not in self.split:
-            if count == 4:
-                return (word,)
-            self.split_word(word)
-        return tuple(range(BYTES + address, BYTES + address + count))
-
-    def split_word(self, word: int) -> None:
-        """Gives each byte of a word a cell of its own, in all tables that hold the word."""
-        self.split.add(word)
-        cells = tuple(range(BYTES + word, BYTES + word + 4))
-        for table in self.tables:
-            if word in table:
-                table.update(dict.fromkeys(cells, table.pop(word)))
-        for call in self.called:
-            call(word, cells)
+def later(times: Iterable[int], others: Iterable[int]) -> list[int]:
+    """The later of two times, for each plan."""
+    return [one if one > other else other for one, other in zip(times, others)]
 
 
 class Gates:
@@ -150,9 +127,9 @@ class Gates:
                       if window.tasks is not None]
         self.finish = [0] * self.count
 
-    def starts(self, origin: Optional[Mark]) -> list[int]:
+    def starts(self, origin: Optional[Times]) -> list[int]:
         """When the next task may start, by its creator and by the windows."""
-        starts = [0] * self.count if origin is None else [time + origin[1] for time in origin[0].times]
+        starts = [0] * self.count if origin is None else list(origin)
         for number, gate in self.gates:
             if len(gate.ends) == gate.tasks:
                 starts[number] = max(starts[number], gate.entry())
@@ -162,8 +139,7 @@ class Gates:
         """Notes in which units of time a task ends, a time for each plan."""
         for number, gate in self.gates:
             gate.leave(ends[number])
-        if self.finish != ends:
-            self.finish = [one if one > other else other for one, other in zip(self.finish, ends)]
+        self.finish = later(self.finish, ends)
 
 
 # How many instructions, and how many steps.
@@ -191,144 +167,114 @@ class CommittedTask(NamedTuple):
     calls: Sequence[Call]
 
 
-class Shifts(NamedTuple):
-    """Times, one for each plan, with the least and the latest of them. Marks share them, so they are never changed."""
-    times: Times
-    least: int
-    latest: int
-
-
-# What others may wait for: for each plan the sum of its time and of the number.
-Mark = tuple[Shifts, int]
-
-
-def shifts_of(times: Times) -> Shifts:
-    """Shifts of these times, with the least and the greatest beside them."""
-    return Shifts(times, min(times), max(times))
-
-
 class WholePlans:
     """Plans by whole tasks, one for each window."""
 
     def __init__(self, windows: Sequence[Window], cells: Cells) -> None:
         self.gates = Gates(windows)
-        self.origins: dict[Hashable, Mark] = {}
+        self.origins: dict[Hashable, Times] = {}
         # When the task is finished that stored to a cell last.
-        self.stores: dict[int, Times] = cells.table()
+        self.stores = cells.table(len(windows))
 
     def commit(self, task: CommittedTask) -> None:
         """Plans a task whole: it starts where all that it waits for has ended."""
         starts, stores = self.gates.starts(self.origins.pop(task.key, None)), self.stores
         own: set[int] = set()
-        waited: Optional[Times] = None
         for is_store, cells, _ in task.points:
             if is_store:
                 own.update(cells)
                 continue
             for cell in cells:
-                ends = stores.get(cell)
-                if ends is not None and ends is not waited and cell not in own:
-                    starts = [one if one > other else other for one, other in zip(starts, ends)]
-                    waited = ends
-        finish = [start + task.work[0] for start in starts]
+                ends = stores.of(cell)
+                if ends is not None and cell not in own:
+                    starts = later(starts, ends)
+        work = task.work[0]
+        finish = array.array("q", [start + work for start in starts])
         self.gates.end(finish)
         for cell in own:
-            stores[cell] = finish
-        if task.calls:
-            mark = shifts_of(finish), 0
-            for call in task.calls:
-                self.origins[call.child] = mark
+            stores.note(cell, finish)
+        for call in task.calls:
+            self.origins[call.child] = finish
 
 
 class FinePlans:
-    """Plans by instructions or by steps, one for each window. A task that waits is shifted from there on alone: each of
-    its units comes at its place and the shift."""
+    """Plans by instructions, one for each window, and a last one by steps without a window. A task that waits is
+    shifted from there on alone: each of its units comes at its place and the shift."""
 
-    def __init__(self, windows: Sequence[Window], unit: Unit, cells: Cells) -> None:
-        self.gates, self.is_one_memory = Gates(windows), False
-        self.column, self.delay = 0 if unit is Unit.INSTRUCTION else 1, unit.delay
-        self.origins: dict[Hashable, Mark] = {}
-        # What waits for the last store to a cell, and in one memory for all accesses to it so far.
-        self.stores: dict[int, Mark] = cells.table()
-        self.touches: dict[int, Mark] = cells.table()
+    def __init__(self, windows: Sequence[Window], cells: Cells) -> None:
+        self.windows, self.is_one_memory = len(windows), False
+        self.gates = Gates([*windows, UNBOUNDED])
+        self.origins: dict[Hashable, Times] = {}
+        # The times behind the last store to a cell; and behind all accesses to it so far, for those who ask for them.
+        self.stores = cells.table(self.gates.count)
+        self.touches: Optional[Table] = cells.table(self.gates.count)
 
     def in_one_memory(self, cells: Cells) -> FinePlans:
-        """The same plans as they stand, which go on in one memory."""
+        """The same plans as they stand, which go on in one memory, while these do so with renamed memory alone."""
         plans = copy.copy(self)
         plans.is_one_memory, plans.gates, plans.origins = True, copy.deepcopy(self.gates), dict(self.origins)
-        plans.stores, plans.touches = cells.table(), cells.table()
-        plans.stores.update(self.stores)
-        plans.touches.update(self.touches)
+        plans.stores, self.touches = cells.copy_of(self.stores), None
         return plans
+
+    def places(self, instructions: int, steps: int) -> Times:
+        """How much a task made, for each plan."""
+        return (instructions,) * self.windows + (steps,)
 
     def holds_a_store_back(self, task: CommittedTask) -> bool:
         """Whether in one memory a store of the next task might have to wait, so that memories make a difference. What
         its loads wait for can only make its stores later."""
-        origin = self.origins.get(task.key)
-        start = 0 if origin is None else origin[0].least + origin[1]
-        touches = self.touches
-        for is_store, cells, before in task.points:
-            if is_store:
-                for cell in cells:
-                    found = touches.get(cell)
-                    if found is not None and found[0].latest + found[1] > start + before[self.column]:
-                        return True
-        return False
+        starts = list(self.origins.get(task.key, (0,) * self.gates.count))
+        return any(self.shifts_after(self.touches, cells, before, starts) != starts
+                   for is_store, cells, before in task.points if is_store)
 
     def commit(self, task: CommittedTask) -> None:
-        """Plans a task step by step: each access waits for those before it that it depends on."""
-        column, delay, calls = self.column, self.delay, list(task.calls)
-        shifts = shifts_of(self.gates.starts(self.origins.pop(task.key, None)))
+        """Plans a task unit by unit: each access waits for those before it that it depends on."""
+        calls, stores, touches = list(task.calls), self.stores, self.touches
+        shifts = self.gates.starts(self.origins.pop(task.key, None))
         for is_store, cells, before in task.points:
-            place = before[column]
-            while calls and calls[0].made[column] <= place:
+            while calls and calls[0].made[0] <= before[0]:
                 self.note_call(calls.pop(0), shifts)
             if not is_store:
-                shifts = self.shifts_after(self.stores, cells, place, shifts)
+                shifts = self.shifts_after(stores, cells, before, shifts)
             elif self.is_one_memory:
-                shifts = self.shifts_after(self.touches, cells, place, shifts)
-            behind = shifts, place + delay
-            if is_store:
-                for cell in cells:
-                    self.stores[cell] = behind
-            self.note_touch(cells, behind)
+                shifts = self.shifts_after(touches, cells, before, shifts)
+            behind = sums(shifts, self.places(before[0] + DELAY, before[1]))
+            for cell in cells:
+                if is_store:
+                    stores.note(cell, behind)
+                if touches is not None:
+                    # No store comes before an access that was noted: where it might, memories make a difference.
+                    found = None if is_store else touches.of(cell)
+                    touches.note(cell, behind if found is None else array.array("q", later(found, behind)))
         for call in calls:
             self.note_call(call, shifts)
-        work = task.work[column]
-        self.gates.end([shift + work for shift in shifts.times])
+        self.gates.end(sums(shifts, self.places(*task.work)))
 
-    def note_call(self, call: Call, shifts: Shifts) -> None:
-        """Notes when a child may start: from its creator's call on."""
-        # A child may start in the unit behind the call, or within the same round.
-        self.origins[call.child] = shifts, call.made[self.column] - 1 + self.delay
+    def note_call(self, call: Call, shifts: Times) -> None:
+        """Notes when a child may start: in the unit behind its creator's call, or within the same round."""
+        instructions, steps = call.made
+        self.origins[call.child] = sums(shifts, self.places(instructions, steps - 1))
 
-    def shifts_after(self, waits_for: Mapping[int, Mark], cells: Sequence[int], place: int, shifts: Shifts) -> Shifts:
+    def shifts_after(self, waits_for: Optional[Table], cells: Sequence[int], before: Counts,
+                     shifts: list[int]) -> list[int]:
         """The shifts behind an access: those before it, and as much more as it has to wait."""
         for cell in cells:
-            found = waits_for.get(cell)
-            if found is not None and found[0].latest + found[1] - place > shifts.least:
-                ahead = found[1] - place
-                shifts = shifts_of([shift if shift > time + ahead else time + ahead
-                                    for shift, time in zip(shifts.times, found[0].times)])
+            times = None if waits_for is None else waits_for.of(cell)
+            if times is not None:
+                shifts = later(shifts, map(operator.sub, times, self.places(*before)))
         return shifts
 
-    def note_touch(self, cells: Sequence[int], behind: Mark) -> None:
-        """Notes for later stores that in one memory they come behind an access, too."""
-        touches, (shifts, more) = self.touches, behind
-        for cell in cells:
-            found = touches.get(cell)
-            if found is None or found[0].latest + found[1] <= shifts.least + more:
-                touches[cell] = behind
-            elif found[0].least + found[1] < shifts.latest + more:
-                times = [max(one + found[1], other + more) for one, other in zip(found[0].times, shifts.times)]
-                touches[cell] = shifts_of(times), 0
+
+def sums(shifts: Times, places: Times) -> array.array[int]:
+    """When what stands at these places comes, for each plan."""
+    return array.array("q", map(operator.add, shifts, places))
 
 
 class FineLimits:
     """Plans for both kinds of memory. They are the same plans up to the first store that might have to wait."""
 
-    def __init__(self, windows: Sequence[Window], unit: Unit, cells: Cells) -> None:
-        self.cells, self.renamed = cells, FinePlans(windows, unit, cells)
+    def __init__(self, windows: Sequence[Window], cells: Cells) -> None:
+        self.cells, self.renamed = cells, FinePlans(windows, cells)
         self.one: Optional[FinePlans] = None
 
     def commit(self, task: CommittedTask) -> None:
@@ -367,16 +313,13 @@ class Limits:
 
     def __init__(self, cells: Cells, windows: Sequence[Window] = WINDOWS) -> None:
         self.windows = windows
-        self.whole = WholePlans(windows, cells)
-        self.fine = FineLimits(windows, Unit.INSTRUCTION, cells)
-        self.by_step = FineLimits([UNBOUNDED], Unit.STEP, cells)
+        self.whole, self.fine = WholePlans(windows, cells), FineLimits(windows, cells)
         self.work = [0, 0]
 
     def commit(self, task: CommittedTask) -> None:
         """Takes the next task that commits."""
         self.whole.commit(task)
         self.fine.commit(task)
-        self.by_step.commit(task)
         self.work = [so_far + more for so_far, more in zip(self.work, task.work)]
 
     def all_limits(self) -> list[Limit]:
@@ -384,5 +327,5 @@ class Limits:
         pairs = [(Manner.WHOLE, self.whole.gates.finish), *((manner, self.fine.finish(manner)) for manner in FINE)]
         limits = [Limit(manner, Unit.INSTRUCTION, window, self.work[0], time)
                   for manner, finish in pairs for window, time in zip(self.windows, finish)]
-        return limits + [Limit(manner, Unit.STEP, UNBOUNDED, self.work[1], self.by_step.finish(manner)[0])
+        return limits + [Limit(manner, Unit.STEP, UNBOUNDED, self.work[1], self.fine.finish(manner)[-1])
                          for manner in FINE]

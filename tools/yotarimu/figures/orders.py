@@ -13,11 +13,11 @@ only that is counted which holds in all of them, as long as each task does what 
 """
 from __future__ import annotations
 
-import collections
-from collections.abc import Hashable, Iterable, Mapping
+from collections.abc import Hashable, Iterable
 from typing import NamedTuple, Optional
 
-from yotarimu.figures.limits import Cells, CommittedTask, Manner, Point
+from yotarimu.figures.cells import Cells, Table
+from yotarimu.figures.limits import CommittedTask, Manner, Point
 
 
 class Reach(NamedTuple):
@@ -44,15 +44,8 @@ def reaches_of(points: Iterable[Point]) -> Reaches:
     return found
 
 
-# The tasks that follow one another on a cell: how long they take together, and how many may break the chain.
-Chain = tuple[int, int]
-NO_CHAIN = (0, 0)
-
-
-def time_of(chain: Chain) -> int:
-    """Of so many pieces one is at least as long as their mean."""
-    length, breaks = chain
-    return -(-length // (breaks + 1))
+# Of a cell: how long the tasks that follow one another there take together, and how many may break their chain.
+CHAIN = 2
 
 
 class AnyOrder:
@@ -61,7 +54,7 @@ class AnyOrder:
 
     def __init__(self, cells: Cells) -> None:
         self.origins: dict[Hashable, int] = {}
-        self.chains: dict[int, Chain] = cells.table()
+        self.chains = cells.table(CHAIN)
         self.finish = 0
 
     def commit(self, task: CommittedTask, epoch: int, reaches: Reaches) -> None:
@@ -69,8 +62,15 @@ class AnyOrder:
         raise NotImplementedError
 
     def time(self) -> int:
-        """No schedule of any order takes less."""
-        return max([self.finish, *map(time_of, self.chains.values())])
+        """No schedule of any order takes less. Of so many pieces of a chain one is at least as long as their mean."""
+        return max([self.finish, *(-(-length // (breaks + 1)) for page in self.chains.pages.values()
+                                   for length, breaks in zip(page[::CHAIN], page[1::CHAIN]))])
+
+    def note_chain(self, cell: int, length: int, breaks: int) -> None:
+        """Notes that a chain becomes so much longer, and that so many more may break it."""
+        page, place = self.chains.at(cell)
+        page[place] += length
+        page[place + 1] += breaks
 
     def note_calls(self, task: CommittedTask, shifts: list[tuple[int, int]]) -> None:
         """Notes when children may start, by the shifts of the task and the places from which they hold."""
@@ -84,15 +84,18 @@ class AnyOrder:
 
 
 class RenamedMemory(AnyOrder):
-    """With renamed memory. The tasks of an epoch are kept up to its end, but for the first epoch with a store."""
+    """With renamed memory. Tasks that hang on others of their epoch are kept up to its end."""
 
     def __init__(self, cells: Cells) -> None:
         super().__init__(cells)
         self.epoch: Optional[int] = None
         self.kept: list[tuple[CommittedTask, Reaches]] = []
+        # The children that tasks make which are kept: nobody knows yet when they may start.
+        self.undecided: set[Hashable] = set()
         # Of each cell the earliest time behind a task's last store to it: in earlier epochs, and in this one.
-        self.before: dict[int, int] = cells.table()
-        self.here: dict[int, int] = cells.table()
+        self.before, self.here = cells.column(), cells.column()
+        # How many tasks of this epoch store to a cell, where there was a store in an earlier one.
+        self.writers = cells.column()
         cells.called.append(self.split)
 
     def split(self, word: int, cells: tuple[int, ...]) -> None:
@@ -108,26 +111,37 @@ class RenamedMemory(AnyOrder):
             self.epoch = epoch
         for cell, reach in reaches.items():
             if reach.store is not None:
-                length, breaks = self.chains.get(cell, NO_CHAIN)
-                more = (0, 1) if reach.load is None else (reach.store - reach.load + 1, 0)
-                self.chains[cell] = length + more[0], breaks + more[1]
-        if self.before:
+                length, breaks = (0, 1) if reach.load is None else (reach.store - reach.load + 1, 0)
+                self.note_chain(cell, length, breaks)
+                if self.before.pages:
+                    self.writers.put(cell, self.writers.number(cell) + 1)
+        if self.hangs_on_others(task):
             self.kept.append((task, reaches))
+            self.undecided.update(child for child, _ in task.calls)
         else:
-            self.place(task, reaches, {})
+            self.place(task, reaches)
+
+    def hangs_on_others(self, task: CommittedTask) -> bool:
+        """Whether it depends on the other tasks of the epoch when a task comes: by its creator, or since one of its
+        loads has to wait for an earlier epoch, unless another task stores there."""
+        if task.key in self.undecided:
+            return True
+        shift, number = self.origins.get(task.key, 0), self.before.number
+        for is_store, cells, (place, _) in task.points if self.before.pages else ():
+            for cell in () if is_store else cells:
+                if number(cell) - place > shift:
+                    return True
+        return False
 
     def end_epoch(self) -> None:
-        """Places the tasks of an epoch, once all of them are known."""
-        writers: collections.Counter[int] = collections.Counter()
-        for _, reaches in self.kept:
-            writers.update(cell for cell, reach in reaches.items() if reach.store is not None)
+        """Places the tasks that were kept, once all tasks of the epoch are known."""
         for task, reaches in self.kept:
-            self.place(task, reaches, writers)
-        self.kept = []
-        self.before.update(self.here)
-        self.here.clear()
+            self.place(task, reaches)
+        self.kept, self.undecided = [], set()
+        self.before.take_over(self.here)
+        self.writers.pages = {}
 
-    def place(self, task: CommittedTask, reaches: Reaches, writers: Mapping[int, int]) -> None:
+    def place(self, task: CommittedTask, reaches: Reaches) -> None:
         """Places a task as early as what it loads from earlier epochs lets it be."""
         shift, before = self.origins.pop(task.key, 0), self.before
         shifts, stored = [(-1, shift)], {}
@@ -135,25 +149,25 @@ class RenamedMemory(AnyOrder):
             for cell in cells:
                 if is_store:
                     stored[cell] = shift + place + 1
-                elif before.get(cell, 0) - place > shift and self.waits(cell, reaches[cell], writers):
-                    shift = before[cell] - place
+                elif before.number(cell) - place > shift and self.waits(cell, reaches[cell]):
+                    shift = before.number(cell) - place
                     shifts.append((place, shift))
         for cell, time in stored.items():
-            self.here[cell] = min(time, self.here.get(cell, time))
+            self.here.put(cell, min(time, self.here.number(cell) or time))
         self.note_end(task, shifts)
 
     def time(self) -> int:
         self.end_epoch()
         return super().time()
 
-    def waits(self, cell: int, reach: Reach, writers: Mapping[int, int]) -> bool:
+    def waits(self, cell: int, reach: Reach) -> bool:
         """Whether a load has to wait for an earlier epoch: no other task of its own epoch stores to the cell. What the
         task loads behind a store of its own comes later than this anyway, or doesn't wait."""
-        return reach.load is not None and writers.get(cell, 0) == (reach.store is not None)
+        return reach.load is not None and self.writers.number(cell) == (reach.store is not None)
 
 
-# The times behind the accesses to a cell: the last epoch that has some, those of earlier ones, and those of this one.
-Waits = tuple[int, int, int]
+# Of the accesses to a cell: the last epoch that has some, and the times behind those of earlier ones and of this one.
+WAITS = 3
 
 
 class OneMemory(AnyOrder):
@@ -161,45 +175,40 @@ class OneMemory(AnyOrder):
 
     def __init__(self, cells: Cells) -> None:
         super().__init__(cells)
-        self.stores: dict[int, Waits] = cells.table()
-        self.touches: dict[int, Waits] = cells.table()
+        self.stores, self.touches = cells.table(WAITS), cells.table(WAITS)
 
     def commit(self, task: CommittedTask, epoch: int, reaches: Reaches) -> None:
         shift = self.origins.pop(task.key, 0)
         shifts = [(-1, shift)]
         for is_store, cells, (place, _) in task.points:
             for cell in cells:
-                later = earliest((self.touches if is_store else self.stores).get(cell), epoch) - place
+                later = earliest(self.touches if is_store else self.stores, cell, epoch) - place
                 if later > shift:
                     shift = later
                     shifts.append((place, shift))
-            behind = shift + place + 1
             for cell in cells:
-                self.touches[cell] = with_time(self.touches.get(cell), epoch, behind)
+                note_time(self.touches, cell, epoch, shift + place + 1)
                 if is_store:
-                    self.stores[cell] = with_time(self.stores.get(cell), epoch, behind)
+                    note_time(self.stores, cell, epoch, shift + place + 1)
         for cell, reach in reaches.items():
             if reach.store is not None:
-                self.chains[cell] = self.chains.get(cell, NO_CHAIN)[0] + reach.store - reach.first + 1, 0
+                self.note_chain(cell, reach.store - reach.first + 1, 0)
         self.note_end(task, shifts)
 
 
-def earliest(waits: Optional[Waits], epoch: int) -> int:
+def earliest(table: Table, cell: int, epoch: int) -> int:
     """The earliest time for what waits for all accesses of earlier epochs."""
-    if waits is None:
-        return 0
-    last, before, here = waits
+    last, before, here = table.of(cell) or (epoch, 0, 0)
     return before if last == epoch else here
 
 
-def with_time(waits: Optional[Waits], epoch: int, time: int) -> Waits:
-    """What waits for a cell, once an access of this epoch ends at a time."""
-    if waits is None:
-        return epoch, 0, time
-    last, before, here = waits
-    if last != epoch:
-        return epoch, here, max(here, time)
-    return (epoch, before, time) if time > here else waits
+def note_time(table: Table, cell: int, epoch: int, time: int) -> None:
+    """Notes that an access of this epoch to a cell ends at a time."""
+    page, place = table.at(cell)
+    if page[place] != epoch:
+        page[place], page[place + 1] = epoch, page[place + 2]
+    if time > page[place + 2]:
+        page[place + 2] = time
 
 
 class Bounds:

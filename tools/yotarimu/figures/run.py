@@ -9,8 +9,9 @@ from typing import Any, Optional
 
 from yotarimu.common.files import FilePath
 from yotarimu.common.outcome import Refusal
+from yotarimu.figures.cells import Cells
 from yotarimu.figures.feeders import Chain, Feeders
-from yotarimu.figures.limits import Call, Cells, CommittedTask, Limit, Limits, Manner, Point
+from yotarimu.figures.limits import Call, CommittedTask, Limit, Limits, Manner, Point
 from yotarimu.figures.occupancy import Occupancy
 from yotarimu.figures.orders import Bounds
 from yotarimu.figures.taken_tasks import TakenCounts
@@ -173,8 +174,9 @@ def committed_task(task: Task, cells: Cells) -> CommittedTask:
     if len(cells.split) > before:
         # A word was split behind the first access to it.
         points = points_of(task, cells)
-    calls = [Call(child, (child.made_at, child.made_step)) for child in task.children]
-    return CommittedTask(task, (task.work, task.steps), points, calls)
+    # By their names, since tasks that committed are to be forgotten.
+    calls = [Call(child.name, (child.made_at, child.made_step)) for child in task.children]
+    return CommittedTask(task.name, (task.work, task.steps), points, calls)
 
 
 def points_of(task: Task, cells: Cells) -> list[Point]:

@@ -117,11 +117,15 @@ class Task:
         self.core: Optional[int] = None
         self.number: Optional[int] = None
         self.work = self.steps = 0
-        self.accesses: list[Access] = []
-        self.children: list[Task] = []
         self.subdomain: Optional[str] = None
         self.maker: Optional[Maker] = None
-        self.emitted: list[int] = []
+        # It gets lists of its own once it runs: of a million tasks most are waiting.
+        self.accesses, self.children, self.emitted = NO_ACCESSES, NO_CHILDREN, NO_BYTES
+
+    def run(self, core: int, number: int, dispatch: int) -> None:
+        """It runs on a core, by a dispatch of this number and of this place among all dispatches."""
+        self.state, self.core, self.number, self.dispatch = RUNNING, core, number, dispatch
+        self.accesses, self.children, self.emitted = [], [], []
 
     def told_name(self) -> str:
         """Its name as in a report; of a task that has none, its place among the children of its creator."""
@@ -130,6 +134,12 @@ class Task:
         if self.creator is not None and self.creator.name is not None:
             return f"child {self.index} of {self.creator.told_name()}"
         return f"child {self.index} of a task without a name"
+
+
+# What a task has that isn't dispatched. Nothing is put into these.
+NO_ACCESSES: list[Access] = []
+NO_CHILDREN: list[Task] = []
+NO_BYTES: list[int] = []
 
 
 class TakenTask(NamedTuple):
@@ -362,6 +372,8 @@ class Machine:
         for taken in told.taken:
             if taken.is_gone:
                 self.leave(taken.task, GONE)
+                # Else it would hold its children, and they it: nobody looks for such a circle, and it stays in memory.
+                taken.task.children, taken.task.maker = NO_CHILDREN, None
             else:
                 self.put_off(taken.task)
                 taken.task.wait()
@@ -408,9 +420,8 @@ class Machine:
         number = self.numbers.give(self.all_tasks())
         if line["number"] != number:
             raise WrongLine(f"it gives the dispatch number {line['number']}, and {number} is the next")
-        task.state, task.core, task.number = RUNNING, core, number
         self.dispatches += 1
-        task.dispatch = self.dispatches
+        task.run(core, number, self.dispatches)
         self.cores[task.tile][core] = task.id
         self.running += 1
 
