@@ -338,7 +338,7 @@ TASK(child, uint32_t a, uint32_t b, uint32_t c, uint32_t ts)
 }
 TASK(start, uint32_t x, uint32_t y, uint32_t z, uint32_t ts)
 {
-    enqueue(child, ts + x * y, y * z, z / y, shared(x, y), x % 5);
+    enqueue(child, ts + x * y, y * z, z / y, shared(x, y), .hint = x % 5);
     enqueue(child, ts + shared(x * y, 3) * 9, (uint32_t)((uint64_t)x * 0x80000001u * z >> 32), x - shared(y, 1), z % y);
 }
 """, words)
