@@ -195,6 +195,7 @@ def shells_are_helped(place: Place) -> None:
 def exercises_are_judged(place: Place) -> None:
     """the answer to each exercise is right, what it begins with is wrong, and other files are told in a sentence"""
     place.needs_program()
+    place.needs_second_program()
     exercise, folder = "fractal exercise", place.clone / "examples" / "exercises"
     for number, name in enumerate(EXERCISES, 1):
         for word in (name, str(number)):
