@@ -131,7 +131,7 @@ def applications_refuse_bad_words(place: Place) -> None:
         (place.call(CALL, "check", "bfs", "--workers", "17"), ["--workers takes 0 to 16"]),
         (place.call(CALL, "check", "bfs", "--both", "--clang"), ["--both has clang already"]),
         (place.call(CALL, "check", "bfs", "--size", "2,9", "--fast"), ["`--fast` isn't known"]),
-        (place.call(CALL, "table", "bfs", "--columns", "colour"), ["not `colour`"]),
+        (place.call(CALL, "table", "bfs", "--columns", "colour"), ["no column `colour`"]),
         (place.call(CALL, "table", "bfs", "--program", "nowhere", "--second-program", "nowhere"), ["isn't built"]),
     ])
     place.is_clean()
