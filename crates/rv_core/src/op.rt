@@ -20,7 +20,7 @@ use rv_table::{
 use undo_log::{number_in, write_in};
 
 /// An instruction with one tag. Immediates are words, and offsets of jumps and branches count words of the text.
-#[derive(Clone, Copy, Debug, PartialEq, Eq)]
+#[derive(Clone, Copy)]
 pub enum Op {
     /// What its word alone tells.
     Slow,
