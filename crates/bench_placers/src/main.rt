@@ -14,7 +14,7 @@ use guest_image::Image;
 use load_gen::{Load, make};
 use place_policy::{ByHint, LeastLoaded, Placer, RoundRobin};
 use rv_core::{Naming, run_leg};
-use spec_state::Settings;
+use spec_state::{FilterKind, Settings};
 use std::alloc::{AllocError, Global};
 use std::marker::Brand;
 use std::{env, io};
@@ -32,6 +32,7 @@ const DEFAULTS: Settings = Settings {
     commits: 1_000_000,
     budget: 65_536,
     phase: 1_000_000,
+    filter: FilterKind::Modulo,
 };
 
 /// How many tiles the machine has, a row each.

@@ -8,6 +8,7 @@ use Rattle.std.specs.Char.{is_ascii_digit}
 use Rattle.std.specs.Str.{bytes_eq}
 use Rattle.std.specs.Str.Parse.{digits_value}
 use Rattle.text_lines.specs.Lines.{◌>>=◌}
+use Rattle.line_table.specs.declared.lines.FilterKind.TheVariants.{Modulo}
 use Rattle.load_gen.specs.declared.making.Load.{Load}
 use Rattle.load_gen.specs.declared.making.Load.TheVariants.{Walk, Nest}
 use Rattle.spec_state.specs.declared.settings.Settings.{Settings}
@@ -43,7 +44,8 @@ setting_value s (Some text) = number_in s.allows text
 abbrev pub setting_number : Setting → Texts → Option ℕ
 setting_number s text = setting_value s (text s.name)
 
--- all settings; none where the text of an option is no value of it
+-- all settings; none where the text of an option is no value of it. Filters tell lines apart by their numbers modulo
+-- 1,024
 unfoldable pub settings_by : Texts → Option Settings
 settings_by text =
     setting_number table.tiles text >>= λ tiles. setting_number table.cores text >>= λ cores.
@@ -62,6 +64,7 @@ settings_by text =
       commits = commits;
       budget = budget;
       phase = phase;
+      filter = Modulo;
     })
 
 -- the greatest seed and the greatest size of a generated image; the least size is 1

@@ -13,6 +13,7 @@ use crate::number::{number_between, number_of};
 use crate::request::{Command, Refusal, Request};
 use crate::splitting::split;
 use clap::ArgMatches;
+use line_table::FilterKind;
 use load_gen::Load;
 use spec_state::Settings;
 use std::alloc::Global;
@@ -126,6 +127,7 @@ fn settings(matches: &ArgMatches<'_>) -> Option<Settings>
         commits: number(matches, "commits", 1, 1_000_000, 1_000_000)?,
         budget: number(matches, "budget", 1, 65_536, 65_536)?,
         phase: number(matches, "phase", 1, 1_000_000, 1_000_000)?,
+        filter: FilterKind::Modulo,
     })
 }
 

@@ -3,6 +3,7 @@ use Rattle.std.proofs.Common.{arith, ◌≡◌, ◌≢◌, ◌∙◌, ◌<◌, �
 use Rattle.std.proofs.Common.{◌∷◌, Option, Some, None, replicate, slice_index_or}
 use Rattle.std.proofs.lemmas.List.Elements.{All-cons, All-nil}
 use Rattle.std.specs.declared.marker.Brand.{Brand}
+use Rattle.line_table.specs.declared.lines.FilterKind.TheVariants.{Modulo}
 use Rattle.guest_image.specs.declared.image.ImageTask.{ImageTask}
 use Rattle.guest_image.specs.declared.image.Kind.TheVariants.{Unordered}
 use Rattle.guest_image.specs.ImageValue.{ImageValue, IsImage, IsTask, image_value}
@@ -55,6 +56,7 @@ settings = record {
   commits = 1000000;
   budget = 65536;
   phase = 1000000;
+  filter = Modulo;
 }
 
 abbrev image_task : ImageTask

@@ -1,5 +1,6 @@
 pub mod Answering
 pub mod Coursed
 pub mod Ended
+pub mod Filtered
 pub mod Found
 pub mod Told

@@ -1,9 +1,13 @@
 -- What the words ask for.
 use denote.Ref.{Bor}
-use Rattle.std.specs.Prelude.{ℕ, ◌^◌, ◌-◌, ◌≤◌, List, [], ◌∷◌, codes, map, Some, None, if◌then◌else◌}
+use Rattle.std.specs.Prelude.{ℕ, ◌^◌, ◌-◌, ◌≤◌, List, [], ◌∷◌, ◌++◌, codes, drop, map, take, Some, None}
+use Rattle.std.specs.Prelude.{if◌then◌else◌}
+use Rattle.std.specs.List.{position_or_len}
 use Rattle.std.specs.declared.option.Option.{Option}
 use Rattle.std.specs.Str.{bytes_eq}
 use Rattle.command_line.specs.Requests.{number_in, request_of_words}
+use Rattle.line_table.specs.declared.lines.FilterKind.{FilterKind}
+use Rattle.line_table.specs.declared.lines.FilterKind.TheVariants.{Modulo, Bloom, Exact}
 use Rattle.text_lines.specs.Lines.{◌>>=◌}
 use Rattle.command_line.specs.Settings.{between}
 use Rattle.watch_text.specs.declared.head.CourseWord.{CourseWord}
@@ -79,11 +83,53 @@ course_in (word ∷ behind) =
     else if bytes_eq word (codes "lockstep") then lockstep_in behind
     else None
 
+-- what the words ask for, by a filter of the kind Modulo; none where they are refused
+unfoldable pub course_asked : List (List ℕ) → Option Asking
+course_asked words =
+    telling_in words >>= λ told. course_in told.behind >>= λ leading. request_of_words leading.words >>= λ request.
+    Some (record { course = leading.course; telling = told.telling; request = request })
+
+-- how filters tell lines apart, and the words beside that
+pub record WordsBesideFilter : Type 0 where
+  pub filter : FilterKind
+  pub words : List (List ℕ)
+
+-- the kind of filter of this name
+abbrev pub filter_named : List ℕ → Option FilterKind
+filter_named word =
+    if bytes_eq word (codes "modulo") then Some Modulo
+    else if bytes_eq word (codes "bloom") then Some Bloom
+    else if bytes_eq word (codes "exact") then Some Exact
+    else None
+
+-- the first place of `--filter` among the words, or how many they are
+abbrev pub filter_place : List (List ℕ) → ℕ
+filter_place = position_or_len (λ word. bytes_eq word (codes "--filter"))
+
+-- `--filter` with its kind, if it is there, between these words and others
+abbrev pub filter_behind : List (List ℕ) → List (List ℕ) → Option WordsBesideFilter
+filter_behind before [] = Some (record { filter = Modulo; words = before })
+filter_behind before (word ∷ []) = None
+filter_behind before (word ∷ kind ∷ behind) =
+    filter_named kind >>= λ filter. Some (record { filter = filter; words = before ++ behind })
+
+-- `--filter` with its kind among the words
+abbrev pub filter_among : List (List ℕ) → Option WordsBesideFilter
+filter_among words = filter_behind (take (filter_place words) words) (drop (filter_place words) words)
+
+-- the same course, with filters of this kind
+abbrev pub with_filter : FilterKind → Asking → Asking
+with_filter filter asking = record {
+  course = asking.course;
+  telling = asking.telling;
+  request = record asking.request { settings = record asking.request.settings { filter = filter } };
+}
+
 -- what the words ask for; none where they are refused
 unfoldable pub asking_of_words : List (List ℕ) → Option Asking
 asking_of_words words =
-    telling_in words >>= λ told. course_in told.behind >>= λ leading. request_of_words leading.words >>= λ request.
-    Some (record { course = leading.course; telling = told.telling; request = request })
+    filter_among words >>= λ beside. course_asked beside.words >>= λ asking.
+    Some (with_filter beside.filter asking)
 
 -- the numbers of rounds are in their ranges
 abbrev pub HasRounds : CourseWord → Type 0

@@ -1,12 +1,16 @@
 //! The words of the program.
 
-ghost use Rattle.std.specs.Prelude.{◌≡◌, ◌≤◌, ◌∷◌, IfOk, IfSome, Err, None, Some, map, option_map};
+ghost use Rattle.std.specs.Prelude.{◌≡◌, ◌≤◌, ◌∷◌, ◌++◌, IfOk, IfSome, Err, None, Some, codes, length, map, option_map};
+ghost use Rattle.std.specs.Str.{bytes_eq};
 ghost use Rattle.command_line.specs.Requests.{IsLimited};
 ghost use Rattle.watch_play.specs.Texts.{IsTellable};
 ghost use Rattle.fractal_watch.specs.Words.{IsInRanges, asking_of_words, barren_in, course_in, lockstep_in, telling_in};
-ghost use Rattle.fractal_watch.specs.Words.{HasRounds, words_of};
+ghost use Rattle.fractal_watch.specs.Words.{HasRounds, words_of, course_asked, filter_among, filter_named};
+ghost use Rattle.fractal_watch.specs.Words.{filter_place, with_filter};
 
 use command_line::{Refusal, Request, number_between, read_words};
+use line_table::FilterKind;
+use spec_state::Settings;
 use std::alloc::{AllocError, Global};
 use watch_play::Telling;
 use watch_text::CourseWord;
@@ -161,13 +165,12 @@ fn in_front<'a>(
     Ok(words)
 }
 
-/// What the words, without the program's name, ask for. `Usage` where they are outside the grammar: `memory`, `views K`
-/// or neither, then `steps`, `least`, or `lockstep ROUNDS SEED`, with `barren K` or not, and then the options of the
-/// first program.
-#[tactic(auto, unfolding(crate::specs::Words::asking_of_words))]
-pub(crate) fn read_asking(alloc: Global, words: &[&str]) -> Result<Asking, Refusal>
-    ensures value { IfOk result (λ asking. asking_of_words (map (λ w. w.now) words.now) ≡ Some asking) }
-    ensures usage { result ≡ Err Refusal.Usage → asking_of_words (map (λ w. w.now) words.now) ≡ None }
+/// What words without `--filter` ask for. `Usage` where they are outside the grammar: `memory`, `views K` or neither,
+/// then `steps`, `least`, or `lockstep ROUNDS SEED`, with `barren K` or not, and then the options of the first program.
+#[tactic(auto, unfolding(crate::specs::Words::course_asked))]
+fn read_course(alloc: Global, words: &[&str]) -> Result<Asking, Refusal>
+    ensures value { IfOk result (λ asking. course_asked (map (λ w. w.now) words.now) ≡ Some asking) }
+    ensures usage { result ≡ Err Refusal.Usage → course_asked (map (λ w. w.now) words.now) ≡ None }
     ensures limits { IfOk result (λ asking. IsLimited asking.request) }
     ensures ranges { IfOk result IsInRanges }
 {
@@ -186,6 +189,123 @@ pub(crate) fn read_asking(alloc: Global, words: &[&str]) -> Result<Asking, Refus
             telling: told.telling,
             request,
         }),
+        Err(refusal) => Err(refusal),
+    }
+}
+
+/// How filters tell lines apart, and the words beside that.
+#[derive(Drop)]
+struct BesideFilter<'a> {
+    filter: FilterKind,
+    words: Vec<&'a str>,
+}
+
+fn filter_named(word: &str) -> Option<FilterKind>
+    ensures { result ≡ filter_named word.now }
+{
+    let word = word.as_bytes();
+    if word == b"modulo".as_slice() {
+        Some(FilterKind::Modulo)
+    } else if word == b"bloom".as_slice() {
+        Some(FilterKind::Bloom)
+    } else if word == b"exact".as_slice() {
+        Some(FilterKind::Exact)
+    } else {
+        None
+    }
+}
+
+fn is_filter(word: &str) -> bool
+    ensures { result ≡ bytes_eq word.now (codes "--filter") }
+{
+    word.as_bytes() == b"--filter".as_slice()
+}
+
+/// The first place of `--filter` among the words, or how many they are.
+fn filter_place(words: &[&str]) -> usize
+    ensures place { result ≡ filter_place (map (λ w. w.now) words.now) }
+    ensures within { result ≤ length words.now }
+{
+    for place in 0..words.len() {
+        if is_filter(words[place]) {
+            return place;
+        }
+    }
+    words.len()
+}
+
+/// Two lists of words, one behind the other.
+fn joined<'a>(
+    alloc: Global,
+    before: &'a [&'a str],
+    behind: &'a [&'a str],
+) -> Result<Vec<&'a str>, AllocError>
+    ensures { IfOk result (λ words. map (λ w. w.now) words.items
+        ≡ map (λ w. w.now) before.now ++ map (λ w. w.now) behind.now) }
+{
+    let mut words = Vec::new(alloc);
+    words.extend_from_slice(before)?;
+    words.extend_from_slice(behind)?;
+    Ok(words)
+}
+
+/// The kind that `--filter` names among the words, `Modulo` where it isn't there, and the words beside both. `Usage`
+/// where it names none.
+fn filter_among<'a>(alloc: Global, words: &'a [&'a str]) -> Result<BesideFilter<'a>, Refusal>
+    ensures value { IfOk result (λ beside. filter_among (map (λ w. w.now) words.now)
+        ≡ Some (record { filter = beside.filter; words = map (λ w. w.now) beside.words.items })) }
+    ensures usage { result ≡ Err Refusal.Usage → filter_among (map (λ w. w.now) words.now) ≡ None }
+{
+    let (before, behind) = words.split_at(filter_place(words));
+    let (filter, behind) = match behind.split_first() {
+        None => (FilterKind::Modulo, behind),
+        Some((_, behind)) => {
+            let Some((kind, behind)) = behind.split_first() else {
+                return Err(Refusal::Usage);
+            };
+            let Some(filter) = filter_named(kind) else {
+                return Err(Refusal::Usage);
+            };
+            (filter, behind)
+        }
+    };
+    let Ok(words) = joined(alloc, before, behind) else {
+        return Err(Refusal::Memory);
+    };
+    Ok(BesideFilter { filter, words })
+}
+
+/// The same course, with filters of this kind.
+fn with_filter(asking: Asking, filter: FilterKind) -> Asking
+    ensures { result ≡ with_filter filter asking }
+{
+    Asking {
+        request: Request {
+            settings: Settings {
+                filter,
+                ..asking.request.settings
+            },
+            ..asking.request
+        },
+        ..asking
+    }
+}
+
+/// What the words, without the program's name, ask for: `--filter` with `modulo`, `bloom` or `exact` anywhere among
+/// them, once or not, and a course with its options beside that. `Usage` where they are outside the grammar.
+#[tactic(auto, unfolding(crate::specs::Words::asking_of_words))]
+pub(crate) fn read_asking(alloc: Global, words: &[&str]) -> Result<Asking, Refusal>
+    ensures value { IfOk result (λ asking. asking_of_words (map (λ w. w.now) words.now) ≡ Some asking) }
+    ensures usage { result ≡ Err Refusal.Usage → asking_of_words (map (λ w. w.now) words.now) ≡ None }
+    ensures limits { IfOk result (λ asking. IsLimited asking.request) }
+    ensures ranges { IfOk result IsInRanges }
+{
+    let beside = match filter_among(alloc, words) {
+        Ok(beside) => beside,
+        Err(refusal) => return Err(refusal),
+    };
+    match read_course(alloc, &beside.words) {
+        Ok(asking) => Ok(with_filter(asking, beside.filter)),
         Err(refusal) => Err(refusal),
     }
 }

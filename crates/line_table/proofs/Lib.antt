@@ -1,4 +1,8 @@
 pub mod Bits
 pub mod Pairs
 pub mod Signatures
+pub mod InBanks
+pub mod Hashes
+pub mod Lined
+pub mod Marked
 pub mod Proved

@@ -3,13 +3,13 @@ use Rattle.std.proofs.Common.{◌≡◌, ◌==◌, ◌&&◌, ◌||◌, ◌↔◌
 use Rattle.std.proofs.Common.{refl, sym, ap, ◌∙◌, arith, get_or}
 use Rattle.std.specs.Int.{bit_at}
 use Rattle.std.specs.List.{list_any, range_with_len}
-use Rattle.std.proofs.lemmas.Bool.{and_parts}
-use Rattle.std.proofs.lemmas.List.Folds.{Any-from_list_any, list_any-append, list_any_at}
+use Rattle.std.proofs.lemmas.Bool.{and_from, and_parts, eq-eqb, eqb-true}
+use Rattle.std.proofs.lemmas.List.Folds.{Any-from_list_any, list_any-append, list_any-from_Any, list_any_at}
 use Rattle.std.proofs.lemmas.List.FromFn.{get_or-range_with_len, length-range_with_len}
 use Rattle.line_table.specs.declared.signature.Signature.{Signature}
-use Rattle.line_table.specs.Note.{Note, Meet}
+use Rattle.line_table.specs.Note.{Note, Meet, wrote_in}
 use Rattle.line_table.specs.Row.{is_set, same_bit}
-use Rattle.line_table.specs.Signature.{IsSignature, touched_of, wrote_of, meets_of}
+use Rattle.line_table.specs.Signature.{IsSignature, touched_of, wrote_of, wrote_beside, meets_of}
 
 or_false : (b : Bool) → (b || false) ≡ b
 or_false true = refl
@@ -77,3 +77,21 @@ pub meets_of-is : (earlier later : Signature) (r : Bool) → (r ≡ true) ↔ Me
     → r ≡ meets_of earlier later
 meets_of-is earlier later r is =
     same_truth (Meet (wrote_of earlier) (touched_of later)) r (meets_of earlier later) is (meets_of-Meet earlier later)
+
+-- where a store to a line beside this one was noted, that line was noted with a write, and has the remainder of this
+-- one
+pub note_beside : (notes : List Note) (line : ℕ) → wrote_beside notes line ≡ true
+    → (at : ℕ) × (wrote_in notes at ≡ true) × (at % 1024 ≡ line % 1024)
+note_beside notes line beside =
+    let one = Any-from_list_any (λ note. note.write && same_bit note.line line) notes beside in
+    let parts = and_parts one.1.write (same_bit one.1.line line) one.4 in (
+      one.1.line,
+      list_any-from_Any (λ note. note.write && note.line == one.1.line) notes (
+        one.0,
+        one.1,
+        one.2,
+        one.3,
+        and_from one.1.write (one.1.line == one.1.line) parts.0 (eq-eqb one.1.line one.1.line refl),
+      ),
+      eqb-true (one.1.line % 1024) (line % 1024) parts.1,
+    )

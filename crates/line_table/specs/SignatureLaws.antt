@@ -18,14 +18,14 @@ or_rises false b true d first rest is = refl
 or_rises false b false d first rest is = rest is
 
 -- where a weaker test holds of each note that a test holds of, it holds of some note where that does
-any_rises : (p q : Note → Bool) (notes : List Note) → ((note : Note) → p note ≡ true → q note ≡ true)
+pub any_rises : (p q : Note → Bool) (notes : List Note) → ((note : Note) → p note ≡ true → q note ≡ true)
     → list_any p notes ≡ true → list_any q notes ≡ true
 any_rises p q [] rises is = is
 any_rises p q (note ∷ notes) rises is =
     or_rises (p note) (list_any p notes) (q note) (list_any q notes) (rises note) (any_rises p q notes rises) is
 
 -- a line has its own bit
-equal_same : (a b : ℕ) → (a == b) ≡ true → same_bit a b ≡ true
+pub equal_same : (a b : ℕ) → (a == b) ≡ true → same_bit a b ≡ true
 equal_same a b is = eq-eqb (a % 1024) (b % 1024) (ap (λ n. n % 1024) (eqb-true a b is))
 
 pub noted_touched : (signature : Signature) (notes : List Note) (line : ℕ) → IsSignature signature notes

@@ -8,11 +8,20 @@
 //! keep a `Signature` each, `spec_rollback` compares them, and the laws of memory hold of any filter.
 #![tactic(auto)]
 
+mod banks;
 mod exact;
 mod filter;
+mod hash;
+mod laws;
+mod lines;
 mod row;
 mod signature;
 
 pub use exact::Exact;
 pub use filter::Filter;
+pub use laws::{
+    bits_meet_modulo, bits_tell_modulo, cleared_tells_none, exact_tells_noted, lines_agree,
+    noted_is_told,
+};
+pub use lines::{FilterKind, Lines};
 pub use signature::{Signature, signatures_agree};

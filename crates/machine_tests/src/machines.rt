@@ -9,7 +9,7 @@ use place_policy::ByHint;
 use rv_core::Naming;
 use sample_image::Program;
 use serial_machine::End;
-use spec_state::Settings;
+use spec_state::{FilterKind, Settings};
 use std::alloc::{AllocError, Global};
 use std::test::Fail;
 use trace_tap::LastN;
@@ -26,6 +26,7 @@ pub const TWO_TILES: Settings = Settings {
     commits: 1_000_000,
     budget: 65_536,
     phase: 1_000_000,
+    filter: FilterKind::Modulo,
 };
 
 /// The settings of a run that no option changes: four tiles of two cores.

@@ -9,6 +9,9 @@ use Rattle.memory_law.proofs.Marks.{Marks, Clear, Untouched, UntouchedIfStore, a
 use Rattle.memory_law.proofs.Access.{Untouched-append}
 use Rattle.memory_law.proofs.Lines.{lines_apart}
 use Rattle.memory_law.proofs.Joins.{taken_back_closed}
+use Rattle.memory_law.proofs.Filters.{noted_own}
+use Rattle.line_table.specs.Note.{touched_in, wrote_in}
+use Rattle.memory_law.specs.Notes.{notes_of}
 use Rattle.memory_law.specs.Tasks.{Logged, IsLineSize, IsNoted, AreNotedInFilter, IsWroteIfStore, log_of, logs, In}
 use Rattle.memory_law.specs.Tasks.{Earlier, Ascends, undone_set}
 use Rattle.memory_law.specs.Chain.{IsReplay}
@@ -90,7 +93,7 @@ Clear-nil (a ∷ log) = (by_store a.new, Clear-nil log)
     by_store None = tt
     by_store (Some v) = tt
 
-module _ (size line : ℕ) (sized : IsLineSize line) (set : ℕ → Bool) (tasks : ℕ → Option Logged) (noted : (id : ℕ) (task : Logged) → tasks id ≡ Some task → AreNotedInFilter size line task.touched task.wrote task.log) (holds : HoldsLater set tasks) where
+module _ (size line : ℕ) (sized : IsLineSize line) (set : ℕ → Bool) (tasks : ℕ → Option Logged) (noted : (id : ℕ) (task : Logged) → tasks id ≡ Some task → AreNotedInFilter size line task.touched task.wrote task.log) (holds : HoldsLater line set tasks) where
   -- what a member wrote is clear of the later tasks that are no members
   clear_of_kept : (id : ℕ) (task : Logged) → tasks id ≡ Some task → task.dispatched ≡ true → set id ≡ true
       → (ids : List ℕ) → ((k : ℕ) (other : Logged) → In k ids → tasks k ≡ Some other → Earlier task other)
@@ -105,9 +108,13 @@ module _ (size line : ℕ) (sized : IsLineSize line) (set : ℕ → Bool) (tasks
       by_mark true is rest = rest
       by_mark false is rest =
           let other = ascends.0 in
-          let none : NoMeeting task.wrote other.touched = λ at wrote touched. let in' : set k ≡ true = holds id k task other at there ascends.1 runs ascends.2 member (later k other (inl refl) ascends.1) wrote touched in
+          let stored = wrote_in (notes_of line task.log) in
+          let none : NoMeeting stored other.touched = λ at wrote touched. let in' : set k ≡ true = holds id k task other at there ascends.1 runs ascends.2 member (later k other (inl refl) ascends.1) wrote touched in
           cc in
-          let here : Clear task.log other.log = clear_by_notes size line sized task.touched task.wrote other.touched other.wrote none task.log other.log (noted id task there) (noted k other ascends.1) in
+          let own = noted_own size line task.touched task.wrote task.log (noted id task there) in
+          let here : Clear task.log other.log =
+          clear_by_notes size line sized (touched_in (notes_of line task.log)) stored other.touched other.wrote none
+          task.log other.log own (noted k other ascends.1) in
           Clear-append task.log (log_of (tasks k)) (kept_of (marks_of set tasks ids)) (subst (λ o. Clear task.log (log_of o)) (sym ascends.1) here) rest
 
   closed_marks : (ids : List ℕ) → Ascends tasks ids → IsClosed (marks_of set tasks ids)
@@ -182,7 +189,7 @@ noted_back size line set old new takes noted id task there = by_set (set id) ref
 
 -- a set that holds the later tasks it is to hold is taken back, latest first: the others still replay
 pub taken_back : (line : ℕ) (set : ℕ → Bool) (old new : ℕ → Option Logged) (serial memory : List ℕ) → IsLineSize line
-    → HoldsLater set old → TakesBackInLogs set old new → (replay : IsReplay line old serial memory)
+    → HoldsLater line set old → TakesBackInLogs set old new → (replay : IsReplay line old serial memory)
     → IsReplay line new serial (undone_set set old replay.ids memory)
 taken_back line set old new serial memory sized holds takes replay =
     let ids : List ℕ = replay.ids in

@@ -2,7 +2,7 @@
 use Rattle.std.proofs.Common.{◌≡◌, ℕ, ◌/◌, Bool, true, List, [], ◌∷◌, ◌++◌, Option, Some, None, refl, ap, arith}
 use Rattle.std.proofs.Common.{is_some}
 use Rattle.std.proofs.lemmas.Bool.Decides.{nat_tests}
-use Rattle.std.proofs.lemmas.List.Elements.{All-head, All-tail}
+use Rattle.std.proofs.lemmas.List.Elements.{All-cons, All-head, All-nil, All-tail}
 use Rattle.line_table.specs.Note.{Note, touched_in, wrote_in}
 use Rattle.undo_log.specs.declared.access.Access.{Access}
 use Rattle.undo_log.specs.Number.{IsAccessible}
@@ -61,3 +61,20 @@ pub notes_of-append : (line : ℕ) (log more : List Access)
 notes_of-append line [] more = refl
 notes_of-append line (access ∷ log) more =
     ap (λ notes. record { line = access.offset / line; write = is_some access.new } ∷ notes) (notes_of-append line log more)
+
+-- where a log is noted, each of its accesses lies aligned within the memory
+pub noted_within : (size line : ℕ) (touched wrote : ℕ → Bool) (log : List Access)
+    → AreNotedInFilter size line touched wrote log → AllAccessible size log
+noted_within size line touched wrote [] noted = All-nil (λ access. IsAccessible size access.offset access.width)
+noted_within size line touched wrote (access ∷ log) noted =
+    All-cons (λ access. IsAccessible size access.offset access.width) access log noted.0
+    (noted_within size line touched wrote log noted.3)
+
+-- a log that is noted is noted in its own notes
+pub noted_own : (size line : ℕ) (touched wrote : ℕ → Bool) (log : List Access)
+    → AreNotedInFilter size line touched wrote log
+    → AreNotedInFilter size line (touched_in (notes_of line log)) (wrote_in (notes_of line log)) log
+noted_own size line touched wrote log noted =
+    noted_all size line (touched_in (notes_of line log)) (wrote_in (notes_of line log)) log
+    (noted_within size line touched wrote log noted)
+    (record { touched_too = λ at is. is; wrote_too = λ at is. is })

@@ -1,5 +1,5 @@
 -- What the crates above may cite of these proofs, but for what `outcome_law` names by its file.
-pub use Rattle.memory_law.proofs.Filters.{noted_all, notes_of-append}
+pub use Rattle.memory_law.proofs.Filters.{noted_all, noted_within, notes_of-append}
 pub use Rattle.memory_law.proofs.Joins.{length-after_accesses}
 pub use Rattle.memory_law.proofs.Latest.{latest_first, member_dispatched, not_self}
 pub use Rattle.memory_law.proofs.Replays.{after_accesses-append, Replays-back, Replays-front}

@@ -3,6 +3,8 @@ use Rattle.std.specs.Prelude.{◌↔◌, ◌==◌, if◌then◌else◌, ◌≡�
 use Rattle.std.specs.Prelude.{length, Option, Some, None}
 use Rattle.undo_log.specs.declared.access.Access.{Access}
 use Rattle.undo_log.specs.Number.{number_at, IsAccessible}
+use Rattle.line_table.specs.Note.{wrote_in}
+use Rattle.memory_law.specs.Notes.{notes_of}
 use Rattle.memory_law.specs.Tasks.{Logged, IsNoted, Earlier}
 
 -- a dispatched task's log grows by an access to the memory, which its filter notes, and all other tasks stay
@@ -41,12 +43,12 @@ HoldsLaterTouchers set tasks task at =
     (k : ℕ) (other : Logged) → tasks k ≡ Some other → other.dispatched ≡ true → Earlier task other
     → other.touched at ≡ true → set k ≡ true
 
--- with each member the set holds each later dispatched task that touched a line which the member wrote, by their
--- filters
-abbrev pub HoldsLater : (ℕ → Bool) → (ℕ → Option Logged) → Type 0
-HoldsLater set tasks =
+-- with each member the set holds each later dispatched task whose filter tells that it touched a line to which the
+-- member's log has a store
+abbrev pub HoldsLater : ℕ → (ℕ → Bool) → (ℕ → Option Logged) → Type 0
+HoldsLater line set tasks =
     (a b : ℕ) (x y : Logged) (at : ℕ) → tasks a ≡ Some x → tasks b ≡ Some y → x.dispatched ≡ true → y.dispatched ≡ true
-    → set a ≡ true → Earlier x y → x.wrote at ≡ true → y.touched at ≡ true → set b ≡ true
+    → set a ≡ true → Earlier x y → wrote_in (notes_of line x.log) at ≡ true → y.touched at ≡ true → set b ≡ true
 
 -- each member of the set leaves, or is idle with an empty log, and all other tasks stay
 pub record TakesBackInLogs (set : ℕ → Bool) (old new : ℕ → Option Logged) : Type 0 where

@@ -38,7 +38,7 @@ StoreKeepsChain =
 abbrev pub AbortKeepsChain : Type 0
 AbortKeepsChain =
     (line : ℕ) (set : ℕ → Bool) (old new : ℕ → Option Logged) (ids serial memory : List ℕ)
-    → IsLineSize line → HoldsLater set old → TakesBackInLogs set old new → IsByKey old ids
+    → IsLineSize line → HoldsLater line set old → TakesBackInLogs set old new → IsByKey old ids
     → IsChained line old serial memory → IsChained line new serial (undone_set set old ids memory)
 
 -- where the later tasks that conflict with an access are taken back, none is left that conflicts with it

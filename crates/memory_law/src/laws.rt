@@ -29,8 +29,8 @@ pub fn store_keeps_chain()
     ensures { StoreKeepsChain }
 {}
 
-/// Law: a set that holds, with each member, each later task that touched a line which the member wrote is taken
-/// back, the latest first, and the other tasks chain to the memory that is left.
+/// Law: a set that holds, with each member, each later task whose filter tells a line to which the member's log has a
+/// store is taken back, the latest first, and the other tasks chain to the memory that is left.
 pub fn abort_keeps_chain()
     ensures { AbortKeepsChain }
 {}

@@ -3,7 +3,8 @@ use Rattle.std.proofs.Common.{◌≡◌, ◌<◌, ℕ, Bool, true, false, List, 
 use Rattle.std.proofs.Common.{option_map, is_some, refl, sym, ap, subst, ◌∙◌, inl, inr, arith, cond}
 use Rattle.std.specs.Prelude.{filter, not, count_by, if◌then◌else◌}
 use Rattle.abort_cascade.specs.Cascade.{Reached, start, step}
-use Rattle.line_table.specs.Note.{Meet}
+use Rattle.line_table.specs.Note.{Meet, wrote_in}
+use Rattle.memory_law.specs.Notes.{notes_of}
 use Rattle.fractal_vt.specs.Keys.{levels}
 use Rattle.memory_law.specs.Tasks.{Logged, In, Ascends, IsByKey, log_of, undone_set}
 use Rattle.memory_law.proofs.Orders.{one_order}
@@ -14,7 +15,7 @@ use Rattle.spec_state.specs.declared.task.Creator.TheVariants.{Committed, Live}
 use Rattle.spec_state.specs.declared.task.Task.{Task}
 use Rattle.spec_state.specs.View.{View, task_at}
 use Rattle.spec_state.specs.Tasks.{is_dispatched, idle_again}
-use Rattle.spec_state.specs.Filters.{has_touched, has_written}
+use Rattle.spec_state.specs.Filters.{has_stored, has_touched}
 use Rattle.spec_state.specs.Groups.{logged_tasks, logged_task, room_tasks, room_task, live_creator}
 use Rattle.spec_state.specs.Aborts.{IsChildOf, ReadsFrom, PullsInView, is_marked, IsCascade, IsUndone}
 use Rattle.spec_state.specs.Aborts.{is_marked_creator, taken_back, freed_core, Aborts}
@@ -45,14 +46,18 @@ module _ (r : IdPermutation) (a b : View) (alike : AreAlike r a b) where
   reads_too k j is =
       let w = partner r a b alike k is.writer is.there in
       let l = later_too r a b alike is.writer w.y w.alike j is.reader is.later in
+      let settings : a.settings ≡ b.settings = sym (ap (λ v. v.settings) alike.frame) in
+      let stored : has_stored a.settings.line is.writer ≡ has_stored b.settings.line w.y =
+      λ i. wrote_in (notes_of (settings i).line (sym w.alike.other_is i).log) in
       record {
         writer = w.y;
         there = w.there;
         dispatched = ap is_dispatched w.alike.other_is ∙ is.dispatched;
         reader = l.y;
         later = l.is;
-        meets =
-            subst (λ f. Meet f (has_touched l.y)) (λ i line. sym (w.alike.written line) i) (subst (λ f. Meet (has_written is.writer) f) (λ i line. sym (l.alike.touched line) i) is.meets);
+        meets = subst (λ f. Meet f (has_touched l.y)) stored
+            (subst (λ f. Meet (has_stored a.settings.line is.writer) f) (λ i line. sym (l.alike.touched line) i)
+            is.meets);
       }
 
   pub pulls_too : (k j : ℕ) → PullsInView a k j → PullsInView b (r.to k) (r.to j)

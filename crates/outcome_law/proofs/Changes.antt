@@ -4,6 +4,8 @@ use Rattle.std.proofs.Common.{◌∙◌, inl, inr, arith}
 use Rattle.std.specs.Prelude.{slice_index_or, slice_set}
 use Rattle.std.proofs.lemmas.Bool.{cases_eq}
 use Rattle.std.proofs.lemmas.List.{map-set, map-append}
+use Rattle.line_table.specs.Lines.{touched_by, wrote_by}
+use Rattle.line_table.proofs.Proved.{lines_agree}
 use Rattle.memory_law.specs.Notes.{notes_of}
 use Rattle.rv_core.specs.declared.state.Core.{Core}
 use Rattle.rv_core.specs.LegValue.{LegValue}
@@ -14,7 +16,7 @@ use Rattle.spec_state.specs.View.{View, task_at, cores_at, ChangesTask}
 use Rattle.spec_state.specs.Changes.{Dispatches, Keeps, Accesses, Finishes, with_core, task_past_leg}
 use Rattle.spec_state.specs.Tasks.{start_core}
 use Rattle.spec_state.specs.Filters.{HasNotes}
-use Rattle.spec_state.proofs.Proved.{map_at}
+use Rattle.spec_state.proofs.Proved.{map_at, told_touched, told_written}
 use Rattle.outcome_law.specs.Alike.{IdPermutation, IsAlikeTask, IsAlikeAt, AreAlike}
 use Rattle.outcome_law.proofs.Alike.{partner}
 use Rattle.outcome_law.proofs.Leasts.{cores_too}
@@ -107,14 +109,23 @@ module _ (r : IdPermutation) (a b : View) (alike : AreAlike r a b) where
       → Accesses id task call core a a' → Accesses (r.to id) task' call core' b b' → AreAlike r a' b'
   accesses_alike id task task' like call core core' cores a' b' one two =
       let logs : task'.log ++ access_of b.memory call ∷ [] ≡ task.log ++ access_of a.memory call ∷ [] = λ i. (like.other_is i).log ++ access_of (memory_same i) call ∷ [] in
-      let notes : notes_of b.settings.line (task'.log ++ access_of b.memory call ∷ []) ≡ notes_of a.settings.line (task.log ++ access_of a.memory call ∷ []) = λ i. notes_of (settings_same i).line (logs i) in
-      let noted : HasNotes two.lines (notes_of a.settings.line (task.log ++ access_of a.memory call ∷ [])) = subst (HasNotes two.lines) notes two.notes in
+      let log = task.log ++ access_of a.memory call ∷ [] in
+      let noted : HasNotes a.settings two.lines log =
+      subst (λ s. HasNotes s two.lines log) settings_same (subst (HasNotes b.settings two.lines) logs two.notes) in
       let now : Task = record task { core = core; log = task.log ++ access_of a.memory call ∷ []; lines = one.lines } in
       let now' : Task = record task' { core = core'; log = task'.log ++ access_of b.memory call ∷ []; lines = two.lines } in
+      let agree = lines_agree a.settings.filter a.settings.line two.lines one.lines (notes_of a.settings.line log)
+      noted one.notes in
       let same : IsAlikeTask r.to now now' = record {
         other_is = (λ i. record (like.other_is i) { core = cores i; log = logs i; lines = two.lines });
-        touched = λ line. noted.touched_is line ∙ sym (one.notes.touched_is line);
-        written = λ line. noted.wrote_is line ∙ sym (one.notes.wrote_is line);
+        touched = λ line. ap (λ l. touched_by two.lines (notes_of two.lines.size l) line) logs
+            ∙ told_touched a.settings (record task { log = log; lines = two.lines }) line noted
+            ∙ (agree line).0
+            ∙ sym (told_touched a.settings now line one.notes);
+        written = λ line. ap (λ l. wrote_by two.lines (notes_of two.lines.size l) line) logs
+            ∙ told_written a.settings (record task { log = log; lines = two.lines }) line noted
+            ∙ (agree line).1
+            ∙ sym (told_written a.settings now line one.notes);
       } in
       let memory : b'.memory ≡ a'.memory = two.memory ∙ (ap (λ m. after_call m call) memory_same ∙ sym one.memory) in
       record {

@@ -1,7 +1,9 @@
 //! Which lines a task touched and wrote, by the filters of line_table.
 
 use crate::sending::is_sent;
-use line_table::{Exact, Filter, Signature, signatures_agree};
+use line_table::{
+    Exact, Filter, FilterKind, Lines, Signature, lines_agree, noted_is_told, signatures_agree,
+};
 use std::alloc::{AllocError, Global};
 use std::test::Fail;
 
@@ -106,4 +108,60 @@ fn a_cleared_signature_meets_none_and_its_copy_stays(rt: HostRuntime) -> Result<
     assert_eq!(rt; meetings(&filter, &signature_reader()), (false, false));
     assert_eq!(rt; meetings(&kept, &signature_reader()), (true, false));
     Ok(())
+}
+
+/// Loads and stores, in turn, of the lines 0, 7, 14 and so on up to 1,393, by a filter of this kind.
+fn noted_lines(kind: FilterKind) -> Lines {
+    let mut lines = Lines::new();
+    let mut write = true;
+    for place in 0..200 {
+        lines.mark(kind, 16, 7 * place, write);
+        write = !write;
+    }
+    lines
+}
+
+/// Lines, and whether a Bloom filter of those tells them as touched and as written. The first two were noted. Of 2,201
+/// all banks have the hash, of each line behind it all but the first bank, all but the second, and so on; the last has
+/// a greater number. Worked out by another program.
+static BLOOM: [(u32, bool, bool); 12] = [
+    (14, true, true),
+    (7, true, false),
+    (2_201, true, false),
+    (2_241, false, false),
+    (2_303, false, false),
+    (2_207, false, false),
+    (4_030, false, false),
+    (2_237, false, false),
+    (2_334, false, false),
+    (2_954, false, false),
+    (2_261, false, false),
+    (4_000_000_000, false, false),
+];
+
+#[test]
+fn a_bloom_filter_asks_eight_banks(rt: HostRuntime) {
+    let lines = noted_lines(FilterKind::Bloom);
+    for (line, touched, wrote) in &BLOOM {
+        assert_eq!(rt; lines.may_touch(*line), *touched, "{line}");
+        assert_eq!(rt; lines.may_write(*line), *wrote, "{line}");
+    }
+}
+
+#[test]
+fn other_lines_are_told_apart_modulo_1024(rt: HostRuntime) {
+    let lines = noted_lines(FilterKind::Modulo);
+    assert!(rt; lines.may_touch(1_024 + 7));
+    assert!(rt; !lines.may_write(1_024 + 7));
+    assert!(rt; !lines.may_touch(8));
+}
+
+#[test]
+fn cleared_lines_tell_none(rt: HostRuntime) {
+    let mut lines = noted_lines(FilterKind::Bloom);
+    lines.clear();
+    assert!(rt; !lines.may_touch(14));
+    assert_eq!(rt; (lines.kind(), lines.size()), (FilterKind::Modulo, 0));
+    noted_is_told();
+    lines_agree();
 }

@@ -2,7 +2,7 @@
 
 use command_line::{Command, Refusal, Request, read_words};
 use load_gen::Load;
-use spec_state::Settings;
+use spec_state::{FilterKind, Settings};
 use std::alloc::{AllocError, Global};
 use std::test::Fail;
 
@@ -17,6 +17,7 @@ const DEFAULTS: Settings = Settings {
     commits: 1_000_000,
     budget: 65_536,
     phase: 1_000_000,
+    filter: FilterKind::Modulo,
 };
 
 const TWO_COMMITS: Settings = Settings {
@@ -42,6 +43,7 @@ const OTHERS: Settings = Settings {
     commits: 1,
     budget: 1,
     phase: 1,
+    filter: FilterKind::Modulo,
 };
 
 const EIGHT_WORKERS: Settings = Settings {

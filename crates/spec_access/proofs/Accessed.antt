@@ -3,6 +3,7 @@ use Rattle.std.proofs.Common.{◌≡◌, ◌∷◌, ◌++◌, ◌/◌, ℕ, List
 use Rattle.std.specs.Prelude.{is_some, slice_set}
 use Rattle.std.proofs.lemmas.Option.{same_Some}
 use Rattle.std.proofs.lemmas.List.Elements.{All-push}
+use Rattle.line_table.specs.Lines.{IsLines}
 use Rattle.line_table.specs.Note.{Note}
 use Rattle.memory_law.specs.Notes.{notes_of}
 use Rattle.memory_law.proofs.Proved.{notes_of-append}
@@ -15,6 +16,7 @@ use Rattle.task_request.proofs.Proved.{request_at-reaches}
 use Rattle.undo_log.specs.declared.access.Access.{Access}
 use Rattle.undo_log.specs.Number.{IsAccessible}
 use Rattle.undo_log.specs.Undo.{MemoryCall, access_of, after_call, AllAccessible}
+use Rattle.spec_state.specs.declared.settings.Settings.{Settings}
 use Rattle.spec_state.specs.declared.task.Task.{Task}
 use Rattle.spec_state.specs.View.{View, task_at}
 use Rattle.spec_state.specs.Tasks.{context_of}
@@ -41,13 +43,20 @@ log_accessible size log now access is all one = subst (AllAccessible size) (sym 
 abbrev note_of : ℕ → Access → Note
 note_of line access = record { line = access.offset / line; write = is_some access.new }
 
+-- a filter has one note more, by these settings
+abbrev Marks : Settings → Lines → Lines → Note → Type 0
+Marks settings was now note =
+    (notes : List Note) → IsLines settings.filter settings.line was notes
+    → IsLines settings.filter settings.line now (notes ++ note ∷ [])
+
 -- a filter that has one note more
-noted : (line : ℕ) (log : List Access) (access : Access) (was now : Lines)
-    → ((notes : List Note) → HasNotes was notes → HasNotes now (notes ++ note_of line access ∷ []))
-    → HasNotes was (notes_of line log)
-    → HasNotes now (notes_of line (log ++ access ∷ []))
-noted line log access was now marked had = subst (HasNotes now) (sym (notes_of-append line log (access ∷ [])))
-    (marked (notes_of line log) had)
+noted : (settings : Settings) (log : List Access) (access : Access) (was now : Lines)
+    → Marks settings was now (note_of settings.line access)
+    → HasNotes settings was log
+    → HasNotes settings now (log ++ access ∷ [])
+noted settings log access was now marked had =
+    subst (IsLines settings.filter settings.line now) (sym (notes_of-append settings.line log (access ∷ [])))
+    (marked (notes_of settings.line log) had)
 
 module _ (id : ℕ) (found task : Task) (call : MemoryCall) (core : List ℕ → Core) (at : Core) (log : List Access)
     (lines : Lines) (memory : List ℕ) where
@@ -57,16 +66,15 @@ module _ (id : ℕ) (found task : Task) (call : MemoryCall) (core : List ℕ →
 
   accessed_at : (view : View) → task_at view id ≡ Some found → at ≡ core view.memory
       → log ≡ found.log ++ access_of view.memory call ∷ []
-      → ((notes : List Note) → HasNotes found.lines notes
-      → HasNotes lines (notes ++ note_of view.settings.line (access_of view.memory call) ∷ []))
+      → Marks view.settings found.lines lines (note_of view.settings.line (access_of view.memory call))
       → memory ≡ after_call view.memory call → found ≡ task
-      → HasNotes found.lines (notes_of view.settings.line found.log)
+      → HasNotes view.settings found.lines found.log
       → Accesses id task call (core view.memory) view (done view)
   accessed_at view there core_is log_is marked memory_is same had =
       subst (λ t. Accesses id t call (core view.memory) view (done view)) same
       (record {
         lines = lines;
-        notes = noted view.settings.line found.log (access_of view.memory call) found.lines lines marked had;
+        notes = noted view.settings found.log (access_of view.memory call) found.lines lines marked had;
         changes = record {
           changed = task_set view.tasks id found (record found { core = at; log = log; lines = lines }) there
               ∙ (λ i. Some (record found { core = core_is i; log = log_is i; lines = lines }));
@@ -80,14 +88,13 @@ module _ (id : ℕ) (found task : Task) (call : MemoryCall) (core : List ℕ →
   pub accessed : (old seen : View) → seen ≡ old → task_at seen id ≡ Some found → task_at old id ≡ Some task
       → at ≡ core seen.memory
       → log ≡ found.log ++ access_of seen.memory call ∷ []
-      → ((notes : List Note) → HasNotes found.lines notes
-      → HasNotes lines (notes ++ note_of seen.settings.line (access_of seen.memory call) ∷ []))
-      → memory ≡ after_call seen.memory call → HasNotes task.lines (notes_of old.settings.line task.log)
+      → Marks seen.settings found.lines lines (note_of seen.settings.line (access_of seen.memory call))
+      → memory ≡ after_call seen.memory call → HasNotes old.settings task.lines task.log
       → Accesses id task call (core old.memory) old (done seen)
   accessed old seen is there takes core_is log_is marked memory_is had =
       let same : found ≡ task = same_Some found task (sym there ∙ ap (λ v. task_at v id) is ∙ takes) in
-      let had_at : HasNotes found.lines (notes_of seen.settings.line found.log) =
-      subst (λ t. HasNotes t.lines (notes_of seen.settings.line t.log)) (sym same)
-      (subst (λ v. HasNotes task.lines (notes_of v.settings.line task.log)) (sym is) had) in
+      let had_at : HasNotes seen.settings found.lines found.log =
+      subst (λ t. HasNotes seen.settings t.lines t.log) (sym same)
+      (subst (λ v. HasNotes v.settings task.lines task.log) (sym is) had) in
       subst (λ v. Accesses id task call (core v.memory) v (done seen)) is
       (accessed_at seen there core_is log_is marked memory_is same had_at)

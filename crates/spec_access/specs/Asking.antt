@@ -1,7 +1,6 @@
 -- The task that takes a leg, and what it asks for.
 use Rattle.std.specs.Prelude.{◌≡◌, ◌⊎◌, ◌<◌, ℕ, length}
 use Rattle.guest_image.specs.declared.image.Kind.{Kind}
-use Rattle.memory_law.specs.Notes.{notes_of}
 use Rattle.rv_core.specs.LegValue.{LegValue}
 use Rattle.rv_table.specs.declared.instr.LoadWidth.{LoadWidth}
 use Rattle.task_desc.specs.declared.desc.Spawn.{Spawn}
@@ -36,7 +35,7 @@ OfTakerAsking view leg id request says =
 
 -- the task's filter has the notes of its log
 abbrev pub HasOwnNotes : View → Task → Type 0
-HasOwnNotes view task = HasNotes task.lines (notes_of view.settings.line task.log)
+HasOwnNotes view task = HasNotes view.settings task.lines task.log
 
 -- the task of this id runs on a core, the leg begins at its kept core, and at the leg's end it asks for this
 pub record Asks (view : View) (leg : LegValue) (id : ℕ) (request : Request) : Type 0 where

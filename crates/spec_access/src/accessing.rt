@@ -50,7 +50,8 @@ pub fn load_reserved<N: Naming>(
     ensures spare { state.new.spare ≡ record state.old.spare { log = state.new.spare.log } }
 {
     let _to = leg.to();
-    let line = offset / state.settings.line;
+    let kind = state.settings.filter;
+    let size = state.settings.line;
     let task = &mut state.tasks[id.0];
     let raw = load_with(
         &state.memory,
@@ -59,7 +60,7 @@ pub fn load_reserved<N: Naming>(
         offset,
         width_of_load(width),
     );
-    task.lines.mark(line, false);
+    task.lines.mark(kind, size, offset / size, false);
     leg.put_after_load(&mut task.core, width, rd, raw);
 }
 
@@ -110,7 +111,8 @@ pub fn store_reserved<N: Naming>(
 {
     let budget = state.settings.budget;
     let to = leg.to();
-    let line = offset / state.settings.line;
+    let kind = state.settings.filter;
+    let size = state.settings.line;
     let task = &mut state.tasks[id.0];
     store_with(
         &mut state.memory,
@@ -120,7 +122,7 @@ pub fn store_reserved<N: Naming>(
         width,
         value,
     );
-    task.lines.mark(line, true);
+    task.lines.mark(kind, size, offset / size, true);
     put_behind(&mut task.core, budget, leg);
 }
 

@@ -9,4 +9,5 @@ pub mod Moves
 pub mod Renumbers
 pub mod Dispatches
 pub mod Commits
+pub mod Telling
 pub mod Proved

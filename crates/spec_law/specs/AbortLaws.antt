@@ -50,7 +50,7 @@ MarkedAreIdle =
 abbrev pub MarkedLeaveMemory : Type 0
 MarkedLeaveMemory =
     (firsts : Firsts) (old : View) (aborted : ℕ) (new : View) (abort : Aborts (IsFirst old firsts) old aborted new)
-    → memory.HoldsLater (is_marked abort.marks) (logged_tasks old)
+    → memory.HoldsLater old.settings.line (is_marked abort.marks) (logged_tasks old)
     × memory.TakesBackInLogs (is_marked abort.marks) (logged_tasks old) (logged_tasks new)
 
 -- the group of memory holds after an abort in a sound view, against the same state of the serial machine

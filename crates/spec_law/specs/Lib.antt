@@ -4,4 +4,5 @@ pub mod Laws
 pub mod AbortLaws
 pub mod Keeping
 pub mod Renumbering
+pub mod FilterLaws
 pub mod RoomLaws

@@ -5,7 +5,6 @@ use Rattle.std.specs.Prelude.{is_some, unwrap_or, slice_get}
 use Rattle.fractal_vt.specs.Levels.{closed_level}
 use Rattle.guest_image.specs.ImageValue.{ImageValue}
 use Rattle.memory_law.specs.Chain.{IsChained}
-use Rattle.memory_law.specs.Notes.{notes_of}
 use Rattle.order_law.specs.Ordered.{IsOrdered}
 use Rattle.serial_machine.specs.Run.{IsRun}
 use Rattle.serial_machine.specs.State.{SerialState}
@@ -109,7 +108,7 @@ pub record SoundTasks (image : ImageValue) (view : View) (heir : Option ℕ) (se
 pub record SoundMemory (view : View) (serial : SerialState) : Type 0 where
   pub chained : IsChained view.settings.line (logged_tasks view) serial.memory view.memory
   pub noted : (id : ℕ) (task : Task) → task_at view id ≡ Some task
-      → HasNotes task.lines (notes_of view.settings.line task.log)
+      → HasNotes view.settings task.lines task.log
 
 -- the group of order: the virtual times of all uncommitted tasks, the path and the next dispatch number, which is
 -- at most how many there are. Kept for the proof alone: that no task has a number of the path, that keys fit and

@@ -1,4 +1,5 @@
 pub mod Unmarked
+pub mod Stores
 pub mod Pulled
 pub mod Marked
 pub mod Sorted

@@ -10,7 +10,6 @@ ghost use Rattle.spec_rollback.specs.Marking.{IsInTiles, Finds, FindsConflicts};
 
 use fractal_vt::cmp;
 use kept_slab::KeptSlab;
-use line_table::Filter;
 use rv_core::Naming;
 use spec_state::{State, Task, TaskId};
 use tile_queues::CommitQueue;
@@ -29,9 +28,9 @@ fn has_line(task: &Task, line: u32, write: bool) -> bool
     ensures { result ≡ has_line write task.now line }
 {
     if write {
-        task.lines.touched(line)
+        task.has_touched(line)
     } else {
-        task.lines.wrote(line)
+        task.has_written(line)
     }
 }
 

@@ -1,15 +1,29 @@
 //! What is told of the tasks that are taken back.
 
-ghost use Rattle.std.specs.Prelude.{◌≡◌, ◌<◌, ◌≤◌, ◌++◌, ◌∷◌, [], ℕ, IsSome, length, map, take};
+ghost use Rattle.std.specs.Prelude.{◌≡◌, ◌<◌, ◌≤◌, ◌++◌, ◌∷◌, [], ℕ, IsSome, count_by, length, map, take};
 ghost use Rattle.abort_cascade.specs.Cascade.{Marked};
 ghost use Rattle.spec_state.specs.Effects.{nothing};
 ghost use Rattle.spec_state.specs.View.{task_at};
 ghost use Rattle.spec_rollback.specs.Pulled.{ListsMarked};
-ghost use Rattle.spec_state.specs.Told.{told_at, told_of};
+ghost use Rattle.spec_state.specs.Told.{is_store, told_at, told_of};
 
 use crate::releasing::{has_marked_creator, member};
 use rv_core::Naming;
 use spec_state::{State, TakenTask, Task, TaskId};
+use undo_log::Access;
+
+/// How many of these accesses are stores.
+fn stores_among(accesses: &[Access]) -> usize
+    ensures { result ≡ count_by is_store accesses.now }
+{
+    let mut stores = 0;
+    for place in 0..accesses.len() {
+        if accesses[place].new.is_some() {
+            stores += 1;
+        }
+    }
+    stores
+}
 
 /// What is told of a marked task of this id.
 fn told_of(task: &Task, id: usize, marks: &[bool]) -> TakenTask
@@ -17,7 +31,11 @@ fn told_of(task: &Task, id: usize, marks: &[bool]) -> TakenTask
 {
     TakenTask {
         id: TaskId(id),
+        tile: task.tile,
         used: task.core.core().used,
+        accesses: task.log.accesses().len(),
+        stores: stores_among(task.log.accesses()),
+        bytes: task.bytes.as_slice().len(),
         gone: has_marked_creator(task, marks),
     }
 }

@@ -24,4 +24,5 @@ pub mod Dispatched
 pub mod Conflicting
 pub mod Idles
 pub mod Named
+pub mod Touched
 pub mod Proved

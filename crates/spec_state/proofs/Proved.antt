@@ -15,3 +15,4 @@ pub use Rattle.spec_state.proofs.Without.{all_same, freed_other, held_place, kee
 pub use Rattle.spec_state.proofs.Counted.{few_tasks}
 pub use Rattle.spec_state.proofs.Cored.{at_within}
 pub use Rattle.spec_state.proofs.Without.{other_test}
+pub use Rattle.spec_state.proofs.Touched.{told_touched, told_written}

@@ -8,7 +8,7 @@ use Rattle.memory_law.specs.Tasks.{IsByKey, undone_set}
 use Rattle.task_law.specs.Room.{queue_after}
 use Rattle.spec_state.specs.declared.task.Task.{Task}
 use Rattle.spec_state.specs.View.{View, task_at}
-use Rattle.spec_state.specs.Filters.{has_touched, has_written}
+use Rattle.spec_state.specs.Filters.{HasNotes, has_stored, has_touched}
 use Rattle.spec_state.specs.Tasks.{is_dispatched, idle_again}
 use Rattle.spec_state.specs.Groups.{logged_tasks, room_tasks, live_creator}
 use Rattle.spec_state.specs.Queries.{IsLater}
@@ -19,15 +19,20 @@ pub record IsChildOf (view : View) (a b : ℕ) : Type 0 where
   pub there : task_at view b ≡ Some child
   pub made_by : live_creator child.creator ≡ Some a
 
--- the first task is dispatched, and the second is a later dispatched one that touched a line that the first wrote, by
--- their filters
+-- the first task is dispatched, and the second is a later dispatched one whose filter tells that it touched a line to
+-- which the first one's log has a store
 pub record ReadsFrom (view : View) (a b : ℕ) : Type 0 where
   pub writer : Task
   pub there : task_at view a ≡ Some writer
   pub dispatched : is_dispatched writer ≡ true
   pub reader : Task
   pub later : IsLater view writer b reader
-  pub meets : Meet (has_written writer) (has_touched reader)
+  pub meets : Meet (has_stored view.settings.line writer) (has_touched reader)
+
+-- these are the dispatched tasks by rising key, and each task's filter has the notes of its log
+pub record NotedByKey (view : View) (ids : List ℕ) : Type 0 where
+  pub by_key : IsByKey (logged_tasks view) ids
+  pub noted : (id : ℕ) (task : Task) → task_at view id ≡ Some task → HasNotes view.settings task.lines task.log
 
 -- what is taken back with a task: its children, and the later tasks that may have seen what it wrote
 abbrev pub PullsInView : View → ℕ → ℕ → Type 0

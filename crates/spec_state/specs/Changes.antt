@@ -2,7 +2,6 @@
 use Rattle.std.specs.Prelude.{◌≡◌, ◌≢◌, ◌+◌, ◌∷◌, ◌++◌, ℕ, List, [], length, map, ◌==◌, Option, Some, None}
 use Rattle.std.specs.Prelude.{slice_set, if◌then◌else◌}
 use Rattle.guest_image.specs.declared.image.Kind.{Kind}
-use Rattle.memory_law.specs.Notes.{notes_of}
 use Rattle.rv_core.specs.declared.state.Core.{Core}
 use Rattle.rv_core.specs.Legs.{after_other_of, after_load_of}
 use Rattle.rv_core.specs.Memory.{load_width}
@@ -81,7 +80,7 @@ Emits id task leg byte = Keeps id (record (task_past_leg task leg) { bytes = tas
 -- this access of memory: the task goes on at this core, and the access joins its log and its filter's notes
 pub record Accesses (id : ℕ) (task : Task) (call : MemoryCall) (core : Core) (old new : View) : Type 0 where
   pub lines : Lines
-  pub notes : HasNotes lines (notes_of old.settings.line (task.log ++ access_of old.memory call ∷ []))
+  pub notes : HasNotes old.settings lines (task.log ++ access_of old.memory call ∷ [])
   pub changes : ChangesTask old new id
       (Some (record task { core = core; log = task.log ++ access_of old.memory call ∷ []; lines = lines }))
   pub memory : new.memory ≡ after_call old.memory call

@@ -1,26 +1,28 @@
--- The lines that a task touched and wrote, by its filter. Here alone it is said which filter that is: a signature,
--- which says touched of a line where some noted line equals it modulo 1,024, and wrote where some line noted with a
--- write does. It is known also where filters meet (`Pulled` of spec_rollback), where notes are added (`Noted` of
--- spec_law), and in code.
+-- The lines that a task touched and wrote, by its filter. Here alone it is said which filter that is: the one that the
+-- settings name. It tells lines apart by their numbers modulo 1,024, by eight hashes of them, or one from every other,
+-- for which it asks the task's own log. It is known also where filters meet (`Pulled` of spec_rollback), and in code.
 use Rattle.std.specs.Prelude.{ℕ, Bool, List}
-use Rattle.line_table.specs.Note.{Note}
-use Rattle.line_table.specs.declared.signature.Signature.{Signature}
-use Rattle.line_table.specs.Signature.{IsSignature, touched_of, wrote_of}
-pub use Rattle.line_table.specs.Signature.{no_lines}
+use Rattle.line_table.specs.Note.{wrote_in}
+use Rattle.line_table.specs.Lines.{IsLines, touched_by, wrote_by}
+pub use Rattle.line_table.specs.Lines.{unmarked}
+pub use Rattle.line_table.specs.declared.lines.Lines.{Lines}
+use Rattle.memory_law.specs.Notes.{notes_of}
+use Rattle.undo_log.specs.declared.access.Access.{Access}
+use Rattle.spec_state.specs.declared.settings.Settings.{Settings}
 use Rattle.spec_state.specs.declared.task.Task.{Task}
 
--- what a filter holds
-abbrev pub Lines : Type 0
-Lines = Signature
-
--- the filter's notes since its last clearing are these
-abbrev pub HasNotes : Lines → List Note → Type 0
-HasNotes = IsSignature
+-- by these settings the filter has the notes of this log, and no others
+abbrev pub HasNotes : Settings → Lines → List Access → Type 0
+HasNotes settings lines log = IsLines settings.filter settings.line lines (notes_of settings.line log)
 
 -- the task touched the line, by its filter
 abbrev pub has_touched : Task → ℕ → Bool
-has_touched task = touched_of task.lines
+has_touched task = touched_by task.lines (notes_of task.lines.size task.log)
 
 -- the task wrote the line, by its filter
 abbrev pub has_written : Task → ℕ → Bool
-has_written task = wrote_of task.lines
+has_written task = wrote_by task.lines (notes_of task.lines.size task.log)
+
+-- the task's log has a store to the line, where a line has so many bytes
+abbrev pub has_stored : ℕ → Task → ℕ → Bool
+has_stored size task = wrote_in (notes_of size task.log)

@@ -19,7 +19,7 @@ use Rattle.spec_state.specs.declared.task.Creator.{Creator}
 use Rattle.spec_state.specs.declared.task.Status.{Status}
 use Rattle.spec_state.specs.declared.task.Status.TheVariants.{Idle, Running, Trapped, Finished}
 use Rattle.spec_state.specs.declared.task.Task.{Task}
-use Rattle.spec_state.specs.Filters.{no_lines}
+use Rattle.spec_state.specs.Filters.{unmarked}
 
 -- the depth of the task's domain
 abbrev pub depth_of : Task → ℕ
@@ -178,7 +178,7 @@ idle_task version d creator tile = record {
   status = Idle;
   core = start_of version d.entry d.ts d.args;
   log = [];
-  lines = no_lines;
+  lines = unmarked;
   spawns = [];
   bytes = [];
   sub = None;

@@ -13,7 +13,6 @@ ghost use Rattle.spec_state.specs.Picks.{IsPick, IsEither, IsOwn, ConflictsWith,
 use crate::state::State;
 use crate::task::{Task, TaskId};
 use fractal_vt::cmp;
-use line_table::Filter;
 use rv_core::Naming;
 
 /// Whether the task has the line for an access to it: whether it touched it, for a store, or wrote it, for a load.
@@ -21,9 +20,9 @@ fn has_line(task: &Task, line: u32, write: bool) -> bool
     ensures { IsTrue result ↔ HasLine write task.now line }
 {
     if write {
-        task.lines.touched(line)
+        task.has_touched(line)
     } else {
-        task.lines.wrote(line)
+        task.has_written(line)
     }
 }
 

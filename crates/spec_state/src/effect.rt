@@ -17,8 +17,16 @@ pub const MAX_TAKEN: usize = 4096;
 pub struct TakenTask {
     /// Its id.
     pub id: TaskId,
-    /// How many instructions it had executed.
+    /// The tile in whose task queue it stood.
+    pub tile: u32,
+    /// How many instructions it had executed since its dispatch.
     pub used: u32,
+    /// How many loads and stores it had made since then.
+    pub accesses: usize,
+    /// How many of those were stores.
+    pub stores: usize,
+    /// How many bytes it had emitted since then.
+    pub bytes: usize,
     /// Whether it is gone, since its creator was taken back too; else it is idle again.
     pub gone: bool,
 }

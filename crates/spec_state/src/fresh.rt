@@ -7,7 +7,7 @@ use crate::emitted::Emitted;
 use crate::task::{Creator, Spawns, Status, Task};
 use fractal_vt::{Key, Vt};
 use kept_slab::Blank;
-use line_table::{Filter, Signature};
+use line_table::Lines;
 use rv_core::NotedCore;
 use std::alloc::Global;
 use std::marker::Model;
@@ -100,7 +100,7 @@ impl Blank for Task {
             status: Status::Idle,
             core: NotedCore::start(1, 0, 0, [0; 3]),
             log: Log::new(alloc),
-            lines: Signature::new(),
+            lines: Lines::new(),
             spawns: Spawns::new(alloc),
             bytes: Emitted::new(),
             sub: None,

@@ -9,7 +9,6 @@ ghost use Rattle.spec_state.specs.Tasks.{idle_again};
 
 use crate::state::State;
 use crate::task::{Status, Task, TaskId};
-use line_table::Filter;
 use rv_core::Naming;
 use tile_queues::{CommitQueue, TaskQueue};
 

@@ -3,6 +3,7 @@
 ghost use Rattle.std.specs.Prelude.{◌≡◌, ◌↔◌, IsTrue};
 ghost use Rattle.spec_state.specs.Settings.{IsValid, IsLine, IsBetween};
 
+use line_table::FilterKind;
 use serial_machine::{MAX_BUDGET, MAX_COMMITS};
 
 /// How large a machine is and how far it runs. Each number has a range, which [`valid`](Settings::valid) tests.
@@ -28,6 +29,8 @@ pub struct Settings {
     pub budget: u32,
     /// How many commits a placer serves before the next one takes over: 1 to 1,000,000.
     pub phase: u32,
+    /// How each task's filter tells lines apart.
+    pub filter: FilterKind,
 }
 
 impl Settings {

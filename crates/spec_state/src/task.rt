@@ -3,7 +3,7 @@
 use crate::emitted::Emitted;
 use fractal_vt::Key;
 use guest_image::Kind;
-use line_table::Signature;
+use line_table::Lines;
 use rv_core::NotedCore;
 use serial_machine::Items;
 use task_desc::Spawn;
@@ -96,8 +96,8 @@ pub struct Task {
     pub core: NotedCore,
     /// Its loads and stores since its dispatch, with the values that stood there before.
     pub log: Log,
-    /// The lines of its log.
-    pub lines: Signature,
+    /// The lines of its log, as its filter keeps them.
+    pub lines: Lines,
     /// The children that it has made since its dispatch.
     pub spawns: Spawns,
     /// The bytes that it has emitted since its dispatch.

@@ -4,6 +4,8 @@ use Rattle.std.specs.List.{flat_map}
 use Rattle.std.specs.declared.option.Option.{Option}
 use Rattle.guest_image.specs.declared.image.Kind.{Kind}
 use Rattle.guest_image.specs.declared.image.Kind.TheVariants.{Unordered, Ordered}
+use Rattle.line_table.specs.declared.lines.FilterKind.{FilterKind}
+use Rattle.line_table.specs.declared.lines.FilterKind.TheVariants.{Modulo, Bloom, Exact}
 use Rattle.report_text.specs.Hex.{byte_hex}
 
 -- a number under a name
@@ -55,6 +57,12 @@ args_field args =
 -- two hex digits for each byte
 abbrev pub hex_text : List ℕ → List ℕ
 hex_text bytes = flat_map byte_hex bytes
+
+-- how filters tell lines apart
+abbrev pub filter_word : FilterKind → List ℕ
+filter_word Modulo = codes "modulo"
+filter_word Bloom = codes "bloom"
+filter_word Exact = codes "exact"
 
 -- the kind of a domain
 abbrev pub kind_word : Kind → List ℕ

@@ -5,6 +5,7 @@ use Rattle.std.specs.List.{flat_map, range_with_len}
 use Rattle.guest_image.specs.ImageValue.{ImageValue}
 use Rattle.spill_store.specs.SpilledTasks.{Spilled}
 use Rattle.task_desc.specs.declared.desc.Desc.{Desc}
+use Rattle.line_table.specs.declared.lines.FilterKind.{FilterKind}
 use Rattle.spec_state.specs.declared.settings.Settings.{Settings}
 use Rattle.spec_state.specs.declared.task.Task.{Task}
 use Rattle.spec_state.specs.Fronts.{name_given}
@@ -12,8 +13,8 @@ use Rattle.spec_state.specs.View.{View, block_at, queue_at, task_at}
 use Rattle.watch_text.specs.declared.head.CourseWord.{CourseWord}
 use Rattle.watch_text.specs.declared.head.CourseWord.TheVariants as courses
 use Rattle.watch_text.specs.declared.placed.Placed.{Placed}
-use Rattle.watch_text.specs.Fields.{kind_word, name_field, number_field, some_field, start_text, window_field}
-use Rattle.watch_text.specs.Fields.{word_field}
+use Rattle.watch_text.specs.Fields.{filter_word, kind_word, name_field, number_field, some_field, start_text}
+use Rattle.watch_text.specs.Fields.{window_field, word_field}
 
 -- ---- the head
 
@@ -42,8 +43,12 @@ limits_text settings =
     ++ number_field (codes "commits") settings.commits ++ number_field (codes "budget") settings.budget
     ++ number_field (codes "phase") settings.phase
 
+-- how filters tell lines apart
+unfoldable pub filter_text : FilterKind → List ℕ
+filter_text kind = word_field (codes "filter") (filter_word kind)
+
 unfoldable pub settings_text : Settings → List ℕ
-settings_text settings = sizes_text settings ++ limits_text settings
+settings_text settings = sizes_text settings ++ limits_text settings ++ filter_text settings.filter
 
 -- the kind of the root domain, and how many words of text and bytes of data there are
 unfoldable pub contents_text : ImageValue → List ℕ

@@ -3,12 +3,13 @@
 ghost use Rattle.std.specs.Prelude.{◌≡◌, ◌++◌, OnOk};
 ghost use Rattle.std.specs.String.{string_bytes};
 ghost use Rattle.watch_text.specs.Fields.{window_field};
-ghost use Rattle.watch_text.specs.Opening.{bounds_text, contents_text, course_text, head_line, image_text, limits_text};
-ghost use Rattle.watch_text.specs.Opening.{rounds_text, settings_text, sizes_text};
+ghost use Rattle.watch_text.specs.Opening.{bounds_text, contents_text, course_text, filter_text, head_line, image_text};
+ghost use Rattle.watch_text.specs.Opening.{limits_text, rounds_text, settings_text, sizes_text};
 
 use crate::fields::{put_number, put_word};
-use crate::words::kind_word;
+use crate::words::{filter_word, kind_word};
 use guest_image::Image;
+use line_table::FilterKind;
 use spec_state::Settings;
 use std::alloc::AllocError;
 use std::fmt::Write;
@@ -84,12 +85,21 @@ fn put_limits(line: &mut String, settings: &Settings) -> Result<(), AllocError>
     )
 }
 
+#[tactic(auto, unfolding(crate::specs::Opening::filter_text))]
+fn put_filter(line: &mut String, kind: FilterKind) -> Result<(), AllocError>
+    ensures { OnOk result (string_bytes line.new ≡ string_bytes line.old ++ filter_text kind) }
+{
+    put_word(line, "filter", filter_word(kind))
+}
+
+/// How large a machine is, how far it runs, and how its filters tell lines apart.
 #[tactic(auto, unfolding(crate::specs::Opening::settings_text))]
 fn put_settings(line: &mut String, settings: &Settings) -> Result<(), AllocError>
     ensures { OnOk result (string_bytes line.new ≡ string_bytes line.old ++ settings_text settings.now) }
 {
     put_sizes(line, settings)?;
-    put_limits(line, settings)
+    put_limits(line, settings)?;
+    put_filter(line, settings.filter)
 }
 
 /// The kind of the root domain, and how many words of text and bytes of data there are.

@@ -3,7 +3,7 @@
 ghost use Rattle.std.specs.Prelude.{◌≡◌};
 ghost use Rattle.script_text.specs.Replies.{reply_text};
 ghost use Rattle.step_script.specs.Asking.{asks_of};
-ghost use Rattle.watch_text.specs.Fields.{kind_word};
+ghost use Rattle.watch_text.specs.Fields.{filter_word, kind_word};
 ghost use Rattle.watch_text.specs.Requests.{act_word, do_word, place_word};
 ghost use Rattle.watch_text.specs.Views.{end_word, status_word};
 ghost use Rattle.rv_core.specs.LegValue.{LegValue};
@@ -11,6 +11,7 @@ ghost use Rattle.rv_core.specs.LegValue.{LegValue};
 use conflict_book::Legless;
 use event_def::Reply;
 use guest_image::Kind;
+use line_table::FilterKind;
 use run_journal::End;
 use rv_core::Naming;
 use spec_state::Status;
@@ -45,6 +46,16 @@ pub(crate) fn do_word<N: Naming>(act: Act, asked: &Asked) -> &'static str
         Asked::Legless(Legless::Split { .. }) => "split",
         Asked::Ready { .. } => "step",
         Asked::Says(_) => act_word(act),
+    }
+}
+
+pub(crate) fn filter_word(kind: FilterKind) -> &'static str
+    ensures { result.now ≡ filter_word kind }
+{
+    match kind {
+        FilterKind::Modulo => "modulo",
+        FilterKind::Bloom => "bloom",
+        FilterKind::Exact => "exact",
     }
 }
 

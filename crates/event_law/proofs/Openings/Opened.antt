@@ -11,7 +11,6 @@ use Rattle.guest_image.specs.declared.image.Kind.{Kind}
 use Rattle.guest_image.specs.declared.image.Kind.TheVariants.{Unordered, Ordered}
 use Rattle.guest_image.specs.ImageValue.{ImageValue, IsImage}
 use Rattle.memory_law.specs.Chain.{IsChained}
-use Rattle.memory_law.specs.Notes.{notes_of}
 use Rattle.memory_law.specs.Tasks.{Logged}
 use Rattle.memory_law.proofs.Proved.{undispatched_is_chained}
 use Rattle.order_law.specs.Opening.{IsRoot}
@@ -125,11 +124,10 @@ module _ (image : ImageValue) (settings : Settings) (among : ℕ → ImageTask �
       subst (λ (y : Logged). (y.dispatched ≡ false) × (y.log ≡ [])) one.2 (undispatched id one.0 one.1, ap (λ t. t.log) root.is)
 
   -- a task that has done nothing has no notes
-  no_notes : (id : ℕ) (task : Task) → task_at view id ≡ Some task
-      → HasNotes task.lines (notes_of view.settings.line task.log)
+  no_notes : (id : ℕ) (task : Task) → task_at view id ≡ Some task → HasNotes view.settings task.lines task.log
   no_notes id task there =
-      subst (λ (t : Task). HasNotes t.lines (notes_of view.settings.line t.log)) (sym (are.tasks id task there).is)
-      none_noted
+      subst (λ (t : Task). HasNotes view.settings t.lines t.log) (sym (are.tasks id task there).is)
+      (none_noted view.settings)
 
   -- the group of memory
   memory : AreBytes (opening_memory image) → SoundMemory view (opening image)

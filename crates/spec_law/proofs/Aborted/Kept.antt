@@ -1,7 +1,6 @@
 -- An abort keeps the group of memory.
 use Rattle.std.proofs.Common.{◌≡◌, ℕ, Bool, true, false, Some, refl, sym, ap, subst, ◌∙◌, inl, inr, arith}
 use Rattle.memory_law.specs.Chain.{IsChained}
-use Rattle.memory_law.specs.Notes.{notes_of}
 use Rattle.memory_law.specs.Tasks.{IsLineSize}
 use Rattle.memory_law.proofs.Proved.{abort_keeps_chain}
 use Rattle.spec_state.specs.declared.task.Task.{Task}
@@ -24,15 +23,15 @@ line_sized line (inr (inr (inr (inr is)))) = subst IsLineSize (sym is) (record {
 
 -- an abort keeps what filters say of logs
 noted_by : {firsts : ℕ → Type 0} {old : View} {aborted : ℕ} {new : View} → Aborts firsts old aborted new
-    → ((id : ℕ) (task : Task) → task_at old id ≡ Some task → HasNotes task.lines (notes_of old.settings.line task.log))
-    → (id : ℕ) (task : Task) → task_at new id ≡ Some task → HasNotes task.lines (notes_of old.settings.line task.log)
+    → ((id : ℕ) (task : Task) → task_at old id ≡ Some task → HasNotes old.settings task.lines task.log)
+    → (id : ℕ) (task : Task) → task_at new id ≡ Some task → HasNotes old.settings task.lines task.log
 noted_by {old} abort noted id task at = by_mark (is_marked abort.marks id) refl
   where
-    by_mark : (b : Bool) → is_marked abort.marks id ≡ b → HasNotes task.lines (notes_of old.settings.line task.log)
+    by_mark : (b : Bool) → is_marked abort.marks id ≡ b → HasNotes old.settings task.lines task.log
     by_mark false out = noted id task (sym (unmarked_stays abort id out) ∙ at)
     by_mark true taken =
         let back = marked_is_back abort id task taken at in
-        subst (λ t. HasNotes t.lines (notes_of old.settings.line t.log)) (sym back.is) none_noted
+        subst (λ t. HasNotes old.settings t.lines t.log) (sym back.is) (none_noted old.settings)
 
 pub abort_keeps_memory : AbortKeepsSoundMemory
 abort_keeps_memory image firsts old aborted new sound abort =
@@ -47,5 +46,6 @@ abort_keeps_memory image firsts old aborted new sound abort =
       chained = subst (λ s. IsChained s.line (logged_tasks new) sound.serial.memory new.memory) (sym same)
           (subst (IsChained old.settings.line (logged_tasks new) sound.serial.memory) (sym back.memory_is) chained);
       noted =
-          λ id task at. subst (λ s. HasNotes task.lines (notes_of s.line task.log)) (sym same) (noted_by abort sound.memory.noted id task at);
+          λ id task at. subst (λ s. HasNotes s task.lines task.log) (sym same)
+          (noted_by abort sound.memory.noted id task at);
     }

@@ -1,7 +1,9 @@
 -- What an abort leaves under each id, and what the laws of order, tasks and memory see of it.
 use Rattle.std.proofs.Common.{◌≡◌, ◌≤◌, ◌<◌, ◌∷◌, ℕ, zero, suc, Bool, true, false, List, [], length, Option, Some, None}
 use Rattle.std.proofs.Common.{refl, sym, ap, subst, ◌∙◌, inl, inr, arith, option_map, if◌then◌else◌}
+use Rattle.line_table.specs.Note.{wrote_in}
 use Rattle.memory_law.specs.Events as memory
+use Rattle.memory_law.specs.Notes.{notes_of}
 use Rattle.memory_law.specs.Tasks.{Logged, Earlier}
 use Rattle.order_law.specs.Events as order
 use Rattle.order_law.specs.Tasks.{Keyed}
@@ -151,7 +153,7 @@ module _ {firsts : ℕ → Type 0} {old : View} {aborted : ℕ} {new : View} (ab
   pub logs_taken_back : memory.TakesBackInLogs (is_marked marks) (logged_tasks old) (logged_tasks new)
   logs_taken_back = record { members = logs_back; others = λ k out. ap (option_map logged_task) (unmarked_stays k out) }
 
-  pub holds_later : memory.HoldsLater (is_marked marks) (logged_tasks old)
+  pub holds_later : memory.HoldsLater old.settings.line (is_marked marks) (logged_tasks old)
   holds_later a b x y at there there' runs runs' marked earlier wrote touched =
       let writer = mapped_some logged_task (task_at old a) x there in
       let reader = mapped_some logged_task (task_at old b) y there' in
@@ -163,7 +165,11 @@ module _ {firsts : ℕ → Type 0} {old : View} {aborted : ℕ} {new : View} (ab
         dispatched = sym (ap (λ t. t.dispatched) writer.2) ∙ runs;
         reader = reader.0;
         later = record { there = reader.1; dispatched = sym (ap (λ t. t.dispatched) reader.2) ∙ runs'; later = above };
-        meets = (at, sym (ap (λ t. t.wrote at) writer.2) ∙ wrote, sym (ap (λ t. t.touched at) reader.2) ∙ touched);
+        meets = (
+          at,
+          sym (ap (λ t. wrote_in (notes_of old.settings.line t.log) at) writer.2) ∙ wrote,
+          sym (ap (λ t. t.touched at) reader.2) ∙ touched,
+        );
       }))
       marked
 

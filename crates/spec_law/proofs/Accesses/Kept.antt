@@ -5,7 +5,6 @@ use Rattle.std.proofs.lemmas.Bool.{false_from_ne_true}
 use Rattle.guest_image.specs.ImageValue.{ImageValue}
 use Rattle.memory_law.specs.Chain.{IsChained}
 use Rattle.memory_law.specs.Events as memory
-use Rattle.memory_law.specs.Notes.{notes_of}
 use Rattle.memory_law.specs.Tasks.{Logged, Earlier, IsNoted}
 use Rattle.memory_law.proofs.Proved.{load_keeps_chain, store_keeps_chain}
 use Rattle.rv_core.specs.declared.state.Core.{Core}
@@ -75,8 +74,7 @@ module _ (image : ImageValue) (old new : View) (sound : Sound image old) (tile c
     log = refl;
     accessible = within;
     old_is = access_old old.memory call;
-    noted =
-        noted_more (length old.memory) old.settings.line (has_touched task) (has_written task) task.log access does.lines
+    noted = noted_more (length old.memory) old.settings (has_touched task) (has_written task) task.log access now refl
         (subst (λ n. IsNoted n old.settings.line (logged_task task)) (sym sound.memory.chained.size)
         (sound.memory.chained.noted id (logged_task task) (ap (option_map logged_task) there)))
         within does.notes;
@@ -136,8 +134,9 @@ module _ (image : ImageValue) (old new : View) (sound : Sound image old) (tile c
       record {
         chained = subst (λ s. IsChained s.line (logged_tasks new) sound.serial.memory new.memory) (sym same)
             (subst (IsChained old.settings.line (logged_tasks new) sound.serial.memory) (sym does.memory) (chained_by call refl));
-        noted = λ k t at. subst (λ s. HasNotes t.lines (notes_of s.line t.log)) (sym same)
-            (each_stepped old new id now does.changes (λ j x. HasNotes x.lines (notes_of old.settings.line x.log)) (λ j x other here. sound.memory.noted j x here) does.notes k t at);
+        noted = λ k t at. subst (λ s. HasNotes s t.lines t.log) (sym same)
+            (each_stepped old new id now does.changes (λ j x. HasNotes old.settings x.lines x.log)
+            (λ j x other here. sound.memory.noted j x here) does.notes k t at);
       }
 
   -- it runs on

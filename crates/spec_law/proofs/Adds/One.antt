@@ -3,7 +3,6 @@ use Rattle.std.proofs.Common.{◌≡◌, ◌⊎◌, ◌<◌, ◌∷◌, ℕ, tru
 use Rattle.std.proofs.Common.{option_map, slice_get}
 use Rattle.std.proofs.lemmas.Bool.{cases_eq}
 use Rattle.guest_image.specs.ImageValue.{ImageValue}
-use Rattle.memory_law.specs.Notes.{notes_of}
 use Rattle.memory_law.specs.Tasks.{Logged}
 use Rattle.memory_law.proofs.Proved.{idle_tasks_keep_chain}
 use Rattle.serial_machine.specs.State.{SerialState}
@@ -86,7 +85,7 @@ module _ (old new : View) (id : ℕ) (task : Task) (adds : Adds id task old new)
             chained =
                 idle_tasks_keep_chain old.settings.line (logged_tasks old) (logged_tasks new) serial.memory old.memory
                 (record { stay = λ k x runs. (logs_stay k x runs, logs_were k x runs); idle = idle_log }) sound.chained;
-            noted =
-                each_stepped old new id task adds.changes (λ k t. HasNotes t.lines (notes_of old.settings.line t.log)) (λ k t other at. sound.noted k t at)
-                (subst (λ t. HasNotes t.lines (notes_of old.settings.line t.log)) (sym idle) none_noted);
+            noted = each_stepped old new id task adds.changes (λ k t. HasNotes old.settings t.lines t.log)
+                (λ k t other at. sound.noted k t at)
+                (subst (λ t. HasNotes old.settings t.lines t.log) (sym idle) (none_noted old.settings));
           })

@@ -57,6 +57,7 @@ module _ (old new : View) (commit : Commits old new) (sizes : SoundSizes old) (h
           chained = subst (λ l. IsChained l (logged_tasks new) after.memory new.memory) (sym line)
               (subst (λ m. IsChained old.settings.line (logged_tasks new) m new.memory) (sym is)
               (subst (IsChained old.settings.line (logged_tasks new) (after_accesses serial.memory commit.task.log)) (sym memory_is) both.1));
-          noted = each_left old new commit (λ k t. HasNotes t.lines (notes_of new.settings.line t.log))
-              (λ k t other there. subst (λ l. HasNotes t.lines (notes_of l t.log)) (sym line) (sound.noted k t there));
+          noted = each_left old new commit (λ k t. HasNotes new.settings t.lines t.log)
+              (λ k t other there. subst (λ s. HasNotes s t.lines t.log) (sym (ap (λ v. v.settings) commit.frame))
+              (sound.noted k t there));
         }

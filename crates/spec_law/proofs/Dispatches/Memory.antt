@@ -7,7 +7,6 @@ use Rattle.std.specs.declared.cmp.Ordering.TheVariants.{Less, Equal, Greater}
 use Rattle.fractal_vt.specs.Keys.{key_cmp}
 use Rattle.fractal_vt.proofs.Proved.{equal_keys_tie, key_cmp_total, mapped_some}
 use Rattle.memory_law.specs.Events as memory
-use Rattle.memory_law.specs.Notes.{notes_of}
 use Rattle.memory_law.specs.Tasks.{Logged, Earlier}
 use Rattle.memory_law.proofs.Proved.{dispatch_keeps_chain}
 use Rattle.serial_machine.specs.State.{SerialState}
@@ -67,6 +66,6 @@ module _ (old new : View) (heir : Option ℕ) (tile : ℕ) (d : Dispatches tile 
       record {
         chained =
             dispatch_keeps_chain old.settings.line (logged_tasks old) (logged_tasks new) d.id started_log serial.memory old.memory dispatches sound.chained;
-        noted = each_after old new tile d (λ k t. HasNotes t.lines (notes_of old.settings.line t.log))
+        noted = each_after old new tile d (λ k t. HasNotes old.settings t.lines t.log)
             (sound.noted d.id d.task (was old new tile d)) (λ k t other there. sound.noted k t there);
       }

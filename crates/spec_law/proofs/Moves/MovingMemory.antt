@@ -2,7 +2,6 @@
 use Rattle.std.proofs.Common.{◌≡◌, ℕ, true, false, [], Option, Some, sym, ap, subst, ◌∙◌, inl, inr, option_map}
 use Rattle.guest_image.specs.ImageValue.{ImageValue}
 use Rattle.memory_law.specs.Events.{KeepsDispatched}
-use Rattle.memory_law.specs.Notes.{notes_of}
 use Rattle.memory_law.specs.Tasks.{Logged}
 use Rattle.memory_law.proofs.Proved.{idle_tasks_keep_chain}
 use Rattle.serial_machine.specs.State.{SerialState}
@@ -64,6 +63,6 @@ module _ (image : ImageValue) (old new : View) (heir : Option ℕ) (serial : Ser
         noted = λ id t at. elim (moves.queued id t at) [
           | inl was ↦ sound.noted id t was
           | inr spilled ↦
-              subst (λ t. HasNotes t.lines (notes_of old.settings.line t.log)) (sym spilled.2.idle) none_noted
+              subst (λ t. HasNotes old.settings t.lines t.log) (sym spilled.2.idle) (none_noted old.settings)
         ];
       }

@@ -9,7 +9,7 @@ use Rattle.fractal_vt.specs.Keys.{key_cmp}
 use Rattle.spill_store.specs.SpilledTasks.{Spilled, open_key}
 use Rattle.spec_state.specs.declared.task.Task.{Task}
 use Rattle.spec_state.specs.View.{View, task_at, queue_at, block_at}
-use Rattle.spec_state.specs.Filters.{has_touched, has_written}
+use Rattle.spec_state.specs.Filters.{has_stored, has_touched, has_written}
 use Rattle.spec_state.specs.Tasks.{is_dispatched}
 use Rattle.spec_state.specs.Groups.{live_creator}
 use Rattle.spec_state.specs.Least.{Spot, Queued, Spilled_at, HasKey, IsLeastSpot, IsLeastTask, IsHeir, spot_cmp}
@@ -39,6 +39,7 @@ pub record AreAlike (a b : View) : Type 0 where
       → (s : Spilled) × (slice_get (block_at a tile) place ≡ Some s)
   pub queues : (tile : ℕ) → queue_at b tile ≡ queue_at a tile
   pub size : length b.tasks ≡ length a.tasks
+  pub settings : b.settings ≡ a.settings
   pub order : (k l k' l' : Key) → AreKeys a b k k' → AreKeys a b l l' → key_cmp k' l' ≡ key_cmp k l
 
 turned_keys : (a b : View) (k l : Key) → AreKeys b a k l → AreKeys a b l k
@@ -54,6 +55,7 @@ turned a b alike = record {
   spilled_back = alike.spilled_forth;
   queues = λ tile. sym (alike.queues tile);
   size = sym alike.size;
+  settings = sym alike.settings;
   order = λ k l k' l' one two. sym (alike.order k' l' k l (turned_keys a b k k' one) (turned_keys a b l l' two));
 }
 
@@ -166,7 +168,8 @@ module _ (a b : View) (alike : AreAlike a b) where
         later = later.1;
         meets = (
           reads.meets.0,
-          ap (λ t. has_written t reads.meets.0) writer.2.is ∙ reads.meets.1,
+          ap (λ t. has_stored b.settings.line t reads.meets.0) writer.2.is
+              ∙ ap (λ s. has_stored s.line reads.writer reads.meets.0) alike.settings ∙ reads.meets.1,
           ap (λ t. has_touched t reads.meets.0) later.2.is ∙ reads.meets.2,
         );
       })

@@ -8,7 +8,6 @@ use Rattle.fractal_vt.specs.Keys.{key_cmp, levels}
 use Rattle.fractal_vt.specs.Levels.{levels_cmp}
 use Rattle.fractal_vt.specs.Renumbered.{place_in, renumbered_key, HoldsKey}
 use Rattle.guest_image.specs.ImageValue.{ImageValue}
-use Rattle.memory_law.specs.Notes.{notes_of}
 use Rattle.memory_law.specs.Tasks.{Logged, undone_set}
 use Rattle.spill_store.specs.SpilledTasks.{open_key, renumbered_spilled}
 use Rattle.spec_state.specs.declared.numbers.TheConstants.{DISPATCH_NUMBERS}
@@ -60,6 +59,7 @@ module _ (old new : View) (r : Renumbers old new) where
     spilled_back = λ tile place t at. (let s = spilled_was old new r tile place t at in (s.0, s.1));
     queues = λ tile. refl;
     size = length-map old.tasks (option_map (renumbered_task r.table));
+    settings = refl;
     order = λ k l k' l' one two.
         (let first = key_pair k k' one in
         let second = key_pair l l' two in
@@ -167,8 +167,7 @@ renumbering_stays_sound image old new sound r =
         memory = record {
           chained =
               chain_forth (logged_tasks old) (logged_tasks (after old new r)) (logged_alike old new r) old.settings.line sound.serial.memory old.memory sound.memory.chained;
-          noted =
-              each_now old new r (λ k t. HasNotes t.lines (notes_of old.settings.line t.log)) (λ k w at. sound.memory.noted k w at);
+          noted = each_now old new r (λ k t. HasNotes old.settings t.lines t.log) (λ k w at. sound.memory.noted k w at);
         };
         order = record {
           order = renumbered_order old new r sound.heir sound.order.order;

@@ -5,7 +5,6 @@ use Rattle.std.proofs.Common.{option_map}
 use Rattle.std.proofs.lemmas.Bool.{cases_eq}
 use Rattle.fractal_vt.specs.Levels.{closed_level}
 use Rattle.memory_law.specs.Chain.{IsChained}
-use Rattle.memory_law.specs.Notes.{notes_of}
 use Rattle.order_law.specs.Tasks.{Keyed}
 use Rattle.order_law.specs.Events.{beside}
 use Rattle.order_law.specs.Ordered.{IsOrdered}
@@ -131,10 +130,12 @@ module _ (old new : View) (id : ℕ) (task behind : Task) (step : StepsOne old n
           subst (IsChained old.settings.line (logged_tasks new) serial.memory) (sym memory)
           (subst (λ tasks. IsChained old.settings.line tasks serial.memory old.memory) (sym (logged_same log lines)) sound.chained)
 
-      noted : (k : ℕ) (t : Task) → task_at new k ≡ Some t → HasNotes t.lines (notes_of old.settings.line t.log)
-      noted =
-          each_stepped old new id (stepped_task task behind) step.changes (λ k t. HasNotes t.lines (notes_of old.settings.line t.log))
-          (λ k t other at. sound.noted k t at) (subst (λ l. HasNotes l (notes_of old.settings.line behind.log)) (sym lines) (subst (λ l. HasNotes task.lines (notes_of old.settings.line l)) (sym log) (sound.noted id task step.there)))
+      noted : (k : ℕ) (t : Task) → task_at new k ≡ Some t → HasNotes old.settings t.lines t.log
+      noted = each_stepped old new id (stepped_task task behind) step.changes
+          (λ k t. HasNotes old.settings t.lines t.log)
+          (λ k t other at. sound.noted k t at)
+          (subst (λ l. HasNotes old.settings l behind.log) (sym lines)
+          (subst (λ l. HasNotes old.settings task.lines l) (sym log) (sound.noted id task step.there)))
 
   -- each task was there
   pub origin : (k : ℕ) (t : Task) → task_at new k ≡ Some t → HasOrigin old k t

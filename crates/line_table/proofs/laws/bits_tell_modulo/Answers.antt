@@ -1,0 +1,5 @@
+use Rattle.line_table.proofs.Lined as proved
+use Rattle.line_table.proofs.laws.bits_tell_modulo.Goals as goal
+
+pub returns : goal.returns
+returns c = proved.bits_tell_modulo

@@ -1,0 +1,133 @@
+//! The lines of a task, by a filter of one of three kinds.
+
+ghost use Rattle.std.specs.Prelude.{◌≡◌, List, [], ◌∷◌, ◌++◌, ℕ, true, false, IsTrue, ◌↔◌};
+ghost use Rattle.line_table.specs.declared.lines.FilterKind.{FilterKind};
+ghost use Rattle.line_table.specs.declared.lines.FilterKind.TheVariants.{Modulo, Bloom, Exact};
+ghost use Rattle.line_table.specs.Note.{Note};
+ghost use Rattle.line_table.specs.Signature.{meets_of};
+ghost use Rattle.line_table.specs.Lines.{IsLines, unmarked, may_touch, may_write};
+
+use crate::banks::{mark_banks, touched_in_banks, wrote_in_banks};
+use crate::hash::hashes;
+use crate::{Filter, Signature};
+
+/// How a filter tells lines apart.
+#[derive(Clone, Copy, Debug, PartialEq, Eq)]
+pub enum FilterKind {
+    /// By their numbers modulo 1,024.
+    Modulo,
+    /// By eight hashes of their numbers: a Bloom filter of 2,048 bits.
+    Bloom,
+    /// Each from every other, by the log of the task.
+    Exact,
+}
+
+/// Bits for the lines that a task touched, and for those that it wrote. A filter of each kind is kept in them; one
+/// of the kind `Exact` asks the task's log where its bits say yes, and has no memory of its own for that. It has no
+/// model, so that it is `Copy` with no proof.
+#[derive(Clone, Copy)]
+pub struct Lines {
+    /// What kind of filter it is since something was noted.
+    kind: FilterKind,
+    /// How many bytes a line has since something was noted.
+    size: u32,
+    /// The bits of `Modulo` and `Exact`, and the first four banks of `Bloom`.
+    near: Signature,
+    /// The last four banks of `Bloom`.
+    far: Signature,
+}
+
+impl Lines {
+    /// Lines with no notes. It takes no memory.
+    #[tactic(auto, unfolding(crate::specs::Lines::unmarked))]
+    pub const fn new() -> Self
+        ensures { result ≡ unmarked }
+    {
+        Lines {
+            kind: FilterKind::Modulo,
+            size: 0,
+            near: Signature::new(),
+            far: Signature::new(),
+        }
+    }
+
+    /// What kind of filter it is; `Modulo` where nothing was noted.
+    pub fn kind(&self) -> FilterKind
+        ensures { result ≡ self.now.kind }
+    {
+        self.kind
+    }
+
+    /// How many bytes a line has; 0 where nothing was noted.
+    pub fn size(&self) -> u32
+        ensures { result ≡ self.now.size }
+    {
+        self.size
+    }
+
+    /// Notes an access to the line, which is a store if `write` is true, for a filter of this kind and lines of so
+    /// many bytes. Those noted before have to be of the same kind. It takes no memory.
+    pub fn mark(&mut self, kind: FilterKind, size: u32, line: u32, write: bool)
+        ensures { let note : Note = record { line = line; write = write } in
+            (notes : List Note) → IsLines kind size self.old notes → IsLines kind size self.new (notes ++ note ∷ []) }
+    {
+        self.kind = kind;
+        self.size = size;
+        match kind {
+            FilterKind::Modulo => self.near.mark(line, write),
+            FilterKind::Bloom => {
+                let mixed = hashes(line);
+                mark_banks(&mut self.near, (mixed % 4_294_967_296) as u32, write);
+                mark_banks(&mut self.far, (mixed / 4_294_967_296) as u32, write);
+            }
+            FilterKind::Exact => self.near.mark(line, write),
+        }
+    }
+
+    /// Whether the bits say that the line was noted. One of the kind `Exact` may say so of a line that was not.
+    pub fn may_touch(&self, line: u32) -> bool
+        ensures { result ≡ may_touch self.now.kind self.now line }
+    {
+        match self.kind {
+            FilterKind::Modulo => self.near.touched(line),
+            FilterKind::Bloom => {
+                let mixed = hashes(line);
+                touched_in_banks(&self.near, (mixed % 4_294_967_296) as u32)
+                    && touched_in_banks(&self.far, (mixed / 4_294_967_296) as u32)
+            }
+            FilterKind::Exact => self.near.touched(line),
+        }
+    }
+
+    /// Whether the bits say that the line was noted with a write. One of the kind `Exact` may say so of a line that
+    /// was not.
+    pub fn may_write(&self, line: u32) -> bool
+        ensures { result ≡ may_write self.now.kind self.now line }
+    {
+        match self.kind {
+            FilterKind::Modulo => self.near.wrote(line),
+            FilterKind::Bloom => {
+                let mixed = hashes(line);
+                wrote_in_banks(&self.near, (mixed % 4_294_967_296) as u32)
+                    && wrote_in_banks(&self.far, (mixed / 4_294_967_296) as u32)
+            }
+            FilterKind::Exact => self.near.wrote(line),
+        }
+    }
+
+    /// Whether some bit of a write of the first is one of a touch of the later ones: of the kind `Modulo` the bit of
+    /// a line that the first wrote and the later ones touched, by their answers. It compares at most sixteen pairs of
+    /// words.
+    pub fn shares_bit(&self, later: &Self) -> bool
+        ensures { result ≡ meets_of self.now.near later.now.near }
+    {
+        self.near.meets(&later.near)
+    }
+
+    /// Forgets all notes.
+    pub fn clear(&mut self)
+        ensures { self.new ≡ unmarked }
+    {
+        *self = Lines::new();
+    }
+}

@@ -1,0 +1,41 @@
+-- What the filters of the tasks of a sound view tell.
+use Rattle.std.specs.Prelude.{◌≡◌, ◌↔◌, ℕ, true, false, [], Some}
+use Rattle.guest_image.specs.ImageValue.{ImageValue}
+use Rattle.line_table.specs.declared.lines.FilterKind.TheVariants.{Modulo, Exact}
+use Rattle.line_table.specs.Note.{touched_in, wrote_in, Meet}
+use Rattle.memory_law.specs.Notes.{notes_of}
+use Rattle.spec_state.specs.declared.task.Task.{Task}
+use Rattle.spec_state.specs.View.{View, task_at}
+use Rattle.spec_state.specs.Filters.{has_stored, has_touched, has_written}
+use Rattle.spec_law.specs.Sound.{Sound}
+
+-- of a line, what is true of a filter of each kind where these are the notes of its task's log: what was noted is told;
+-- what is told as written is told as touched; where nothing was noted nothing is told
+pub record TellsNoted (task : Task) (size line : ℕ) : Type 0 where
+  pub touched : touched_in (notes_of size task.log) line ≡ true → has_touched task line ≡ true
+  pub written : wrote_in (notes_of size task.log) line ≡ true → has_written task line ≡ true
+  pub both : has_written task line ≡ true → has_touched task line ≡ true
+  pub none : task.log ≡ [] → (has_touched task line ≡ false) × (has_written task line ≡ false)
+
+-- the filter of each task tells of each line what its log has noted
+abbrev pub FiltersTell : Type 0
+FiltersTell =
+    (image : ImageValue) (view : View) (id : ℕ) (task : Task) (line : ℕ) → Sound image view
+    → task_at view id ≡ Some task → TellsNoted task view.settings.line line
+
+-- an exact one tells what its log has noted, and nothing else
+abbrev pub ExactFiltersTell : Type 0
+ExactFiltersTell =
+    (image : ImageValue) (view : View) (id : ℕ) (task : Task) (line : ℕ) → Sound image view
+    → task_at view id ≡ Some task → view.settings.filter ≡ Exact
+    → (has_touched task line ≡ touched_in (notes_of view.settings.line task.log) line)
+    × (has_written task line ≡ wrote_in (notes_of view.settings.line task.log) line)
+
+-- of the kind Modulo a filter tells a line to which a log has a store exactly where it tells one that the other task's
+-- filter tells as written: where the two have a bit in common
+abbrev pub ModuloPullsByBits : Type 0
+ModuloPullsByBits =
+    (image : ImageValue) (view : View) (a b : ℕ) (writer reader : Task) → Sound image view
+    → view.settings.filter ≡ Modulo → task_at view a ≡ Some writer → task_at view b ≡ Some reader
+    → Meet (has_stored view.settings.line writer) (has_touched reader)
+    ↔ Meet (has_written writer) (has_touched reader)
