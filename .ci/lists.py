@@ -1,4 +1,5 @@
-"""Words that stand in lists at several places, held against each other: acts, commands, options, courses and statuses.
+"""Words that stand in lists at several places, held against each other: acts, commands, options, courses, filters and
+statuses.
 
 Of each kind one list decides: of acts the table of tools/yotarimu/common/acts.py, of all others the launcher's. What a
 document, a definition of a crate, a script or a page has of them is read there, and is to be the same.
@@ -15,6 +16,7 @@ from yotarimu.common.places import HOME
 from yotarimu.common.sentences import SENTENCES
 from yotarimu.courses.study import value_text
 from yotarimu.lines.fields import COURSES, EVENTS, PLACES, SETTINGS
+from yotarimu.lines.filters import DIGITS, FILTERS
 from yotarimu.lines.reader import RANGES
 from yotarimu.lines.replay import MADE
 from yotarimu.pictures.lanes import CORNERS
@@ -30,6 +32,7 @@ FORMATS, README, SETTINGS_PAGE = "docs/guest/FORMATS.md", "README.md", "docs/mac
 GRAMMAR, REQUESTS = "crates/step_script/specs/Grammar.antt", "crates/command_line/specs/Requests.antt"
 SETTINGS_SPECS, COURSE_WORDS = "crates/command_line/specs/Settings.antt", "crates/fractal_watch/specs/Words.antt"
 STATUSES, PAGE = "crates/program_call/src/statuses.rt", "tools/yotarimu/web/page/live"
+FILTER_WORDS, HASHES = "crates/watch_text/specs/Fields.antt", "crates/line_table/src/hash.rt"
 DRIVE = "tools/tries/browser/drive.mjs"
 CODES = r'\(codes "([a-z-]+)"\)'
 # Sentences on what was asked for that belong to a request of a step, and to no act.
@@ -88,6 +91,21 @@ def places_of_options() -> Iterator[Place]:
     yield "lines/reader.py", "RANGES", ("workers", *(name.replace("_", "-") for name in RANGES if name in SETTINGS))
 
 
+def places_of_filters() -> Iterator[Place]:
+    """Lists of the kinds of filters."""
+    yield "lines/filters.py", "FILTERS", FILTERS
+    yield COURSE_WORDS, "filter_named", codes_in(COURSE_WORDS, "filter_named word =", "\n\n")
+    words = part_of(FILTER_WORDS, "filter_word Modulo", "\n\n")
+    yield FILTER_WORDS, "filter_word", re.findall('codes "([a-z]+)"', words)
+    yield FORMATS, "the table of filters", first_cells(FORMATS, "| Filter | Tells |")
+
+
+def digits_in_crates() -> list[str]:
+    """The constants of the hashes of lines, each with its place."""
+    digits = re.findall("0x([0-9a-f_]{19}),", part_of(HASHES, "DIGITS: [u64;", "];"))
+    return [f"{place}: {int(text.replace('_', ''), 16):x}" for place, text in enumerate(digits)]
+
+
 def differing(what: str, wanted: Iterable[str], places: Iterable[Place]) -> Iterator[str]:
     """What a list has too little, or too much."""
     right = set(wanted)
@@ -108,10 +126,11 @@ def told_values(option: Option) -> str:
 
 def values_that_differ(table: Table) -> Iterator[str]:
     """Ranges and defaults in documents."""
-    for path, start in ((FORMATS, "| Option | Range | Unless given |"), (SETTINGS_PAGE, "| Option | Range |")):
+    for path, start, options in ((FORMATS, "| Option | Range | Unless given |", table.options),
+                                 (SETTINGS_PAGE, "| Option | Range |", table.course_options)):
         rows = dict(re.findall(r"^\| `--([a-z-]+)`[^|]*\| ([^|]*\|[^|]*?) \|", part_of(path, start, "\n\n"), re.M))
-        yield from differing("an option", table.options, [(path, "the table of options", rows)])
-        for name, option in table.options.items():
+        yield from differing("an option", options, [(path, "the table of options", rows)])
+        for name, option in options.items():
             told = rows.get(name, "").replace(" or ", ", ")
             if told and told != told_values(option):
                 yield f"{path}: --{name} is `{told}`, and `{told_values(option)}` in the launcher's table"
@@ -131,6 +150,9 @@ def lists_that_differ() -> Iterator[str]:
     yield from differing("a command", table.commands, places_of_commands(table))
     yield from differing("an option", table.options, places_of_options())
     yield from values_that_differ(table)
+    yield from differing("a kind of filter", map(str, table.course_options["filter"].values), places_of_filters())
+    yield from differing("a constant of the hashes", (f"{place}: {it:x}" for place, it in enumerate(DIGITS)),
+                         [(HASHES, "DIGITS", digits_in_crates())])
     yield from differing("a course", table.course_rows, [
         ("lines/fields.py", "COURSES", COURSES),
         (COURSE_WORDS, "course_in", codes_in(COURSE_WORDS, "course_in (word", "\n\n")),

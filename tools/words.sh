@@ -42,9 +42,34 @@ fault_of_words() {
     fault_of_further "$@"
 }
 
-# The same of words behind `watch`.
+# The same of words behind `watch`. An option of `watch` alone may stand anywhere among them; it is put behind them.
 fault_of_watch() {
-    line=watch
+    count=$# apart='' waiting='' given=' '
+    while [ $count -gt 0 ]; do
+        word=$1 count=$((count - 1))
+        shift
+        if [ -n "$waiting" ]; then
+            fault_of_text "$waiting" "$word" && return
+            apart="$apart --$waiting $word" waiting=''
+        elif is_apart "$word"; then
+            waiting=${word#--}
+            fault_of_second "$waiting" && return
+            given="$given$waiting "
+        else
+            set -- "$@" "$word"
+        fi
+    done
+    if [ -n "$waiting" ]; then
+        fault_of_missing "$waiting"
+        return
+    fi
+    # shellcheck disable=SC2086 # values of such options are words of the table
+    fault_of_parts "$@" $apart
+}
+
+# The same where such options stand last.
+fault_of_parts() {
+    line=watch command=${1-}
     case $command in
         memory)
             line="$line memory" command=${2-}
@@ -56,6 +81,7 @@ fault_of_watch() {
             shift 2
             ;;
     esac
+    if is_apart "$command"; then command=''; fi
     row course "$command" || { fault_of_course && return; }
     line="$line $command"
     shift
@@ -74,6 +100,14 @@ fault_of_watch() {
     fault_of_further "$@"
 }
 
+# Whether a word is the name of an option of `watch` alone.
+is_apart() {
+    case $1 in
+        --?*) row course-option "${1#--}" ;;
+        *) return 1 ;;
+    esac
+}
+
 # The same of options and of what stands between them.
 fault_of_further() {
     given=' ' waiting='' kind='' count=0
@@ -87,7 +121,7 @@ fault_of_further() {
             --?*)
                 name=${word#--}
                 name=${name%%=*}
-                fault_of_name "$name" && return
+                fault_of_name "$name" "$word" && return
                 given="$given$name "
                 case $word in
                     *=*) fault_of_value "$name" "${word#*=}" && return ;;
@@ -102,8 +136,7 @@ fault_of_further() {
         esac
     done
     if [ -n "$waiting" ]; then
-        values_of option "$waiting"
-        put "a value is missing after \`--$waiting\`, which takes $(told_values "$values")."
+        fault_of_missing "$waiting"
     elif [ "$command" = load ]; then
         [ $count -eq 3 ] || put "\`load\` takes KIND SEED SIZE, as in: $(quoted "$0") load walk 7 100"
     elif [ $count -gt 0 ]; then
@@ -138,20 +171,50 @@ fault_of_number() {
     put "behind \`$2\` stands a number from $(told_values "$values")${3:+, and not $(shown "$3")}."
 }
 
+# The name of an option, and the whole word that it stands in.
 fault_of_name() {
-    case $given in
-        *" $1 "*) put "\`--$1\` stands twice." && return ;;
-    esac
+    fault_of_second "$1" && return
+    if [ "$rows_of" = course ] && row course-option "$1"; then
+        fault_of_equals "$1" "$2"
+        return
+    fi
     option_row "$1" && return 1
     kinds=option
     [ "$rows_of" != course ] || kinds='\(course-\)\{0,1\}option'
     if [ "$1" = version ]; then
         put "\`--version\` stands alone: $(quoted "$0") --version"
     elif row course-option "$1"; then
-        put "\`--$1\` belongs to ./fractal watch, and not to \`$command\`."
+        takes=$(told_values "${found%%|*}")
+        put "\`--$1\`, which takes $takes, belongs to ./fractal watch, and not to \`$command\`."
     else
         put "$(shown "--$1") is no option, which is --$(names_of "$kinds" | sed 's/, /, --/g; s/ or / or --/')."
     fi
+}
+
+# An option that stands twice; of one of `watch` alone it is told what it takes.
+fault_of_second() {
+    case $given in
+        *" $1 "*) ;;
+        *) return 1 ;;
+    esac
+    takes=''
+    if row course-option "$1"; then takes=", and takes one of $(told_values "${found%%|*}")"; fi
+    put "\`--$1\` stands twice$takes."
+}
+
+# An option of `watch` alone has no value in its own word.
+fault_of_equals() {
+    case $2 in
+        *=*) ;;
+        *) return 1 ;;
+    esac
+    values_of option "$1"
+    put "\`--$1\` takes $(told_values "$values") as a word of its own, and none behind \`=\`."
+}
+
+fault_of_missing() {
+    values_of option "$1"
+    put "a value is missing after \`--$1\`, which takes $(told_values "$values")."
 }
 
 # The text of an option as a word of its own.

@@ -8,10 +8,15 @@ from typing import Any, Optional
 
 from yotarimu.images.image import DATA
 from yotarimu.lines.causes import Kind, Sharing, CauseSentences, causes_of
+from yotarimu.lines.filters import FilterKind, LineRule
 from yotarimu.lines.replay import Access, TakenTask
 from yotarimu.lines.times import UNDISPATCHED, root
 
 LINE = 16
+RULE = LineRule(LINE)
+BLOOM, EXACT = (LineRule(LINE, kind) for kind in (FilterKind.BLOOM, FilterKind.EXACT))
+# Of this line the loads below have all bits in a filter of the kind `bloom`, though none is of it.
+JOINT = 2_201 * LINE
 # As far behind an address another line has the same bit of a filter.
 ALIAS = 1_024 * LINE
 
@@ -44,10 +49,15 @@ def event(members: list[TakenTask], asker: Any = None, access: Optional[Access] 
     return types.SimpleNamespace(line={"do": "step", **line}, taken=members, task=asker, access=access)
 
 
-def told_of(told: Any) -> Any:
+def told_of(told: Any, rule: LineRule = RULE) -> Any:
     """Of each task its kind, what its way shares, the task behind it, and the task at its root."""
     return [(it.task.name, it.kind, it.sharing, it.by.name if it.by else None, it.root.task.name)
-            for it in causes_of(told, LINE)]
+            for it in causes_of(told, rule)]
+
+
+def many_loads() -> list[Access]:
+    """Loads of the lines 0, 7, 14 and so on up to 1,393."""
+    return [load(7 * place * LINE) for place in range(200)]
 
 
 class Causes(unittest.TestCase):
@@ -105,21 +115,45 @@ class Causes(unittest.TestCase):
         told = event([member(two, 3, 2, load(64)), member(one, 2, 1, store(64))], task("a"), asks="end")
         self.assertEqual(told_of(told), [("1", Kind.ROOM, Sharing.TRUE, "a", "1"),
                                          ("2", Kind.TOUCHED, Sharing.TRUE, "1", "1")])
-        self.assertEqual({it.event for it in causes_of(told, LINE)}, {"commit queue"})
+        self.assertEqual({it.event for it in causes_of(told, RULE)}, {"commit queue"})
 
     def test_a_script_may_ask_for_it(self) -> None:
         told = event([member(task("1"), 2, 1)], task("1"), do="abort")
         self.assertEqual(told_of(told), [("1", Kind.ABORT, Sharing.TRUE, None, "1")])
 
+    def test_other_filters_have_no_bit_for_two_lines(self) -> None:
+        told = event([member(task("1"), 2, 1, load(0), load(ALIAS)), member(task("2"), 3, 2, load(4))], task("w"),
+                     store(ALIAS))
+        for rule in (BLOOM, EXACT):
+            # The second stands for what no program tells: it shares nothing with the store.
+            self.assertEqual([it[1:3] for it in told_of(told, rule)],
+                             [(Kind.ACCESS, Sharing.TRUE), (Kind.ACCESS, Sharing.ALIAS)])
+            self.assertEqual([it.meeting is None for it in causes_of(told, rule)], [False, True])
+
+    def test_bits_of_several_lines_tell_another_one(self) -> None:
+        told = event([member(task("1"), 2, 1, *many_loads())], task("w"), store(JOINT))
+        found, = causes_of(told, BLOOM)
+        assert found.meeting is not None
+        self.assertEqual((found.kind, found.sharing, found.meeting.own, found.meeting.other.address),
+                         (Kind.ACCESS, Sharing.ALIAS, None, DATA + JOINT))
+        self.assertIsNone(causes_of(told, EXACT)[0].meeting)
+        # A load meets stores alone, and of these there are none.
+        self.assertIsNone(causes_of(event(told.taken, task("r"), load(JOINT)), BLOOM)[0].meeting)
+
+    def test_bits_of_several_lines_tell_what_a_member_wrote(self) -> None:
+        first = member(task("1"), 2, 1, load(5_000 * LINE), store(JOINT))
+        told = event([first, member(task("2"), 3, 2, *many_loads())], task("w"), store(5_000 * LINE))
+        self.assertEqual(told_of(told, BLOOM)[1], ("2", Kind.TOUCHED, Sharing.ALIAS, "1", "1"))
+
 
 class SentencesTest(unittest.TestCase):
     """The sentences on causes."""
     def setUp(self) -> None:
-        self.sentences = CauseSentences(lambda it: str(it.name), LINE)
+        self.sentences = CauseSentences(lambda it: str(it.name), RULE)
 
-    def sentences_of(self, told: Any) -> list[str]:
+    def sentences_of(self, told: Any, rule: LineRule = RULE) -> list[str]:
         """The sentence on each cause of a line."""
-        return [self.sentences.sentence(cause) for cause in causes_of(told, LINE)]
+        return [self.sentences.sentence(cause) for cause in causes_of(told, rule)]
 
     def test_sentences(self) -> None:
         one = task("0.0")
@@ -136,6 +170,12 @@ class SentencesTest(unittest.TestCase):
         self.assertEqual(self.sentences_of(told), [
             "it stored 1 to 10004000, and 0.1 loads at 10000000; they share a bit of the filter and no byte, since it "
             "has one for the lines 1,024 and 0"])
+
+    def test_bits_of_several_lines_are_told_with_the_line(self) -> None:
+        told = event([member(task("0.0"), 2, 1, *many_loads())], task("0.1"), store(JOINT))
+        self.assertEqual(self.sentences_of(told, BLOOM), [
+            "its filter tells the line 2,201, and 0.1 stores at 10008990; each bit of that line is one of a line that "
+            "it noted, and they share no byte"])
 
     def test_room_is_told_with_who_needs_it(self) -> None:
         cases: tuple[tuple[Any, str], ...] = (

@@ -3,15 +3,19 @@ from __future__ import annotations
 
 import csv
 import io
+import itertools
 import json
 import pathlib
 
+from tests.conflict_model import conflicts_held
+from yotarimu.lines.filters import FILTERS
+from yotarimu.lines.reader import Reader
 from yotarimu.programs.examples import SCHEDULES
 
-from tries.place import Place, expect, one_sentence_each
+from tries.place import Failure, Place, expect, one_sentence_each
 
 # Of schedules: the event, the task, what took it, what they share, and the word of the root, as their pages tell them.
-TAKEN_BACK = {
+TAKEN_BACK: dict[str, list[tuple[str, ...]]] = {
     "conflict": [("6", "0.0", "access", "true", "store"), ("6", "0.0+0", "child", "", "store")],
     "by_hand": [("6", "0.0", "access", "true", "store"), ("6", "0.0+0", "child", "", "store")],
     "commit_queue": [("4", "0.1", "room", "", "commit queue")],
@@ -19,6 +23,10 @@ TAKEN_BACK = {
     "two_lines": [("4", "0.0", "access", "alias", "store")],
     "two_lines_apart": [],
 }
+# By a filter that tells the lines 1,024 and 0 apart.
+BY_OTHER_FILTERS: dict[str, list[tuple[str, ...]]] = {**TAKEN_BACK, "two_lines": []}
+# A walk whose lines of 4 bytes are more than a row has bits.
+WALK, IN_ROUNDS = ("walk", "7", "1000"), ("lockstep", "40", "3", "--tiles", "16", "--line", "4")
 
 
 def paths(place: Place, name: str) -> tuple[str, str]:
@@ -44,19 +52,47 @@ def causes_are_explained(place: Place) -> None:
 
 
 def causes_of_schedules_are_those_of_their_pages(place: Place) -> None:
-    """each schedule takes back what its page says, for the reason that it says"""
+    """each schedule takes back what its page says, for the reason that it says, by a filter of each kind"""
     place.needs_second_program()
-    for name in SCHEDULES:
+    for kind, name in itertools.product(FILTERS, SCHEDULES):
         folder = place.clone / "examples" / name
-        if folder.name not in TAKEN_BACK:
+        wanted = (TAKEN_BACK if kind == "modulo" else BY_OTHER_FILTERS).get(folder.name)
+        if wanted is None:
             continue
-        data = (folder / "image.bin").read_bytes() + (folder / "script").read_bytes()
         lines = place.root / "lines"
-        lines.write_bytes(place.call("fractal watch", *(folder / "words").read_text().split(), stdin=data).output)
+        lines.write_bytes(lines_of(place, folder, kind))
         answer = place.call("fractal explain", str(folder / "image.bin"), str(lines), "--csv")
         rows = [tuple(row[it] for it in ("event", "task", "kind", "shares", "root"))
                 for row in csv.DictReader(io.StringIO(answer.output.decode()))]
-        expect(rows == TAKEN_BACK[folder.name], f"what {folder.name} takes back", answer)
+        expect(rows == wanted, f"what {folder.name} takes back by the filter {kind}", answer)
+
+
+def lines_of(place: Place, folder: pathlib.Path, kind: str) -> bytes:
+    """What the second program tells of a schedule by a filter of a kind."""
+    data = (folder / "image.bin").read_bytes() + (folder / "script").read_bytes()
+    return place.call("fractal watch", *(folder / "words").read_text().split(), "--filter", kind, stdin=data).output
+
+
+def filters_take_back_what_the_model_tells(place: Place) -> None:
+    """by a filter of each kind exactly those tasks are taken back that the model of filters tells, on each schedule and
+    on a walk in rounds"""
+    place.needs_second_program()
+    walk = place.call("fractal generate", *WALK).output
+    taking = {}
+    for kind in FILTERS:
+        for name in SCHEDULES:
+            hold_conflicts(lines_of(place, place.clone / "examples" / name, kind), f"{name} by the filter {kind}")
+        told = place.call("fractal watch", *IN_ROUNDS, "--filter", kind, stdin=walk).output
+        taking[kind] = hold_conflicts(told, f"the walk by the filter {kind}")
+    expect(taking["exact"] < taking["modulo"], "fewer events that take tasks back by an exact filter", taking)
+
+
+def hold_conflicts(lines: bytes, what: str) -> int:
+    """Holds lines against the model; how many events took tasks back."""
+    try:
+        return conflicts_held(Reader(io.BytesIO(lines), "the second program"))
+    except AssertionError as differing:
+        raise Failure(f"{what}: {differing}") from None
 
 
 def odd_lines_are_not_explained(place: Place) -> None:
@@ -74,4 +110,5 @@ def odd_lines_are_not_explained(place: Place) -> None:
     ])
 
 
-TRIES = (causes_are_explained, causes_of_schedules_are_those_of_their_pages, odd_lines_are_not_explained)
+TRIES = (causes_are_explained, causes_of_schedules_are_those_of_their_pages, filters_take_back_what_the_model_tells,
+         odd_lines_are_not_explained)

@@ -260,7 +260,8 @@ def odd_sources_are_told(place: Place) -> None:
 
 
 def lists_are_held(place: Place) -> None:
-    """an act, an option, a command, a course or a status that one list has and another hasn't fails the lint"""
+    """an act, an option, a command, a course, a filter or a status that one list has and another hasn't fails the
+    lint"""
     for path, old, new, told in (
             ("docs/guest/FORMATS.md", "| `coalesce t` |", "| `coalesced t` |", "has no `coalesce`, which is an act"),
             ("docs/guest/FORMATS.md", "| `--quantum` (plain instructions of a leg) | 1 to 1,024 |",
@@ -269,6 +270,10 @@ def lists_are_held(place: Place) -> None:
             ("fractal", "command|trace|", "command|traces|", "SHOWN has `trace`, which isn't a command"),
             ("fractal", "course|least|", "course|last|", "COURSES has `least`, which isn't a course"),
             ("fractal", "status|13|", "status|14|", "has `13`, which isn't a status"),
+            ("fractal", "modulo,bloom,exact", "modulo,blooms,exact",
+             "FILTERS has `bloom`, which isn't a kind of filter"),
+            ("tools/yotarimu/lines/filters.json", "13198a2e03707344", "13198a2e03707345",
+             "DIGITS has no `1: 13198a2e03707345`"),
             ("tools/yotarimu/web/page/live.js", "coalesce: 1", "coalesce: 2", "actWords has no `coalesce: 1`"),
             ("tools/yotarimu/lines/fields.py", '"split": (("tile", NUMBER),), "advance"',
              '"parted": (("tile", NUMBER),), "advance"', "PLACES has no `split`, which is an act"),

@@ -6,8 +6,10 @@ from typing import Any, Dict, List, Optional, Sequence, Tuple
 
 DATA = 0x10000000
 HEAD = {"watch": 1, "course": "steps", "tiles": 2, "cores": 2, "task_queue": 256, "commit_queue": 64, "line": 16,
-        "quantum": 64, "commits": 1_000_000, "budget": 65_536, "phase": 1_000_000, "root": "ordered", "text": 20,
-        "data": 32_768, "window": [0, 0], "tasks": 1}
+        "quantum": 64, "commits": 1_000_000, "budget": 65_536, "phase": 1_000_000, "filter": "modulo",
+        "root": "ordered", "text": 20, "data": 32_768, "window": [0, 0], "tasks": 1}
+# Where the line 2,201 stands, where lines have 16 bytes.
+JOINT = 2_201 * 16
 
 
 class Words:
@@ -98,3 +100,21 @@ class LinesText:
     def text(self) -> bytes:
         """The text so far."""
         return b"".join(json.dumps(line, separators=(",", ":")).encode() + b"\n" for line in self.lines)
+
+
+def joint_lines(kind: str) -> bytes:
+    """Lines on three tasks, the last of which loads 200 lines, whose bits are also those of the line 2,201 in a filter
+    of the kind `bloom`. The second stores there and is taken back; then the first stores there."""
+    told = LinesText([1, 5, 6], [0, 1, 1], filter=kind, data=65_536)
+    for number, (task, tile, core) in enumerate(((0, 0, 0), (1, 1, 0), (2, 1, 1))):
+        told.dispatch(task, tile, core, number)
+    told.load(1, 1, 0, 0, 3_000 * 16)
+    told.store(1, 1, 0, 0, JOINT)
+    for place in range(200):
+        told.load(2, 1, 1, 0, 7 * place * 16)
+    told.store(0, 0, 0, 0, 3_000 * 16, [[2, 200], [1, 2]])
+    told.dispatch(2, 1, 1, 3)
+    for place in range(200):
+        told.load(2, 1, 1, 0, 7 * place * 16)
+    told.store(0, 0, 0, 0, JOINT, [[2, 200]])
+    return told.end()

@@ -286,7 +286,7 @@ def endless_choices_are_rows(place: Place) -> None:
     answer.sentence("no run came to an end")
     expect(b"none in 250 rounds" in answer.output, "the row", answer)
     program = str(place.second_program)
-    text = f"case $* in *tiles=2*) cat >/dev/null; exit 5 ;; esac; exec '{program}' \"$@\"\n"
+    text = f"case $* in *'--tiles 2'*) cat >/dev/null; exit 5 ;; esac; exec '{program}' \"$@\"\n"
     stub = place.stub(place.root / "stub", text)
     answer = place.call("fractal study", image, "--tiles", "16,2,8", "--program", str(stub))
     ends = [line.split(" | ")[-1] for line in answer.output.decode().splitlines()[2:]]

@@ -107,7 +107,7 @@ def ended_studies_keep_their_rows(place: Place) -> None:
     place.needs_second_program()
     image = walk_of(place, "60")
     mark = place.root / "slow"
-    program = place.stub(place.root / "program", f"case $* in *tiles=4*) touch '{mark}'; exec sleep 100 ;; esac\n"
+    program = place.stub(place.root / "program", f"case $* in *'--tiles 4'*) touch '{mark}'; exec sleep 100 ;; esac\n"
                                                  f"exec '{place.second_program}' \"$@\"\n")
     # One at a time, so that two rows are known once the third choice is played.
     words = ("fractal study", image, "--tiles", "1,2,4", "--csv", "rows.csv", "--program", str(program))

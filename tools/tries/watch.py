@@ -44,7 +44,16 @@ REFUSED = (
     ("watch lockstep 5 7 image.bin --tiles 2", "fractal' watch lockstep 5 7 --tiles 2 < image.bin"),
     ("watch steps both", "cat IMAGE SCRIPT | ", "fractal' watch steps"),
     ("watch least --tiles 17", "`17`", "1 to 16"),
-    ("watch least --towers 1", "`--towers`"),
+    ("watch least --towers 1", "`--towers`", "--phase or --filter"),
+    ("watch least --filter", "a value is missing after `--filter`, which takes modulo, bloom, exact."),
+    ("watch least --filter --tiles 2", "a value is missing after `--filter`, which takes modulo", "`--tiles`"),
+    ("watch least --filter blooms", "`blooms` is no value of `--filter`, which takes modulo, bloom, exact."),
+    ("watch least --filter modulo,exact", "`modulo,exact`", "which takes modulo, bloom, exact."),
+    ("watch least --filter=bloom", "`--filter` takes modulo, bloom, exact as a word of its own"),
+    ("watch --filter exact lockstep 5 7 --filter bloom", "`--filter` stands twice", "modulo, bloom, exact"),
+    ("watch --filter exact", "behind `watch` stands steps, least or lockstep; "),
+    ("watch lockstep 5 --filter exact x", "behind `watch lockstep 5` stands a number", "`x`"),
+    ("watch --filter exact steps both", "cat IMAGE SCRIPT | ", "fractal' watch steps --filter exact"),
 )
 RANDOM_CALLS = 4_000
 # Where the window's offset and its words stand in an image.
@@ -139,7 +148,7 @@ def watch_hands_on(place: Place) -> None:
     """words behind `watch` go to the second program as they are, and output and status are its own"""
     place.stub(place.second_program, 'for word in "$@"; do echo "[$word]"; done\nexit 4\n')
     for leading in (["views", "2"], ["memory"]):
-        words = [*leading, "lockstep", "5", "7", "--tiles=3"]
+        words = [*leading, "lockstep", "5", "--filter", "bloom", "7", "--tiles=3"]
         answer = place.call("fractal", "watch", *words)
         expect(answer == Answer(4, "".join(f"[{word}]\n" for word in words).encode(), ""), "the words", answer)
 
@@ -176,7 +185,11 @@ def random_call(chance: random.Random, table: Table) -> list[str]:
         words += [number(chance, 1, 1_000_000), number(chance, 0, 2 ** 32 - 1)]
         words += ["barren", number(chance, 1, 1_000_000)] if chance.random() < 0.3 else []
     for option in chance.sample(list(table.course_options.values()), chance.choice((0, 0, 1, 2))):
-        words += [f"--{option.name}", some_value(chance, option)]
+        pair = chance.choice(([f"--{option.name}", some_value(chance, option)],
+                              [f"--{option.name}={some_value(chance, option)}"]))
+        # One of `watch` alone may stand anywhere.
+        place = len(words) if option.name in table.options else chance.randrange(len(words) + 1)
+        words[place:place] = pair
     for _ in range(chance.choice((0, 0, 1, 2))):
         change(chance, words, table)
     return [word for word in words if word != "--help"]
@@ -194,12 +207,13 @@ def options_of_watch_alone_may_be_words(place: Place) -> None:
     place.stub(place.program, "printf 'fault usage\\n'; exit 1\n")
     place.stub(place.second_program, 'echo "$@" >>"$(dirname "$0")/words"; echo \'{"fault":"usage"}\'; exit 1\n')
     one_sentence_each([
-        (place.call("fractal", "run", "--taste", "salt"), ["`--taste` belongs to ./fractal watch, and not to `run`"]),
+        (place.call("fractal", "run", "--taste", "salt"), ["`--taste`, which takes sweet, sour, salt, belongs to "]),
         (place.call("fractal", "watch", "least", "--taste", "bitter"), ["`bitter`", "sweet, sour, salt"]),
-        (place.call("fractal", "watch", "least", "--taste=sweet,sour"), ["`sweet,sour`", "sweet, sour, salt"]),
+        (place.call("fractal", "watch", "least", "--taste", "sweet,sour"), ["`sweet,sour`", "sweet, sour, salt"]),
+        (place.call("fractal", "watch", "least", "--taste=salt"), ["sweet, sour, salt as a word of its own"]),
         (place.call("fractal", "watch", "least", "--taste", ""), ["sweet, sour, salt"]),
         (place.call("fractal", "watch", "least", "--taste"), ["a value is missing", "sweet, sour, salt"]),
-        (place.call("fractal", "watch", "least", "--tastes", "salt"), ["--phase or --taste"]),
+        (place.call("fractal", "watch", "least", "--tastes", "salt"), ["--phase, --filter or --taste"]),
         (place.call("fractal play", "x", "--taste", "salt"), ["`--taste` isn't known"]),
     ])
     image = str(place.clone / "examples" / "hello" / "image.bin")
@@ -209,7 +223,7 @@ def options_of_watch_alone_may_be_words(place: Place) -> None:
     place.call("fractal console", image, "--taste", "salt")
     place.call("fractal study", image, "--taste", "salt,sweet")
     words = (place.second_program.parent / "words").read_text()
-    expect("steps --taste=salt\n" in words, "the option handed on by the console", words)
+    expect("steps --taste salt\n" in words, "the option handed on by the console", words)
     completed = place.call("fractal shell", "bash").output.decode()
     expect("--taste) words='sweet sour salt' ;;" in completed, "the words as completions", completed)
     for kind in ("zsh", "man"):

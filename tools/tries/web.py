@@ -18,24 +18,27 @@ from yotarimu.images.description import describe
 from yotarimu.images.image import DATA, image_bytes
 from yotarimu.images.listing import NO_LISTING, Listing, read_listing
 from yotarimu.images.source import assemble, source_at, sources_in
+from yotarimu.lines.filters import FILTERS
 from yotarimu.lines.orders import order_told, task_told
 from yotarimu.lines.reader import open_lines
 from yotarimu.lines.replay import Machine
 from yotarimu.lines.sentences import end_told, label_of, opening_told, sentence_of
 from yotarimu.programs.examples import EXAMPLES, SCHEDULES, words_of
 from yotarimu.programs.program import SECOND_PROGRAM
-from yotarimu.web.bundle import constant, source, table_at
+from yotarimu.web.bundle import TABLES, constant, source, table_at
 from yotarimu.web.comparison import Call, engine, stored_calls
 from yotarimu.web.modules import (
     COMMAND, PAGE, PROGRAMS, Modules, command_text, commit_path, module_path, modules, page_text)
 from yotarimu.web.wasm_tables import HEADER, number, number_at
 
 from tries.launcher import STUB_BUILD
+from tries.lines_text import joint_lines
 from tries.place import Omission, Place, expect, need_built, one_sentence_each
 
 BROWSER_FOLDER = pathlib.Path(__file__).with_name("browser")
 # What the harnesses for Node are made of, in front of each.
-READER = ("texts.js", "machine.js", "labels.js", "orders.js", "lines.js", "images.js", "causes.js", "sentences.js")
+READER = ("texts.js", "machine.js", "labels.js", "orders.js", "lines.js", "images.js", "filters.js", "causes.js",
+          "sentences.js")
 ASSEMBLER = ("host.js", "texts.js", "machine.js", "labels.js", "images.js", "assembler.js", "sections.js", "sources.js")
 CASES = "40"
 # Behind each so many acts so many tasks are compared.
@@ -173,9 +176,26 @@ def with_most_memory(module: bytes, pages: int) -> bytes:
 def web_sentences(place: Place) -> None:
     """the page's reader of lines tells each act, and the machine behind them, as the tools do"""
     need_built(SECOND_PROGRAM)
-    with Harness(place, "sentences", READER, constant("sentences", table_at("common/sentences.json"))) as harness:
+    with Harness(place, "sentences", READER, tables_of("sentences", "filterTable")) as harness:
         for name, words in courses():
             hold_told(harness, name, words)
+
+
+def web_causes(place: Place) -> None:
+    """the page says as the tools do why a filter of each kind took tasks back, by one access or by several together"""
+    with Harness(place, "sentences", READER, tables_of("sentences", "filterTable")) as harness:
+        for kind in FILTERS:
+            text = joint_lines(kind)
+            told, *_ = told_by_tools(text, NO_LISTING)
+            seen = harness.ask(text=text.decode(), listing="", between=BETWEEN, most=MOST_COMPARED)
+            expect(seen["told"] == told, f"the same sentences by the filter {kind}", (told, seen["told"]))
+            joint = sum("its filter tells the line 2,201" in sentence for sentence in told)
+            expect(joint == (2 if kind == "bloom" else 0), f"the bits of several lines by the filter {kind}", told)
+
+
+def tables_of(*names: str) -> str:
+    """Tables of the page, as constants of a script."""
+    return "".join(constant(name, table_at(TABLES[name])) for name in names)
 
 
 def courses() -> Iterator[Tuple[str, List[str]]]:
@@ -330,5 +350,5 @@ def web_page_in_firefox(place: Place) -> None:
     drive_page(place, "firefox", "firefox-esr")
 
 
-TRIES = (web_words, web_wants_a_toolchain, web_holds, web_command, web_memory, web_sentences, web_sources, web_forms,
-         web_page, web_page_in_firefox)
+TRIES = (web_words, web_wants_a_toolchain, web_holds, web_command, web_memory, web_sentences, web_causes, web_sources,
+         web_forms, web_page, web_page_in_firefox)

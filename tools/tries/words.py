@@ -16,10 +16,10 @@ from tries.place import Answer, Place, expect, one_sentence_each
 
 USAGE = b"fault usage\n"
 # An option whose values are words, as a row of the launcher's table, and what is told of it.
-OF_WORDS = "option|filter|signature,exact|signature|which filter a task keeps"
-TOLD_OF_WORDS = {"help": "--filter       which filter a task keeps (signature, exact; signature unless given)",
-                 "shell bash": "--filter) words='signature exact'", "shell zsh": ":(signature exact)'",
-                 "shell man": "which filter a task keeps (one of signature, exact; signature unless given)"}
+OF_WORDS = "option|flavour|sweet,salt|sweet|how a task tastes"
+TOLD_OF_WORDS = {"help": "--flavour      how a task tastes (sweet, salt; sweet unless given)",
+                 "shell bash": "--flavour) words='sweet salt'", "shell zsh": ":(sweet salt)'",
+                 "shell man": "how a task tastes (one of sweet, salt; sweet unless given)"}
 # Words that are refused, and what standard error tells of each.
 REFUSED = (
     ("rum", "`rum` is no command", "run, check"),
@@ -33,6 +33,8 @@ REFUSED = (
     ("run --tiles -2", "missing", "`-2` begins with a dash"),
     ("run --tiles 2 --tiles=2", "`--tiles` stands twice"),
     ("run --tile 2", "`--tile` is no option", "--tiles"),
+    ("run --filter bloom", "`--filter`, which takes modulo, bloom, exact,", "./fractal watch, and not to `run`"),
+    ("load walk 7 20 --filter", "`--filter`", "modulo, bloom, exact", "not to `load`"),
     ("run --", "`--`"),
     ("run -t 2", "`-t`", "two dashes"),
     ("run image.bin", "standard input", "fractal' run < image.bin"),
@@ -177,17 +179,17 @@ def options_of_words_are_known(place: Place) -> None:
         expect(answer.status == 0 and told in answer.output.decode(), f"`{told}`", answer)
     for program in (place.program, place.second_program):
         place.stub(program, "cat >/dev/null; exit 5\n")
-    one_sentence_each([(place.call(f"fractal {tool}", image, *words, "--filter", "no"),
-                        ["--filter takes one of signature, exact, and not `no`"])
+    one_sentence_each([(place.call(f"fractal {tool}", image, *words, "--flavour", "no"),
+                        ["--flavour takes one of sweet, salt, and not `no`"])
                        for tool, *words in (["sweep"], ["study"], ["console"], ["resume", "pieces", "--every", "1"])])
-    answer = place.call("fractal sweep", image, "--filter", "exact,signature")
+    answer = place.call("fractal sweep", image, "--flavour", "salt,sweet")
     expect(answer.status == 1 and answer.output.count(b",5,") == 2, "a run of each word", answer)
     for program in (place.program, place.second_program):
         program.unlink()
     place.without("rt")
     chance, option = random.Random(1), option_in(*OF_WORDS.split("|")[1:])
     for value in [some_value(chance, option) for _ in range(20)]:
-        answer = place.call("fractal", "run", "--filter", value)
+        answer = place.call("fractal", "run", "--flavour", value)
         expect(answer.status == (69 if value in option.values else 1), f"a judgement of `{value}`", answer)
 
 

@@ -202,6 +202,12 @@ const TRIES = {
       expect((await driver.see()).call.includes("lockstep 200 1"), "rounds", await driver.see());
       const settings = await driver.page.run("at('settings').textContent");
       expect(settings.includes("count those too that nothing asked for"), "how acts are numbered", settings);
+      await driver.choose("option-filter", "bloom");
+      expect((await driver.see()).call.includes("--filter bloom"), "the filter handed on", await driver.see());
+      const filter = await driver.page.run("at('settings').textContent");
+      expect(filter.includes("filters of the kind bloom"), "the filter named", filter);
+      await driver.click("#make-report");
+      expect((await driver.see()).message.includes("has filter modulo alone"), "no report", await driver.see());
     });
   },
 

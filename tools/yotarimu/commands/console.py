@@ -3,8 +3,9 @@
 usage: ./fractal console IMAGE [--script FILE] [--OPTION VALUE]...
 
 IMAGE may be a folder that has an image.bin; then the options that its file words has hold too. --script begins with the
-acts of a script; the further options are the program's. A listing beside the image gives labels to addresses. Each line
-of the input is an act of a script, in the words of docs/guest/FORMATS.md, or one of these. `#` begins a comment.
+acts of a script; the further options are the second program's. A listing beside the image gives labels to addresses.
+Each line of the input is an act of a script, in the words of docs/guest/FORMATS.md, or one of these. `#` begins a
+comment.
 
   undo [N]     takes the last N acts back; 1 unless given
   run N        does N acts `advance`, each the event for the least task, or fewer where the run ends

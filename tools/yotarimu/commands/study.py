@@ -5,9 +5,10 @@ usage: ./fractal study IMAGE... [--OPTION VALUES]... [WORDS]
        ./fractal study --join CSV... [--csv FILE] [--plot COLUMN,OPTION,FILE] [--log AXES]
        ./fractal study --page PAGE [--write]
 
-OPTION is one of the program's, as `./fractal help` lists them. VALUES are numbers with commas between, or FROM..TO, or
-FROM..TO..STEP; the table has a line for each image and each choice of one value an option, which comes as soon as it is
-known, in the order of the choices. Each is played by `./fractal watch lockstep`. Further words:
+OPTION is one of the second program's, as `./fractal help watch` lists them. VALUES are numbers with commas between, or
+FROM..TO, or FROM..TO..STEP; of --filter they are words with commas between. The table has a line for each image and
+each choice of one value an option, which comes as soon as it is known, in the order of the choices. Each is played by
+`./fractal watch lockstep`. Further words:
 
   --seed N                   the acts of a round are shuffled by this seed; 0 unless told, which shuffles nothing
   --rounds N                 so many rounds at most; 1,000,000 unless told

@@ -20,6 +20,7 @@ from yotarimu.images.listing import NO_LISTING
 from yotarimu.lines.orders import order_told, task_of_label, task_told
 from yotarimu.lines.replay import Machine, Task
 from yotarimu.pictures.page import page_of
+from yotarimu.programs.table import option_words
 from yotarimu.reports.refusals import script_fault
 
 NAME = "console"
@@ -143,9 +144,15 @@ class Console:
         need_outputs([path], [self.schedule.path])
         write_whole({path: "".join(f"{act}\n" for act in self.acts).encode()})
         self.is_saved, self.name = True, name_of(pathlib.Path(path))
-        options = "".join(f" --{name} {value}" for name, value in self.schedule.options.items())
-        write([f"{path} has {count_text(len(self.acts), 'act')}; this plays them:",
-               f"./fractal play {shlex.quote(path)} --image {shlex.quote(str(self.schedule.path))}{options}"])
+        write([f"{path} has {count_text(len(self.acts), 'act')}; this plays them:", self.call_told(path)])
+
+    def call_told(self, path: str) -> str:
+        """The words that play a script; an option of `watch` alone wants the second program."""
+        script, image = shlex.quote(path), shlex.quote(str(self.schedule.path))
+        options = "".join(f" {word}" for word in option_words(self.schedule.options))
+        if self.schedule.is_of_both:
+            return f"./fractal play {script} --image {image}{options}"
+        return f"cat {image} {script} | ./fractal watch steps{options}"
 
     def open(self, words: Sequence[str]) -> None:
         """Writes a page of the run, and opens it in a browser."""

@@ -18,7 +18,7 @@ from yotarimu.lines.reader import Reader
 from yotarimu.lines.replay import Machine, ToldLine
 from yotarimu.lines.sentences import end_told, name_told, opening_told, sentence_of
 from yotarimu.programs.launcher import launch, why_no_answer
-from yotarimu.programs.table import Table, size_of
+from yotarimu.programs.table import Table, option_words, size_of
 
 # The statuses of a script that was played.
 PLAYED = (0, 3, 4)
@@ -31,6 +31,8 @@ class Schedule:
 
     def __init__(self, path: pathlib.Path, options: Options, table: Table) -> None:
         self.path, self.options = path, options
+        # Whether the first program plays it too.
+        self.is_of_both = all(name in table.options for name in options)
         self.data = read_bytes(path)
         self.image = read_image(self.data, path)
         self.listing, self.remark = listing_for(path, self.image, None)
@@ -38,7 +40,7 @@ class Schedule:
 
     def lines_of(self, acts: Sequence[str]) -> bytes:
         """What the second program tells of these acts."""
-        words = ["watch", "steps", *(f"--{name}={value}" for name, value in self.options.items())]
+        words = ["watch", "steps", *option_words(self.options)]
         script = "".join(f"{act}\n" for act in acts).encode()
         status, written, said = launch(words, self.data + script, subprocess.PIPE)
         if status not in PLAYED:

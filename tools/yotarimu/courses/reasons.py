@@ -12,6 +12,7 @@ from yotarimu.courses.exercise_texts import MOST_SHOWN, TEXTS, hold
 from yotarimu.courses.growth import Schedule
 from yotarimu.courses.scripts import acts_in, options_beside, read_lines
 from yotarimu.lines.causes import Cause, Kind, Sharing, causes_of
+from yotarimu.lines.filters import rule_of
 from yotarimu.lines.reader import Reader
 from yotarimu.lines.sentences import label_of
 from yotarimu.programs.table import Table
@@ -38,7 +39,7 @@ def reasons_in(folder: pathlib.Path) -> list[Reason]:
     lines = Schedule(folder / "image.bin", options, table).lines_of([act.text for act in acts])
     reader = Reader(io.BytesIO(lines), "the second program")
     return [reason_of(cause, told.line["at"]) for told in reader if told.taken
-            for cause in causes_of(told, reader.head["line"])]
+            for cause in causes_of(told, rule_of(reader.head))]
 
 
 def reason_of(cause: Cause, act: int) -> Reason:

@@ -18,7 +18,7 @@ from yotarimu.figures.columns import COLUMNS, END, Row, heads
 from yotarimu.figures.run import Figures, figures_of
 from yotarimu.lines.reader import Reader
 from yotarimu.programs.calls import Calls
-from yotarimu.programs.table import Value
+from yotarimu.programs.table import Value, option_words
 
 # The statuses of a run that was told to its end.
 TOLD = (0, 3, 4)
@@ -55,8 +55,7 @@ class Study:
     def row(self, choice: Choice, tell: Tell) -> Row:
         """What comes of a choice. How many rounds were played is told now and then."""
         words = ["lockstep", str(self.rounds), str(self.seed)]
-        options = [f"--{option}={value}" for option, value in choice.options.items()]
-        status, figures = self.calls.read([*words, *options], self.images[choice.image],
+        status, figures = self.calls.read([*words, *option_words(choice.options)], self.images[choice.image],
                                           functools.partial(self.figures, tell=tell))
         if status not in TOLD:
             return Row(f"none: status {status}")

@@ -12,6 +12,7 @@ from yotarimu.debugger.attempts import Attempt
 from yotarimu.debugger.track import MOST_STEPS, Memory, Position, Stretch
 from yotarimu.images.image import DATA, Image
 from yotarimu.lines.causes import causes_of
+from yotarimu.lines.filters import rule_of
 from yotarimu.lines.legs import Core
 from yotarimu.lines.reader import open_lines
 from yotarimu.lines.replay import Access, Task, ToldLine
@@ -128,7 +129,7 @@ class LegNotes:
     def take_back(self, told: ToldLine, here: Position, gone: Position) -> None:
         """Undoes the stores of tasks, whose attempts are gone from a position on."""
         self.undo(access for taken in told.taken for access in taken.accesses)
-        for cause in causes_of(told, self.head["line"]):
+        for cause in causes_of(told, rule_of(self.head)):
             attempt = self.running.pop(cause.task, None)
             if attempt is not None:
                 attempt.gone, attempt.cause, attempt.event = gone, cause, told.line["n"]

@@ -19,6 +19,7 @@ from yotarimu.images import serial_machine as machine
 from yotarimu.images.image import Image
 from yotarimu.images.listing import Listing
 from yotarimu.lines.causes import Kind, CauseSentences
+from yotarimu.lines.filters import rule_of
 from yotarimu.lines.replay import Task
 from yotarimu.lines.sentences import label_of
 from yotarimu.reports.meanings import cause_told
@@ -43,7 +44,7 @@ class LinesTrack(Track):
         self.of_name: dict[str, list[Attempt]] = {}
         for attempt in self.attempts:
             self.of_name.setdefault(label_of(attempt.task), []).append(attempt)
-        self.sentences = CauseSentences(self.task_told, self.notes.head["line"], listing)
+        self.sentences = CauseSentences(self.task_told, rule_of(self.notes.head), listing)
         # The runs of attempts, as far as they were followed last.
         self.cores: dict[int, AttemptCore] = {}
         self.go_to(Position(0, 0))
@@ -239,7 +240,8 @@ class LinesTrack(Track):
     def stale(self) -> list[str]:
         """all attempts that were taken back since they loaded what an earlier task stores later"""
         found = [it for it in self.attempts if it.cause is not None and it.cause.kind is Kind.ACCESS
-                 and it.cause.meeting is not None and not it.cause.meeting.own.is_store]
+                 and it.cause.meeting is not None and it.cause.meeting.own is not None
+                 and not it.cause.meeting.own.is_store]
         rows = [f"{self.name_of(it.number)} {self.end_told(it)}" for it in found]
         return first_rows(rows[:MOST_TOLD], "stale", 0, len(rows)) or ["nothing was taken back for what it loaded"]
 

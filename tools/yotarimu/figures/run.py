@@ -18,6 +18,7 @@ from yotarimu.figures.taken_tasks import TakenCounts
 from yotarimu.figures.tasks import TaskFigures
 from yotarimu.images.image import Image
 from yotarimu.lines.reader import Reader, open_lines
+from yotarimu.lines.filters import rule_of
 from yotarimu.lines.replay import NOT_EXECUTED, Machine, Task, ToldLine
 
 # How far a run was read is told once in so many lines.
@@ -31,7 +32,7 @@ class Figures:
     def __init__(self, head: dict[str, Any]) -> None:
         self.head, self.end, self.text_lines = head, "", 0
         self.executed = self.useful = self.left = self.refused = 0
-        self.taken_back = TakenCounts(head["line"])
+        self.taken_back = TakenCounts(rule_of(head))
         self.replies: collections.Counter[tuple[str, str]] = collections.Counter()
         self.commits = self.events = self.acts = self.spills = 0
         self.is_in_rounds = head["course"] == "lockstep"

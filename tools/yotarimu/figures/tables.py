@@ -30,6 +30,7 @@ def share(count: int, whole: int) -> str:
 
 
 ROWS: tuple[tuple[str, Callable[[Figures], str]], ...] = (
+    ("Filter", lambda it: it.taken_back.rule.kind.value),
     ("Instructions executed", lambda it: count_cell(it.executed)),
     ("of these useful", lambda it: share(it.useful, it.executed)),
     ("wasted", lambda it: share(it.taken_back.all_wasted(), it.executed)),
@@ -193,6 +194,7 @@ def plain_rows(runs: Runs) -> Iterator[Sequence[object]]:
 def plain_counts(it: Figures) -> Plain:
     """Rows of what is counted in a run once."""
     rounds = it.rounds()
+    yield "filter", "", it.taken_back.rule.kind.value
     yield from (("instructions", "executed", it.executed), ("instructions", "useful", it.useful),
                 ("instructions", "wasted", it.taken_back.all_wasted()), ("instructions", "left", it.left),
                 ("instructions", "refused", it.refused), ("commits", "", it.commits), ("events", "", it.events),

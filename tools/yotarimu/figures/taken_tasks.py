@@ -5,10 +5,11 @@ import collections
 import enum
 from typing import TYPE_CHECKING
 
-from yotarimu.lines.causes import ROOTS, Kind, Sharing, causes_of, line_of
+from yotarimu.lines.causes import ROOTS, Kind, Sharing, causes_of
 
 if TYPE_CHECKING:
     from yotarimu.lines.causes import Cause
+    from yotarimu.lines.filters import LineRule
     from yotarimu.lines.replay import ToldLine
 
 
@@ -66,8 +67,8 @@ def root_of(cause: Cause) -> Root:
 class TakenCounts:
     """The counts of a run: tasks by event, edge and root, how many of them are gone, and the work of all."""
 
-    def __init__(self, line: int) -> None:
-        self.line = line
+    def __init__(self, rule: LineRule) -> None:
+        self.rule = rule
         self.tasks, self.discarded, self.wasted = (collections.Counter[str]() for _ in range(3))
         self.causes: collections.Counter[tuple[Edge, Root]] = collections.Counter()
         self.wasted_by_root: collections.Counter[Root] = collections.Counter()
@@ -78,7 +79,7 @@ class TakenCounts:
 
     def note(self, told: ToldLine) -> None:
         """Takes an event that took tasks back."""
-        for cause in causes_of(told, self.line):
+        for cause in causes_of(told, self.rule):
             work, root = cause.taken.work, root_of(cause)
             self.tasks[cause.event] += 1
             self.discarded[cause.event] += cause.taken.is_gone
@@ -87,7 +88,7 @@ class TakenCounts:
             self.wasted_by_root[root] += work
             self.by_machine += cause.is_false
         if told.access is not None:
-            self.lines[line_of(told.access, self.line)] += len(told.taken)
+            self.lines[self.rule.line_of(told.access)] += len(told.taken)
             self.addresses[told.access.address] += len(told.taken)
 
     def all(self) -> int:

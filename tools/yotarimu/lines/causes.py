@@ -6,8 +6,10 @@ they are its children, or touched what it wrote. So each has a cause of its own,
 at the event: the root.
 
 Accesses meet where they share a byte, or only the line, or only the bit that a filter has for both lines. Filters tell
-no more than bits, so they take tasks back for each of these. Of several ways the one counts whose widest step shares
-the most: a task of which a way by bytes and children tells would have been taken back by any filter and any line.
+no more than bits, so they take tasks back for each of these. One of the kind `bloom` may also tell a line by bits of
+several others together; then the task has no one access that meets it. Of several ways the one counts whose widest
+step shares the most: a task of which a way by bytes and children tells would have been taken back by any filter and any
+line.
 
 The lines are enough for it: `causes_of` takes what the reader found of an event.
 """
@@ -15,15 +17,19 @@ from __future__ import annotations
 
 import dataclasses
 import enum
-from typing import Callable, Iterable, Iterator, Optional
+from typing import Callable, Iterable, Iterator, Optional, Union
 
-from yotarimu.images.image import DATA
+from yotarimu.common.sentences import SENTENCES, fill
 from yotarimu.images.listing import NO_LISTING, Listing
+from yotarimu.lines.filters import Bits, FilterKind, LineRule
 from yotarimu.lines.replay import Access, TakenTask, Task, ToldLine
 from yotarimu.lines.times import Time
 
-# A task's filter has so many bits for lines.
-FILTER_BITS = 1_024
+TEXTS = SENTENCES["taken causes"]
+
+
+# A byte, a line, or the bits of one.
+Place = Union[int, Bits]
 
 
 class Sharing(enum.IntEnum):
@@ -59,8 +65,9 @@ ROOM_TOLD = {
 
 @dataclasses.dataclass(frozen=True)
 class Meeting:
-    """An access of a task that was taken back, the access that it meets, and what both share."""
-    own: Access
+    """An access of a task that was taken back, the access that it meets, and what both share. The first is None where
+    the bits of several accesses together are those of the other's line."""
+    own: Optional[Access]
     other: Access
     sharing: Sharing
 
@@ -102,9 +109,9 @@ def root_word(told: ToldLine) -> str:
     return ROOTS[told.line.get("asks", told.line["do"])]
 
 
-def causes_of(told: ToldLine, line_size: int) -> list[Cause]:
+def causes_of(told: ToldLine, rule: LineRule) -> list[Cause]:
     """The cause of each task that an event took back, the least task first."""
-    found = Cascade(told, line_size)
+    found = Cascade(told, rule)
     return [found.take(taken) for taken in sorted(told.taken, key=time_of)]
 
 
@@ -117,10 +124,10 @@ class Cascade:
     """The causes found so far of one event. Members come in the order of their times, since each goes with a lesser
     one; of each byte, line and bit that members wrote the best store is kept."""
 
-    def __init__(self, told: ToldLine, line_size: int) -> None:
-        self.told, self.line_size, self.event = told, line_size, root_word(told)
+    def __init__(self, told: ToldLine, rule: LineRule) -> None:
+        self.told, self.rule, self.event = told, rule, root_word(told)
         self.causes: dict[int, Cause] = {}
-        self.written: tuple[dict[int, tuple[Cause, Access]], ...] = ({}, {}, {})
+        self.written: tuple[dict[Place, tuple[Cause, Access]], ...] = ({}, {}, {})
 
     def take(self, taken: TakenTask) -> Cause:
         """Finds the cause of the next member."""
@@ -134,7 +141,7 @@ class Cascade:
     def ways(self, taken: TakenTask) -> list[Cause]:
         """All that takes a member back, first of all what the event itself does."""
         ways = [way for way in (self.by_event(taken), self.by_creator(taken), self.by_touch(taken)) if way]
-        # Of a filter of another kind no line tells which bits it has in common.
+        # Lines that tell of no way, as no program writes them, leave it to a filter.
         kind = Kind.ACCESS if self.told.access else Kind.TOUCHED
         return ways or [Cause(taken, kind, self.told.task, None, Sharing.ALIAS, None, self.event)]
 
@@ -142,6 +149,8 @@ class Cascade:
         """Why a task goes by the event itself: it met its access, or room was needed, or a script asked."""
         if self.told.access is not None:
             meeting = self.meeting_with(taken.accesses, self.told.access)
+            if meeting is None and self.is_told_jointly(taken, self.told.access):
+                meeting = Meeting(None, self.told.access, Sharing.ALIAS)
             by = self.told.task
             if meeting is None:
                 return None
@@ -158,7 +167,7 @@ class Cascade:
         best: Optional[Meeting] = None
         for own in accesses:
             if own.is_store or other.is_store:
-                sharing = sharing_of(own, other, self.line_size)
+                sharing = sharing_of(own, other, self.rule)
                 if sharing is Sharing.TRUE:
                     return Meeting(own, other, sharing)
                 if sharing is not None and (best is None or sharing < best.sharing):
@@ -184,7 +193,23 @@ class Cascade:
                         best = Cause(taken, Kind.TOUCHED, before.task, meeting, widest, before, self.event)
             if best is not None and best.sharing is Sharing.TRUE:
                 break
-        return best
+        return best or self.by_joint_touch(taken)
+
+    def by_joint_touch(self, taken: TakenTask) -> Optional[Cause]:
+        """Its filter tells a line that another member wrote by bits of several lines together: the first such store."""
+        if self.rule.kind is not FilterKind.BLOOM:
+            return None
+        told = self.rule.filter_of(taken.accesses)
+        for before, other in self.written[Sharing.LINE].values():
+            if told.has_touched(self.rule.line_of(other)):
+                meeting = Meeting(None, other, Sharing.ALIAS)
+                return Cause(taken, Kind.TOUCHED, before.task, meeting, Sharing.ALIAS, before, self.event)
+        return None
+
+    def is_told_jointly(self, taken: TakenTask, other: Access) -> bool:
+        """Whether the filter of a task tells the line of an access by bits of several lines together."""
+        return self.rule.kind is FilterKind.BLOOM and self.rule.filter_of(taken.accesses).meets(
+            self.rule.line_of(other), other.is_store)
 
     def keep(self, cause: Cause, access: Access) -> None:
         """Keeps what a member wrote, by the way there that shares the most."""
@@ -194,27 +219,22 @@ class Cascade:
                 if place not in kept or cause.sharing < kept[place][0].sharing:
                     kept[place] = cause, access
 
-    def places(self, access: Access) -> Iterator[tuple[Sharing, Iterable[int]]]:
-        """The bytes, the line and the bit of an access."""
-        line = line_of(access, self.line_size)
+    def places(self, access: Access) -> Iterator[tuple[Sharing, Iterable[Place]]]:
+        """The bytes, the line and the bits of an access."""
+        line = self.rule.line_of(access)
         yield Sharing.TRUE, range(access.address, access.address + access.bytes)
         yield Sharing.LINE, (line,)
-        yield Sharing.ALIAS, (line % FILTER_BITS,)
+        yield Sharing.ALIAS, (self.rule.kind.bits(line),)
 
 
-def line_of(access: Access, line_size: int) -> int:
-    """The line of the data that an access is in."""
-    return (access.address - DATA) // line_size
-
-
-def sharing_of(one: Access, other: Access, line_size: int) -> Optional[Sharing]:
-    """What two accesses share; None where it isn't even a bit."""
+def sharing_of(one: Access, other: Access, rule: LineRule) -> Optional[Sharing]:
+    """What two accesses share; None where it isn't even the bits of their lines."""
     if one.address < other.address + other.bytes and other.address < one.address + one.bytes:
         return Sharing.TRUE
-    distance = line_of(one, line_size) - line_of(other, line_size)
-    if distance == 0:
+    line, met = rule.line_of(one), rule.line_of(other)
+    if line == met:
         return Sharing.LINE
-    return Sharing.ALIAS if distance % FILTER_BITS == 0 else None
+    return Sharing.ALIAS if rule.kind.bits(line) == rule.kind.bits(met) else None
 
 
 # ---- in words
@@ -223,8 +243,8 @@ def sharing_of(one: Access, other: Access, line_size: int) -> Optional[Sharing]:
 class CauseSentences:
     """How causes are said: by the names of tasks, the labels and source lines of a listing, and the bytes of a line."""
 
-    def __init__(self, named: Callable[[Task], str], line_size: int, listing: Listing = NO_LISTING) -> None:
-        self.named, self.line_size, self.listing = named, line_size, listing
+    def __init__(self, named: Callable[[Task], str], rule: LineRule, listing: Listing = NO_LISTING) -> None:
+        self.named, self.rule, self.listing = named, rule, listing
 
     def sentence(self, cause: Cause) -> str:
         """Why a task was taken back, as what is said of it behind its name."""
@@ -247,7 +267,12 @@ class CauseSentences:
             did = f"{by} {'stores' if other.is_store else 'loads'} {place}{self.spot(other)}"
         else:
             did = f"{by}, which was taken back, had stored {place}{self.spot(other)}"
-        return f"{self.did(own)}, and {did}{self.sharing_told(meeting)}"
+        done = self.did(own) if own is not None else fill(TEXTS["joint"], line=self.line_told(other))
+        return f"{done}, and {did}{self.sharing_told(meeting)}"
+
+    def line_told(self, access: Access) -> str:
+        """The line that an access is in, by its number."""
+        return f"{self.rule.line_of(access):,}"
 
     def did(self, own: Access) -> str:
         """What a task did by an access of its own."""
@@ -260,8 +285,10 @@ class CauseSentences:
         if meeting.sharing is Sharing.TRUE:
             return ""
         if meeting.sharing is Sharing.LINE:
-            return f"; they share the line of {self.line_size} bytes and no byte"
-        lines = " and ".join(f"{line_of(access, self.line_size):,}" for access in (meeting.own, meeting.other))
+            return f"; they share the line of {self.rule.size} bytes and no byte"
+        if meeting.own is None:
+            return str(TEXTS["joint bits"])
+        lines = " and ".join(map(self.line_told, (meeting.own, meeting.other)))
         return f"; they share a bit of the filter and no byte, since it has one for the lines {lines}"
 
     def spot(self, access: Access) -> str:

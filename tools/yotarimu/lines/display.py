@@ -8,6 +8,7 @@ from yotarimu.common.text import count_text, printable
 from yotarimu.images.image import DATA
 from yotarimu.images.listing import Listing
 from yotarimu.lines.fields import Line
+from yotarimu.lines.filters import LineRule, rule_of
 from yotarimu.lines.orders import domain_told
 from yotarimu.lines.replay import TRAPPED, Machine, Task, ToldLine
 from yotarimu.lines.sentences import label_of, list_text
@@ -30,7 +31,7 @@ class Display:
         head = self.machine.head
         for tile in range(head["tiles"]):
             yield from self.tile_lines(tile, head)
-        yield from self.word_lines(head["line"])
+        yield from self.word_lines(rule_of(head))
         yield from self.journal_lines()
 
     # ---- a tile
@@ -81,18 +82,20 @@ class Display:
 
     # ---- what all tiles share
 
-    def word_lines(self, size: int) -> Iterator[str]:
-        """The words of memory that were touched, those nearest to the last access."""
+    def word_lines(self, rule: LineRule) -> Iterator[str]:
+        """The words of memory that were touched, those nearest to the last access, and by which lines conflicts are
+        found."""
         words = self.machine.memory.words()
         if not words:
             yield "memory: no word was touched"
             return
         touched = self.told.access.address & ~3 if self.told and self.told.access else None
-        yield "memory, the words that were touched"
+        yield (f"memory, the words that were touched; lines of {rule.size} bytes, filters of the kind "
+               f"{rule.kind.value}")
         for address, word in nearest(words, touched):
             label = self.listing.label(address)
             mark = ">" if address == touched else " "
-            line = (address - DATA) // size
+            line = (address - DATA) // rule.size
             yield f"    {mark}  {address:08x}  {word:>10}  {word:08x}  line {line}{f'  {label}' if label else ''}"
         if len(words) > MOST_WORDS:
             yield f"       and {len(words) - MOST_WORDS:,} more"

@@ -9,6 +9,7 @@ import json
 from typing import Any, Callable, Optional
 
 from yotarimu.common.acts import ACTS, ENDED
+from yotarimu.lines.filters import FILTERS
 
 # Acts that are events; the others are told under their own word where no event was handed in.
 EVENTS = tuple(word for word, kind in ACTS.items() if kind.is_event)
@@ -125,10 +126,11 @@ FAULT: Fields = (
 
 
 def head_fields(line: Line) -> Fields:
-    """The fields of the first line."""
+    """The fields of the first line. It had no filter before one could be chosen."""
     rounds = (("rounds", NUMBER), ("seed", NUMBER), ("barren", NUMBER)) if line.get("course") == "lockstep" else ()
     return (("watch", NUMBER), ("course", one_of(*COURSES)), *rounds, *((name, NUMBER) for name in SETTINGS),
-            ("root", one_of(*KINDS)), ("text", NUMBER), ("data", NUMBER), ("window", PAIR), ("tasks", NUMBER))
+            ("filter?", one_of(*FILTERS)), ("root", one_of(*KINDS)), ("text", NUMBER), ("data", NUMBER),
+            ("window", PAIR), ("tasks", NUMBER))
 
 
 def end_fields(line: Line) -> Fields:

@@ -15,6 +15,7 @@ from yotarimu.images.image import DATA, Limits
 from yotarimu.images.listing import NO_LISTING, Listing
 from yotarimu.lines.causes import Cause, CauseSentences, causes_of
 from yotarimu.lines.fields import Line
+from yotarimu.lines.filters import rule_of
 from yotarimu.lines.replay import Machine, Task, ToldLine
 from yotarimu.reports.meanings import ENDS, cause_told
 
@@ -213,8 +214,8 @@ def back_told(told: ToldLine, machine: Machine, listing: Listing) -> str:
     count = len(told.taken)
     if not count:
         return ""
-    line_size = machine.head["line"]
-    sentences, causes = CauseSentences(label_of, line_size, listing), causes_of(told, line_size)
+    rule = rule_of(machine.head)
+    sentences, causes = CauseSentences(label_of, rule, listing), causes_of(told, rule)
     more = fill(SENTENCES["taken"]["more"], count=f"{count - MOST_NAMED:,}") if count > MOST_NAMED else ""
     return fill(SENTENCES["back"], tasks=count_text(count, "task"), are=is_or_are(count), more=more,
                 list="".join(taken_told(cause, sentences) for cause in causes[:MOST_NAMED]))

@@ -9,6 +9,7 @@ from typing import Any, Dict, Iterator, List, TextIO
 from yotarimu.images.image import Image
 from yotarimu.images.listing import Listing
 from yotarimu.lines.causes import Cause, Kind, CauseSentences, causes_of
+from yotarimu.lines.filters import rule_of
 from yotarimu.lines.reader import open_lines
 from yotarimu.lines.sentences import label_of
 
@@ -53,11 +54,11 @@ class Run:
 def taken_rows(path: str, image: Image, listing: Listing, run: Run) -> Iterator[TakenRow]:
     """The rows of all tasks that a text of lines takes back, in its order; the run is told how it ended."""
     with open_lines(path, image=image) as watched:
-        line_size = watched.head["line"]
-        sentences = CauseSentences(label_of, line_size, listing)
+        rule = rule_of(watched.head)
+        sentences = CauseSentences(label_of, rule, listing)
         for told in watched:
             if told.taken:
-                for cause in causes_of(told, line_size):
+                for cause in causes_of(told, rule):
                     yield row_of(cause, told.line["n"], sentences)
         run.end = watched.end or {}
 

@@ -115,6 +115,11 @@ def size_of(name: str, options: Mapping[str, Value], table: Table) -> int:
     return int(options.get(name, table.options[name].default))
 
 
+def option_words(options: Mapping[str, Value]) -> list[str]:
+    """Options as words of a call, each value as a word of its own: those of `watch` alone stand in no other way."""
+    return [word for name, value in options.items() for word in (f"--{name}", str(value))]
+
+
 def values_in(text: str) -> Sequence[int]:
     """The values that a row of the table allows: `1..64`, or `4,8,16`."""
     least, dots, most = text.partition("..")

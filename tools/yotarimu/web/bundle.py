@@ -53,10 +53,11 @@ def sources(names: Sequence[str]) -> List[str]:
 
 # The sources of the page, in the order in which they name each other.
 SHARED = ("texts.js", "machine.js", "labels.js", "orders.js", "items.js", "view.js")
-LIVE = ("lines.js", "images.js", "assembler.js", "sections.js", "sources.js", "causes.js", "sentences.js",
+LIVE = ("lines.js", "images.js", "assembler.js", "sections.js", "sources.js", "filters.js", "causes.js", "sentences.js",
         "machines.js", "fields.js", "live.js", "exports.js", "story.js", "exercises.js", "start.js")
-# What sentences are made of, for the tools too.
-TABLES = {"sentences": "common/sentences.json", "exercises": "courses/exercises.json", "story": "web/story.json"}
+# What sentences are made of, and filters, for the tools too.
+TABLES = {"sentences": "common/sentences.json", "exercises": "courses/exercises.json", "story": "web/story.json",
+          "filterTable": "lines/filters.json"}
 
 
 def table_at(path: str) -> Any:

@@ -1,8 +1,7 @@
 // ---- why tasks were taken back: of each one what took it, and what that goes back to, as `lines/causes.py` has it
 
-// What two accesses share, the narrowest first: a byte, a line, or only the bit that a filter has for both lines.
+// What two accesses share, the narrowest first: a byte, a line, or only the bits that a filter has for both lines.
 const [SAME_BYTE, SAME_LINE, SAME_BIT] = [0, 1, 2];
-const FILTER_BITS = 1024;
 // The word for what takes tasks back, by what a task asks for or by the event; those of ROOMS want room.
 const ROOTS = {load: "load", store: "store", end: "commit queue", enqueue: "task queue", split: "task queue",
   dispatch: "core", abort: "abort"};
@@ -10,8 +9,8 @@ const ROOMS = ["commit queue", "task queue", "core"];
 
 /** The causes of an event, by the machine before it. Members come in the order of their times. */
 class Cascade {
-  constructor(line, before, lineBytes) {
-    Object.assign(this, {before, lineBytes, event: ROOTS[line.asks ?? line.do], access: accessIn(line),
+  constructor(line, before, head) {
+    Object.assign(this, {before, rule: new LineRule(head), event: ROOTS[line.asks ?? line.do], access: accessIn(line),
       by: line.task ?? null, gone: new Set(line.gone), causes: new Map()});
     this.written = [new Map(), new Map(), new Map()];
     this.members = line.back.map(([id, work]) => (
@@ -35,7 +34,7 @@ class Cascade {
   /** What the event itself does. */
   byEvent(member) {
     if (this.access) {
-      const meeting = this.met(member.accesses, this.access);
+      const meeting = this.met(member.accesses, this.access) ?? this.jointly(member.accesses, this.access);
       return meeting && {member, kind: "access", by: this.by, meeting, sharing: meeting.sharing};
     }
     if (this.causes.size) return null;
@@ -53,6 +52,12 @@ class Cascade {
       if (sharing === SAME_BYTE) break;
     }
     return best;
+  }
+
+  /** What meets an access where bits of several lines together are those of its line. A load meets stores alone. */
+  jointly(accesses, other) {
+    const noted = accesses.filter(({isStore}) => isStore || other.isStore);
+    return this.rule.tells(noted)(other) ? {own: null, other, sharing: SAME_BIT} : null;
   }
 
   byCreator(member) {
@@ -73,7 +78,16 @@ class Cascade {
       }
       if (best?.sharing === SAME_BYTE) break;
     }
-    return best;
+    return best ?? this.byJointTouch(member);
+  }
+
+  /** Its filter tells a line that another member wrote by bits of several lines together: the first such store. */
+  byJointTouch(member) {
+    const isTold = this.rule.tells(member.accesses);
+    const found = [...this.written[SAME_LINE].values()].find(([, other]) => isTold(other));
+    if (!found) return null;
+    const [before, other] = found, meeting = {own: null, other, sharing: SAME_BIT};
+    return {member, kind: "touched", by: before.member.task.id, meeting, sharing: SAME_BIT};
   }
 
   keep(cause, access) {
@@ -85,21 +99,19 @@ class Cascade {
     }
   }
 
-  /** The bytes, the line and the bit of an access. */
-  places({address, bytes}) {
-    const line = this.lineOf(address);
+  /** The bytes, the line and the bits of an access. */
+  places(access) {
+    const {address, bytes} = access, line = this.rule.lineOf(access);
     return [[SAME_BYTE, Array.from({length: bytes}, (_, byte) => address + byte)], [SAME_LINE, [line]],
-      [SAME_BIT, [line % FILTER_BITS]]];
+      [SAME_BIT, [this.rule.bitsWord(line)]]];
   }
 
-  lineOf(address) { return Math.floor((address - DATA_START) / this.lineBytes); }
-
-  /** What two accesses share; null where it isn't even a bit. */
+  /** What two accesses share; null where it isn't even the bits of their lines. */
   shared(one, other) {
     if (one.address < other.address + other.bytes && other.address < one.address + one.bytes) return SAME_BYTE;
-    const distance = this.lineOf(one.address) - this.lineOf(other.address);
-    if (distance === 0) return SAME_LINE;
-    return distance % FILTER_BITS === 0 ? SAME_BIT : null;
+    const [line, met] = [one, other].map((access) => this.rule.lineOf(access));
+    if (line === met) return SAME_LINE;
+    return this.rule.bitsWord(line) === this.rule.bitsWord(met) ? SAME_BIT : null;
   }
 }
 
@@ -123,7 +135,8 @@ class CauseSayer {
     const met = other.isStore ? "met by store" : "met by load";
     const place = sharing === SAME_BYTE ? texts.there
       : filled(texts.elsewhere, {place: this.labels.labelled(other.address)});
-    return filled(texts[cause.kind === "access" ? met : "touched"], {own: this.did(own), by: this.behind(cause), place,
+    const done = own ? this.did(own) : filled(texts.joint, {line: this.lineTold(other)});
+    return filled(texts[cause.kind === "access" ? met : "touched"], {own: done, by: this.behind(cause), place,
       spot: this.spot(other), sharing: this.sharing(cause.meeting)});
   }
 
@@ -134,10 +147,13 @@ class CauseSayer {
 
   sharing({own, other, sharing}) {
     if (sharing === SAME_BYTE) return "";
-    if (sharing === SAME_LINE) return filled(this.texts.line, {bytes: this.cascade.lineBytes});
-    const [one, two] = [own, other].map(({address}) => grouped(this.cascade.lineOf(address)));
+    if (sharing === SAME_LINE) return filled(this.texts.line, {bytes: this.cascade.rule.size});
+    if (!own) return this.texts["joint bits"];
+    const [one, two] = [own, other].map((access) => this.lineTold(access));
     return filled(this.texts.alias, {one, other: two});
   }
+
+  lineTold(access) { return grouped(this.cascade.rule.lineOf(access)); }
 
   /** Where in the source an access stands, if that is known. */
   spot({pc}) {

@@ -43,6 +43,8 @@ const write = (file, text) => writeAll(file, new TextEncoder().encode(text));
 
 function helpPage() {
   const rows = (kind, told) => table.filter(([it]) => it === kind).map(told);
+  const option = ([, name, values, usual, bounds]) => (
+    row(`--${name}`, `${bounds} (${values.replace("..", " to ").replaceAll(",", ", ")}; ${usual})`));
   const row = (left, right) => `  ${left.padEnd(22)} ${right}`;
   return [
     "Simulates a machine that runs tasks ahead of their turn and commits them in order. An image comes from standard",
@@ -51,9 +53,8 @@ function helpPage() {
     "Commands:", ...rows("command", ([, name, words, , does]) => row(`${name} ${words}`.trim(), does)), "",
     "Courses of watch:", ...rows("course", ([, name, words, , does]) => row(`${name} ${words}`.trim(), does)), "",
     "Options:",
-    ...rows("option", ([, name, values, usual,
-                        bounds]) => row(`--${name}`, `${bounds} (${values.replace("..", " to ")}; ${usual})`)),
-    "",
+    ...rows("option", option), "",
+    "Options of watch alone:", ...rows("course-option", option), "",
     "Statuses:", ...rows("status", ([, number, says, advice]) => row(number, says + (advice ? ` (${advice})` : ""))), ""
   ].join("\n");
 }

@@ -133,7 +133,7 @@ async function reasonsOf({image, words, script}) {
   const taking = run.course.acts.map((line, place) => ({line, place})).filter(({line}) => line.back);
   return taking.flatMap(({line, place}) => {
     const before = run.course.at(place), named = (id) => before.label(before.tasks.get(id));
-    return new Cascade(line, before, run.head.line).all().map(({member, kind, by, meeting}) => (
+    return new Cascade(line, before, run.head).all().map(({member, kind, by, meeting}) => (
       [`${line.at}`, before.label(member.task), kind === "access" ? SHARED[meeting?.sharing ?? 2] : REASONS[kind],
         by === null ? "-" : named(by)]));
   });

@@ -7,10 +7,15 @@ const MOST_ADDRESS = 30000;
 
 /** The words and the input of a report of what is shown. */
 function reportCall() {
-  const {kind} = courseNow();
-  if (kind === "least") return [["run", ...optionWords()], subject.image];
+  const {kind} = courseNow(), options = optionsNow(), words = optionWords(options, ofBoth);
+  if (kind === "least") return [["run", ...words], subject.image];
+  const other = optionRows.find((row) => !ofBoth.includes(row) && options[row[1]] !== row[3]);
+  if (other) {
+    throw new Refusal(`The first program makes the report, and has ${other[1]} ${other[3]} alone; choose that, or `
+      + "the least task's acts.");
+  }
   const acts = kind === "steps" ? script : actsSoFar();
-  return [["steps", ...optionWords()], withBehind(subject.image, scriptText(acts))];
+  return [["steps", ...words], withBehind(subject.image, scriptText(acts))];
 }
 
 /** A report alone: what `steps` writes before it are the replies. */

@@ -5,7 +5,9 @@ const MOST_INPUT = 67108864, MOST_AT_ONCE = 10000, MOST_IN_ROUNDS = 200000;
 const PATIENCE = 300;
 // The status of a call whose output wasn't taken whole.
 const UNWRITTEN = 7;
-const optionRows = table.filter(([kind, name]) => kind === "option" && name !== "workers");
+// Those of both programs, and behind them those of the second program alone.
+const ofBoth = table.filter(([kind, name]) => kind === "option" && name !== "workers");
+const optionRows = [...ofBoth, ...table.filter(([kind]) => kind === "course-option")];
 const actWords = {dispatch: 1, step: 2, take: 2, give: 2, abort: 1, commit: 0, coalesce: 1, split: 1, advance: 0};
 // Replies to what nothing asked for, in rounds.
 const NOT_ASKED_FOR = ["empty", "busy", "stale", "ended"];
@@ -69,8 +71,8 @@ function setOptions(options) {
 }
 
 /** The words for options that aren't as usual. */
-function optionWords(options = optionsNow()) {
-  return optionRows.filter(([, name, , usual]) => options[name] !== undefined && options[name] !== usual)
+function optionWords(options = optionsNow(), rows = optionRows) {
+  return rows.filter(([, name, , usual]) => options[name] !== undefined && options[name] !== usual)
     .flatMap(([, name]) => [`--${name}`, options[name]]);
 }
 
@@ -205,9 +207,9 @@ function optionFault() {
 }
 
 function isAllowed(values, text) {
-  const [least, most] = values.split("..").map(Number);
-  if (!/^\d{1,10}$/.test(text)) return false;
-  return most === undefined ? values.split(",").includes(text) : Number(text) >= least && Number(text) <= most;
+  const [least, most] = values.split("..");
+  if (most === undefined) return values.split(",").includes(text);
+  return /^\d{1,10}$/.test(text) && Number(text) >= Number(least) && Number(text) <= Number(most);
 }
 
 /** Why a line is no act here. */

@@ -95,7 +95,7 @@ class Sayer {
     // Of tasks that are spilled too, the names are known from then on.
     const names = new Map((line.spilled ?? []).map(([id, ...name]) => [id, name.join(".")]));
     const named = (id) => names.get(id) ?? this.task(id, before);
-    const count = line.back.length, cascade = new Cascade(line, before, this.head.line), texts = sentences.taken;
+    const count = line.back.length, cascade = new Cascade(line, before, this.head), texts = sentences.taken;
     const sayer = new CauseSayer(named, this.labels, cascade), gone = new Set(line.gone);
     const told = cascade.all().slice(0, MOST_NAMED).map((cause) => {
       const {task: {id}, work} = cause.member;

@@ -402,7 +402,8 @@ function settingsTold(head) {
   const rounds = isLockstep ? ` of ${plural(head.rounds, "round")}, seed ${head.seed}` : "";
   return `${head.course}${rounds}: ${plural(head.tiles, "tile")} of ${plural(head.cores, "core")}`
     + `, task queues of ${head.task_queue}, commit queues of ${head.commit_queue}, lines of ${head.line} bytes, `
-    + `quantum ${head.quantum}, phase ${head.phase}${isLockstep ? NUMBERED : ""}`;
+    + `filters of the kind ${head.filter ?? "modulo"}, quantum ${head.quantum}, phase ${head.phase}`
+    + (isLockstep ? NUMBERED : "");
 }
 
 /** Shows a course: what doesn't change from act to act. */
