@@ -65,7 +65,7 @@ def shards_of_studies_are_joined(place: Place) -> None:
 
 
 def columns_are_numbers(place: Place) -> None:
-    """each cell of a study's CSV is one number, but for the image and the end, and no column is empty"""
+    """each cell of a study's CSV is one number, but for the image, the filter and the end, and no column is empty"""
     place.needs_second_program()
     place.call("fractal study", walk_of(place, "60"), *CHOICES, "--csv", "rows.csv", "--plot", "rounds,line,x.svg",
                "--log", "xy")
@@ -73,7 +73,7 @@ def columns_are_numbers(place: Place) -> None:
     expect(len(rows) == 6, "six rows", rows)
     for row in rows:
         odd = [name for name, value in row.items()
-               if name not in ("image", "end") and not re.fullmatch(r"\d+(\.\d+)?(e[+-]\d+)?", value)]
+               if name not in ("image", "--filter", "end") and not re.fullmatch(r"\d+(\.\d+)?(e[+-]\d+)?", value)]
         expect(not odd, "a number in each cell", odd)
     expect("logarithmic" in " ".join(picture_in((place.root / "x.svg").read_bytes())), "axes as they were asked for")
 

@@ -13,8 +13,8 @@ each choice of one value an option, which comes as soon as it is known, in the o
   --seed N                   the acts of a round are shuffled by this seed; 0 unless told, which shuffles nothing
   --rounds N                 so many rounds at most; 1,000,000 unless told
   --columns NAMES            columns of the table, with commas between
-  --csv FILE                 all columns as CSV, a number each. Where the study is ended early, FILE has the rows that
-                             were known by then
+  --csv FILE                 all columns as CSV, a number each but for the image, the filter and the end. Where the
+                             study is ended early, FILE has the rows that were known by then
   --jobs N                   so many choices are played at once, in processes; 1 unless told
   --shard K/N                only each N-th choice, from the K-th on
   --plot COLUMN,OPTION,FILE  a plot (SVG) of a column against an option, a line for each choice of the rest
