@@ -55,22 +55,23 @@ class LegNotes:
             self.head: Line = watched.head
             legs = watched.machine.legs
             self.cores: dict[Task, Core] = {} if legs is None else legs.cores
+            self.machine = watched.machine
             for told in watched:
                 self.take(told)
         self.firsts = [stretch.first for stretch in self.stretches]
 
     def take(self, told: ToldLine) -> None:
         """Takes a line, once the reader has held it."""
-        line, task = told.line, told.task
-        if told.is_made and "asks" in line and task is not None:
-            self.leg(told, task, line)
+        task = told.task
+        if told.asks is not None and task is not None:
+            self.leg(told, task, told.asks)
             return
         if told.taken:
             last = len(self.stretches) - 1
             here = Position(last, self.stretches[last].length) if self.stretches else Position(0, 0)
             self.take_back(told, here, Position(last + 1, 0))
-        if told.is_made and line["do"] == "dispatch" and task is not None:
-            self.begin(task)
+        if told.dispatched is not None:
+            self.begin(told.dispatched)
         elif told.committed is not None:
             self.commit(told.committed)
 
@@ -88,7 +89,7 @@ class LegNotes:
         self.turns += 1
         attempt.gone, attempt.turn = Position(len(self.stretches), 0), self.turns
 
-    def leg(self, told: ToldLine, task: Task, line: Line) -> None:
+    def leg(self, told: ToldLine, task: Task, asks: str) -> None:
         """Notes a leg, what its event takes back, and then the access or the call at its end."""
         attempt, stores, number = self.running[task], self.memory.stores, len(self.stretches)
         first, start = len(stores), attempt.note(number, task.work)
@@ -102,13 +103,13 @@ class LegNotes:
         if told.access is not None:
             self.access(attempt, told.access)
         elif told.arrived is not None:
-            self.made[told.arrived] = Origin(attempt, Position(number, line["leg"]), line["pc"])
-        elif line["asks"] == "trap":
-            attempt.trap = line["cause"], line["pc"]
+            self.made[told.arrived] = Origin(attempt, Position(number, length - 1), task.pc)
+        elif asks == "trap":
+            attempt.trap = self.machine.traps[task], task.pc
             self.trapped[Position(number, length)] = attempt
         self.starts.append(start)
         self.owners.append(attempt)
-        self.events.append(line["n"])
+        self.events.append(self.machine.events)
         passed = self.passed.get(core.path) or self.passed_by(core)
         self.stretches.append(Stretch(length, passed, first, len(stores)))
 

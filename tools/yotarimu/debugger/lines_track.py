@@ -7,7 +7,8 @@ committed, and of those that never will.
 from __future__ import annotations
 
 import bisect
-from typing import Iterator, Optional
+import functools
+from typing import Iterable, Iterator, Optional, TypeVar
 
 from yotarimu.common.outcome import Refusal
 from yotarimu.debugger import goals
@@ -24,6 +25,8 @@ from yotarimu.lines.replay import Task
 from yotarimu.lines.sentences import label_of
 from yotarimu.reports.meanings import cause_told
 
+Key = TypeVar("Key")
+
 
 class LinesTrack(Track):
     """The legs of the lines."""
@@ -38,18 +41,24 @@ class LinesTrack(Track):
         self.need_stretches("no task takes a leg in these lines")
         self.owners, self.starts = self.notes.owners, self.notes.starts
         self.attempts = self.notes.attempts
-        self.of_task: dict[Task, list[Attempt]] = {}
-        for attempt in self.attempts:
-            self.of_task.setdefault(attempt.task, []).append(attempt)
-        self.of_name: dict[str, list[Attempt]] = {}
-        for attempt in self.attempts:
-            self.of_name.setdefault(label_of(attempt.task), []).append(attempt)
         self.sentences = CauseSentences(self.task_told, rule_of(self.notes.head), listing)
         # The runs of attempts, as far as they were followed last.
         self.cores: dict[int, AttemptCore] = {}
         self.go_to(Position(0, 0))
         self.words = {"tasks": self.tasks, "children": self.children, "whence": self.whence, "writes": self.writes,
                       "runs": self.runs, "why": self.why, "stale": self.stale, "goto": self.goto}
+
+    # ---- what there is, looked for once it is asked for
+
+    @functools.cached_property
+    def of_task(self) -> dict[Task, list[Attempt]]:
+        """The attempts at each task."""
+        return grouped((attempt.task, attempt) for attempt in self.attempts)
+
+    @functools.cached_property
+    def of_name(self) -> dict[str, list[Attempt]]:
+        """The attempts at the tasks of each name."""
+        return grouped((label_of(attempt.task), attempt) for attempt in self.attempts)
 
     # ---- positions
 
@@ -319,6 +328,14 @@ class LinesTrack(Track):
             return f"{'':<40} {event}  {goals.store_told(self.memory.stores[at], 'undone')}"
         where = goals.store_told(self.memory.stores[at], self.place_told(access.pc))
         return f"{self.name_of(self.owners[stretch].number):<40} {event}  {where}"
+
+
+def grouped(pairs: Iterable[tuple[Key, Attempt]]) -> dict[Key, list[Attempt]]:
+    """Attempts by their keys, each list in their order."""
+    found: dict[Key, list[Attempt]] = {}
+    for key, attempt in pairs:
+        found.setdefault(key, []).append(attempt)
+    return found
 
 
 def first_rows(rows: list[str], word: str, start: int, count: int) -> list[str]:

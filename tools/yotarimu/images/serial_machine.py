@@ -15,7 +15,7 @@ from typing import NamedTuple, Optional, Union
 from yotarimu.images.image import DATA, STACK, TEXT, Image
 from yotarimu.reports.report import Entry, Name, Trap
 
-MASK = 0xFFFFFFFF
+MASK, SIGN = 0xFFFFFFFF, 0x80000000
 # The greatest budget of a task, and how many bytes it may emit.
 MOST_BUDGET, MOST_BYTES = 65_536, 256
 STACK_POINTER, ENTRY, TIMESTAMP, FIRST_ARGUMENT, CALL = 2, 10, 11, 12, 17
@@ -155,11 +155,11 @@ class Run:
 
     def __init__(self, machine: Machine, task: Task) -> None:
         self.machine, self.task, self.limits = machine, task, machine.image.limits
-        self.stack = bytearray(self.limits.stack)
-        self.registers = [0] * 32
-        self.registers[STACK_POINTER] = STACK + len(self.stack) if self.stack else 0
-        self.registers[10:13] = task.arguments
-        self.registers[13] = task.timestamp
+        stack, registers = self.limits.stack, [0] * 32
+        self.stack, self.registers = bytearray(stack), registers
+        registers[STACK_POINTER] = STACK + stack if stack else 0
+        registers[10], registers[11], registers[12] = task.arguments
+        registers[13] = task.timestamp
         self.pc, self.children, self.emitted, self.is_over = task.entry, 0, 0, False
         # A task that traps gets no turn; its children have names as if it did, so that they take no other task's.
         self.turn = task.turn or machine.turns + 1
@@ -241,17 +241,25 @@ class Run:
     def enqueue(self, number: int, entry: int, timestamp: int, arguments: Sequence[int]) -> None:
         """Makes a child by a call of a number, 1 to 3; raises TaskTrap where it can't be made."""
         own = self.task.domain
-        domain = {1: own, 2: self.inner, 3: own.outer}[number]
+        domain: Optional[Domain] = own
+        least = self.task.timestamp
+        if number == 2:
+            # A subdomain's timestamps start afresh.
+            domain, least = self.inner, 0
+        elif number == 3:
+            domain, least = own.outer, own.floor
         if domain is None:
             raise TaskTrap(NO_SUBDOMAIN if number == 2 else NO_SUPERDOMAIN)
-        # A subdomain's timestamps start afresh.
-        least = {1: self.task.timestamp, 2: 0, 3: own.floor}[number]
         if domain.is_ordered and timestamp < least:
             raise TaskTrap(EARLY, least=least)
         if self.children == self.limits.children:
             raise TaskTrap(CHILD)
-        self.machine.add(Name(self.turn, self.children), entry, timestamp, arguments, domain)
+        self.make_child(entry, timestamp, arguments, domain)
         self.children += 1
+
+    def make_child(self, entry: int, timestamp: int, arguments: Sequence[int], domain: Domain) -> None:
+        """Hands a child to the machine, which has all tasks."""
+        self.machine.add(Name(self.turn, self.children), entry, timestamp, arguments, domain)
 
 
 def signed_number(value: int, bits: int) -> int:
@@ -448,7 +456,7 @@ def comparison(kind: int) -> Callable[[int, int], bool]:
 
 def is_less(one: int, two: int) -> bool:
     """Whether a register's number is less than another one, both with their signs."""
-    return signed_number(one, 32) < signed_number(two, 32)
+    return one ^ SIGN < two ^ SIGN
 
 
 ARITHMETIC: tuple[Callable[[int, int], int], ...] = (
@@ -457,7 +465,7 @@ ARITHMETIC: tuple[Callable[[int, int], int], ...] = (
 OTHERS: dict[int, Callable[[int, int], int]] = {
     0: operator.sub, 5: lambda one, two: signed_number(one, 32) >> (two & 31)}
 COMPARISONS: dict[int, Callable[[int, int], bool]] = {
-    0: operator.eq, 1: operator.ne, 4: is_less, 5: lambda one, two: not is_less(one, two), 6: operator.lt,
+    0: operator.eq, 1: operator.ne, 4: is_less, 5: lambda one, two: one ^ SIGN >= two ^ SIGN, 6: operator.lt,
     7: operator.ge}
 
 

@@ -216,6 +216,12 @@ def value_text(value: object) -> str:
     return text if len(text) <= MOST_SHOWN else f"{text[:MOST_SHOWN]}.."
 
 
+def fields_in(text: str) -> Line:
+    """The fields of a line that is known to be right."""
+    line: Line = DECODER.decode(text)
+    return line
+
+
 class Shapes:
     """The skeletons of lines that were found right: lines with a digit 0 in place of each number."""
 

@@ -1,59 +1,185 @@
-"""Lines that are foreseen: the fields of a step, and with them its text, before it is read.
+"""Events that are foreseen: what their lines say, letter for letter, before they are taken apart.
 
-Of most steps a line alone tells but which act it is, and of which task. The machine knows where that task runs, the
-image's text where its leg stops and what it asks for there, and the memory what stands in the data. A line that is
-written letter for letter as these fields are has them and no others, so it needn't be taken apart. Other lines are:
-those that are wrong, and those that tell more. The machine holds each line's fields, wherever they are from.
+Little of an event has to be told. The machine knows how many there were, where a task runs and what it is called, the
+image's text where a leg stops and what is asked for there, and the memory what stands in the data. So the few numbers
+that nothing else says are picked out of a line. One that is written letter for letter as it is foreseen has these
+fields and no others, so it isn't taken apart, and what was foreseen isn't held against the machine once more. Other
+lines are taken apart: those that are wrong, and those that tell more.
 """
 from __future__ import annotations
 
-from typing import TYPE_CHECKING, Optional
+from collections.abc import Callable
+from typing import Optional
 
-from yotarimu.lines.fields import Line
-from yotarimu.lines.legs import Legs
+from yotarimu.lines.fields import ASKED, MAYBE, MOST_DIGITS, NUMBER, PAIR, TRIPLE, Kind, act_fields
+from yotarimu.lines.legs import Legs, Stop
+from yotarimu.lines.replay import FINISHED, IDLE, RUNNING, Machine, Task, ToldLine
 
-if TYPE_CHECKING:
-    from yotarimu.lines.replay import Machine
+# How values of a kind are written.
+WRITTEN: dict[Kind, str] = {NUMBER: "%d", PAIR: "[%d,%d]", TRIPLE: "[%d,%d,%d]"}
+ACCESSES = ("load", "store")
 
-# The beginning of a step: the number of its act, its word, where its task runs, and which that is.
-AT, STEP, TASK = '{"at":', '"do":"step"', '"task":'
-BEGINNING = 5
+
+class OtherLine(Exception):
+    """A line isn't the foreseen one."""
+
+
+def form_of(word: str, asks: str = "") -> str:
+    """What the line of an event tells behind its act, with a place for each number and for the word of a child's
+    domain; of a step by what it asks for. No task is taken back or spilled, and no output is told."""
+    words = {"do": word, "asks": asks, "to": "%s", "reply": "ok"}
+    parts = []
+    for field, kind in act_fields({**words, "leg": 0} if asks else words)[1:]:
+        name = field.removesuffix(MAYBE)
+        if name in (field, "task"):
+            parts.append(f'"{name}":"{words[name]}"' if name in words else f'"{name}":{WRITTEN[kind]}')
+    return f"{','.join(parts)}}}"
+
+
+DISPATCH, COMMIT, SPLIT = map(form_of, ("dispatch", "commit", "split"))
+# What steps tell behind their tasks.
+STEPS = {asks: form_of("step", asks).partition('"task":%d,')[2] for asks in ASKED}
+
+
+def start_of_step(act: int, task: Task) -> str:
+    """How the line of a step begins that a task makes where it runs."""
+    return f'{{"at":{act},"do":"step","tile":{task.tile},"core":{task.core},"task":{task.id},'
+
+
+def number_in(text: str) -> int:
+    """The number that a part of a line is."""
+    if not text.isdigit() or len(text) > MOST_DIGITS:
+        raise OtherLine
+    return int(text)
 
 
 class Foresight:
-    """The steps that the tasks of a machine take next, by the legs of its image."""
+    """Follows the events of a machine, by the legs of its image. A way to follow one raises OtherLine, with nothing
+    done, where its line is another than the foreseen one.
+
+    What `Machine.act` holds of a line holds of these too. Their text has the right number of events, a task, a tile and
+    a core that are there, and nothing that is forced; a leg keeps to quantum and budget, as its core does. All else is
+    done by the machine's own methods, which refuse what can't be."""
 
     def __init__(self, machine: Machine, legs: Legs) -> None:
         self.machine, self.legs = machine, legs
-        # How a step is written that asks for something, with a place for each value.
-        self.forms: dict[str, str] = {}
+        # The task of the last dispatch or step, which mostly makes the next step.
+        self.last: Optional[Task] = None
+        # What steps tell behind their tasks, by where their legs stop.
+        self.steps: dict[Stop, str] = {}
 
-    def line_of(self, text: str) -> Optional[Line]:
-        """The fields of a step that is the foreseen one; None of each other line."""
-        parts = text.split(",", BEGINNING)
-        if len(parts) <= BEGINNING or parts[1] != STEP:
-            return None
+    def follow(self, number: int, text: str) -> Optional[ToldLine]:
+        """Follows the event of a line; None where it is another line."""
+        told, machine, task = ToldLine(number, text), self.machine, self.last
         try:
-            act, number = int(parts[0][len(AT):]), int(parts[4][len(TASK):])
-        except ValueError:
-            return None
-        machine, task = self.machine, self.machine.tasks.get(number)
-        if task is None or task.core is None:
-            return None
-        leg = self.legs.next_leg(task)
-        asks = leg["asks"]
-        if asks == "enqueue":
-            # The line tells which id the child has, and where it goes.
-            return None
-        line = {"at": act, "do": "step", "tile": task.tile, "core": task.core, "task": number, **leg, "reply": "ok",
-                "n": machine.events + 1}
-        if asks in ("load", "store"):
-            line["old"] = machine.memory.number(leg["addr"], leg["bytes"])
-        form = self.forms.get(asks) or self.form_of(line)
-        return line if text == form % tuple(line.values()) else None
+            # In rounds there are acts that aren't told.
+            act = machine.acts + 1 if machine.rounds is None else number_in(text[len('{"at":'):text.find(",")])
+            if task is not None and task.state is RUNNING:
+                start = start_of_step(act, task)
+                if text.startswith(start):
+                    self.step(told, act, start, task)
+                    return told
+            fields = text.split(",")
+            way = WAYS.get((fields[1], len(fields))) if len(fields) > 1 else None
+            if way is not None:
+                way(self, told, act, fields)
+                return told
+        except OtherLine:
+            pass
+        return None
 
-    def form_of(self, line: Line) -> str:
-        """How a step with such fields is written."""
-        places = (f'"{name}":%d' if isinstance(value, int) else f'"{name}":"%s"' for name, value in line.items())
-        form = self.forms[line["asks"]] = f"{{{','.join(places)}}}"
-        return form
+    def task_in(self, field: str, state: str) -> Task:
+        """The task that a field tells, which has to be in a state."""
+        task = self.machine.tasks.get(number_in(field[len('"task":'):]))
+        if task is None or task.state is not state:
+            raise OtherLine
+        return task
+
+    def take(self, told: ToldLine, act: int, task: Optional[Task]) -> None:
+        """Counts the act and the event of a line that is the foreseen one."""
+        self.machine.count_act(told, act)
+        self.machine.events += 1
+        told.is_made, told.task = True, task
+
+    def step_of_another(self, told: ToldLine, act: int, fields: list[str]) -> None:
+        """Follows a step of a task that didn't make the last one."""
+        self.last = task = self.task_in(fields[4], RUNNING)
+        self.step(told, act, start_of_step(act, task), task)
+
+    def step(self, told: ToldLine, act: int, start: str, task: Task) -> None:
+        """Follows a step, whose line begins so: the leg of its task, and what that asks for."""
+        machine, core = self.machine, self.legs.next_leg(task)
+        leg, pc, asks = core.stop
+        form = start + (self.steps.get(core.stop) or self.step_at(core.stop))
+        if asks in ACCESSES:
+            address, count, *stored = core.wish
+            old = machine.memory.number(address, count)
+            if told.text != form % (*core.wish, machine.events + 1, old):
+                raise OtherLine
+            self.take(told, act, task)
+            machine.count_leg(told, task, leg, pc, asks)
+            machine.need_data(address, count)
+            machine.access(told, task, address, count, old, stored[0] if stored else None)
+            core.go_on(old)
+            return
+        child = self.child_in(told.text) if asks == "enqueue" else {}
+        if told.text != form % (*core.wish, machine.events + 1, *child.values()):
+            raise OtherLine
+        self.take(told, act, task)
+        machine.count_leg(told, task, leg, pc, asks)
+        machine.request(told, task, asks, {**core.leg, **child})
+        core.go_on(0)
+
+    def step_at(self, stop: Stop) -> str:
+        """What a step tells behind its task where a leg stops so."""
+        leg, pc, asks = stop
+        self.steps[stop] = STEPS[asks].replace("%d", str(leg), 1).replace("%d", str(pc), 1)
+        return self.steps[stop]
+
+    def child_in(self, text: str) -> dict[str, int]:
+        """What the end of a line alone tells of a child: its id, and where it goes."""
+        _, new, into = text.rsplit(",", 2)
+        return {"new": number_in(new[len('"new":'):]), "in": number_in(into[len('"in":'):-len("}")])}
+
+    def dispatch(self, told: ToldLine, act: int, fields: list[str]) -> None:
+        """Follows a dispatch."""
+        machine, task, core = self.machine, self.task_in(fields[3], IDLE), number_in(fields[6][len('"core":'):])
+        number, form = machine.numbers.next, f'{{"at":{act},{DISPATCH}'
+        if core >= machine.core_count or told.text != form % (task.tile, task.id, machine.events + 1, core, number):
+            raise OtherLine
+        self.take(told, act, task)
+        machine.dispatch(told, {"tile": task.tile, "core": core, "number": number})
+        self.last = task
+
+    def commit(self, told: ToldLine, act: int, fields: list[str]) -> None:
+        """Follows a commit."""
+        machine, task = self.machine, self.task_in(fields[2], FINISHED)
+        name, depth, timestamp, form = task.name, task.depth, task.timestamp, f'{{"at":{act},{COMMIT}'
+        if name is None or told.text != form % (task.id, machine.events + 1, *name, depth, timestamp):
+            raise OtherLine
+        self.take(told, act, task)
+        machine.commit(told, {"name": name, "depth": depth, "ts": timestamp})
+        self.legs.end(task)
+
+    def split(self, told: ToldLine, act: int, fields: list[str]) -> None:
+        """Follows a split."""
+        machine, tile, form = self.machine, number_in(fields[2][len('"tile":'):]), f'{{"at":{act},{SPLIT}'
+        new, into = number_in(fields[5][len('"new":'):]), number_in(fields[6][len('"in":'):])
+        name = number_in(fields[7][len('"name":['):]), number_in(fields[8][:-len("]}")])
+        if tile >= machine.tile_count or told.text != form % (tile, machine.events + 1, new, into, *name):
+            raise OtherLine
+        self.take(told, act, None)
+        machine.split(told, {"tile": tile, "new": new, "in": into, "name": name})
+
+
+# By the event of a line, and how many parts its commas make.
+WAYS: dict[tuple[str, int], Callable[[Foresight, ToldLine, int, list[str]], None]] = {
+    ('"do":"dispatch"', DISPATCH.count(",") + 2): Foresight.dispatch,
+    ('"do":"commit"', COMMIT.count(",") + 2): Foresight.commit,
+    ('"do":"split"', SPLIT.count(",") + 2): Foresight.split,
+    **{('"do":"step"', step.count(",") + 6): Foresight.step_of_another for step in STEPS.values()}}
+
+
+def foresight_of(machine: Machine) -> Optional[Foresight]:
+    """The foresight of a machine; None where no image says which legs come."""
+    return None if machine.legs is None else Foresight(machine, machine.legs)

@@ -15,7 +15,7 @@ from yotarimu.images import serial_machine
 from yotarimu.images.image import DATA, Image
 from yotarimu.images.serial_machine import (
     MASK, Operation, Run, TaskTrap, decode, is_straight, operation_of, signed_number)
-from yotarimu.lines.fields import WrongLine
+from yotarimu.lines.fields import ASKED, WrongLine
 from yotarimu.lines.times import Domain
 from yotarimu.reports.report import Name
 
@@ -30,8 +30,17 @@ FETCH, BUDGET = 1, 17
 MOST_STRAIGHT = 64
 # The fields of a line that tell a leg, in their order.
 FIELDS = ("leg", "pc", "asks", "addr", "bytes", "value", "to", "entry", "ts", "args", "hint", "byte", "cause")
-# What a leg stops for: the fields of the line that tell it.
-Asked = dict[str, Any]
+# The names of those behind `asks`, by what is asked for.
+WISHES = {asks: [name for name, _ in fields] for asks, fields in ASKED.items()}
+# Where a leg stops: behind how many instructions, at which address, and the word of what is asked for there.
+Stop = tuple[int, int, str]
+# What is asked for: its word, and what the fields behind `asks` tell of it, with the arguments of a child one by one.
+Wish = tuple[Any, ...]
+Asked = tuple[str, Wish]
+# Of an instruction what gives that which it asks for, and None where it asks nothing and was executed; and what
+# executes it once that is granted, with the number that a load finds.
+Ask = Callable[["Core"], Optional[Asked]]
+Grant = Callable[["Core", int], None]
 
 
 class Nothing(bytearray):
@@ -48,8 +57,8 @@ class Scratch(serial_machine.Machine):
         super().__init__(image)
         self.output, self.blocks = Nothing(), Blocks(image)
 
-    def add(self, *_child: Any) -> None:
-        """The lines have the child."""
+    def add(self, *_task: Any) -> None:
+        """The lines have the image's tasks."""
 
 
 # Most tasks of a run are in few domains.
@@ -61,16 +70,14 @@ def around(domain: Domain) -> serial_machine.Domain:
 
 
 class Last(NamedTuple):
-    """An instruction behind straight ones. `ask` gives what it asks for, and None where it asks nothing and was
-    executed; `grant` executes it once that is granted, with the number that a load finds."""
-    ask: Callable[[Core], Optional[Asked]]
-    grant: Callable[[Core, int], None]
+    """An instruction behind straight ones."""
+    ask: Ask
+    grant: Grant
 
 
-class Block(NamedTuple):
-    """Instructions one after another: those that change a register at most, and the one that comes then."""
-    straight: tuple[Operation, ...]
-    last: Last
+# Instructions one after another: those that change a register at most, how many they are, and what the one that comes
+# then asks for and does. A tuple with names takes ten times as long to be taken apart.
+Block = tuple[tuple[Operation, ...], int, Ask, Grant]
 
 
 class Blocks(dict[int, Block]):
@@ -86,7 +93,8 @@ class Blocks(dict[int, Block]):
         while (word := self.word(end)) is not None and is_straight(word) and len(straight) < MOST_STRAIGHT:
             straight.append(operation_of(word))
             end += 4
-        found = self[pc] = Block(tuple(straight), NO_INSTRUCTION if word is None else last_of(word))
+        last = NO_INSTRUCTION if word is None else last_of(word)
+        found = self[pc] = tuple(straight), len(straight), last.ask, last.grant
         return found
 
     def word(self, pc: int) -> Optional[int]:
@@ -113,7 +121,7 @@ def load_of(word: int) -> Last:
     def ask(core: Core) -> Optional[Asked]:
         address = core.registers[first] + offset & MASK
         if DATA <= address <= core.end - width and not address % width:
-            return {"asks": "load", "addr": address, "bytes": width}
+            return "load", (address, width)
         plainly(core)
         return None
 
@@ -133,7 +141,7 @@ def store_of(word: int) -> Last:
     def ask(core: Core) -> Optional[Asked]:
         address = core.registers[first] + offset & MASK
         if DATA <= address <= core.end - width and not address % width:
-            return {"asks": "store", "addr": address, "bytes": width, "value": core.registers[second]}
+            return "store", (address, width, core.registers[second])
         plainly(core)
         return None
 
@@ -171,62 +179,83 @@ class Core(Run):
         self.end: int = DATA + len(scratch.memory)
         # Where the last leg came into blocks, and where it stopped: at this instruction.
         self.path: tuple[int, ...] = self.pc, self.pc
-        self.last = NO_INSTRUCTION
-        # The leg that was run and that no line has taken yet.
-        self.waiting: Optional[Asked] = None
+        # Of that leg where it stopped, what is asked for there, what executes the instruction that asks, and whether
+        # it waits for a line that takes it.
+        self.stop: Stop = 0, self.pc, "go"
+        self.wish: Wish = ()
+        self.grant: Optional[Grant] = None
+        self.is_waiting = False
 
-    def leg(self, quantum: int, budget: int) -> Asked:
-        """Runs a leg, and gives the fields of the line that tell it."""
-        count, most, blocks = 0, min(quantum, budget - self.used), self.blocks
-        asked: Optional[Asked] = None
-        path = [self.pc]
+    def run(self, quantum: int, budget: int) -> None:
+        """Runs a leg, which waits then."""
+        count, most, blocks, path = 0, budget - self.used, self.blocks, [self.pc]
+        if most > quantum:
+            most = quantum
+        self.grant = None
         try:
-            while count < most:
-                straight, self.last = blocks[self.pc]
-                if len(straight) > most - count:
-                    straight = straight[:most - count]
+            straight, length, ask, grant = blocks[self.pc]
+            while count + length < most:
                 for operation in straight:
                     operation(self)
-                count += len(straight)
-                if count == most:
-                    break
-                if asked := self.last.ask(self):
+                count += length
+                asked = ask(self)
+                if asked is not None:
+                    self.grant = grant
                     break
                 count += 1
                 path.append(self.pc)
-            if asked is None:
-                asked = {"asks": "go"} if most == quantum else {"asks": "trap", "cause": BUDGET}
+                straight, length, ask, grant = blocks[self.pc]
+            else:
+                # The quantum or the budget ends among these, or right behind them.
+                for operation in straight[:most - count]:
+                    operation(self)
+                count, asked = most, ("go", ()) if most == quantum else ("trap", (BUDGET,))
         except TaskTrap as trapped:
-            asked = {"asks": "trap", "cause": trapped.cause}
+            asked = "trap", (trapped.cause,)
+        asks, self.wish = asked
         self.used += count
-        self.path = (*path, self.pc)
-        return {"leg": count, "pc": self.pc, **asked}
+        self.path, self.stop, self.is_waiting = (*path, self.pc), (count, self.pc, asks), True
+
+    def go_on(self, found: int) -> None:
+        """Goes on behind the leg, as what it asks for is granted; a load finds this number."""
+        self.is_waiting = False
+        if self.grant is not None:
+            self.grant(self, found)
+            self.used += 1
+
+    @property
+    def leg(self) -> dict[str, Any]:
+        """The fields of a line that tell the last leg."""
+        leg, pc, asks = self.stop
+        wish = self.wish
+        if asks == "enqueue":
+            wish = *wish[:3], list(wish[3:6]), wish[6]
+        return {"leg": leg, "pc": pc, "asks": asks, **dict(zip(WISHES[asks], wish))}
 
     @property
     def passed(self) -> frozenset[int]:
         """Where the last leg came by."""
         *whole, last, stop = self.path
-        ways = (range(start, start + 4 * len(self.blocks[start].straight) + 4, 4) for start in whole)
+        ways = (range(start, start + 4 * self.blocks[start][1] + 4, 4) for start in whole)
         return frozenset(itertools.chain(range(last, stop + 4, 4), *ways))
 
-    def grant(self, found: int) -> None:
-        """Executes the instruction at which the core stopped; a load finds this number."""
-        self.last.grant(self, found)
-        self.used += 1
+    def make_child(self, *_child: Any) -> None:
+        """The lines have the child."""
 
     def request(self) -> Asked:
         """What a call asks for that doesn't trap."""
         number, registers = self.registers[17], self.registers
         if number == 0:
-            return {"asks": "end"}
+            return "end", ()
         if number == 4:
-            return {"asks": "ordered" if registers[10] else "unordered"}
+            return "ordered" if registers[10] else "unordered", ()
         if number == 5:
-            return {"asks": "emit", "byte": registers[10] & 0xFF}
-        domain = {1: self.task.domain, 2: self.inner, 3: self.task.domain.outer}[number]
+            return "emit", (registers[10] & 0xFF,)
+        own = self.task.domain
+        domain = own if number == 1 else self.inner if number == 2 else own.outer
         assert domain is not None, "else the call traps"
-        return {"asks": "enqueue", "to": CHILDREN[number], "entry": registers[10],
-                "ts": registers[11] if domain.is_ordered else 0, "args": registers[12:15], "hint": registers[15]}
+        timestamp = registers[11] if domain.is_ordered else 0
+        return "enqueue", (CHILDREN[number], registers[10], timestamp, *registers[12:16])
 
 
 class Legs:
@@ -247,11 +276,15 @@ class Legs:
         for taken in told.taken:
             self.cores.pop(taken.task, None)
         if told.committed is not None:
-            self.cores.pop(told.committed, None)
+            self.end(told.committed)
         elif "leg" in told.line and told.task is not None:
             self.need_leg(told.task, told.line)
         elif told.line.get("do") == "place":
             self.need_initial(told.line)
+
+    def end(self, task: Task) -> None:
+        """A task has committed, and needs no core any more."""
+        self.cores.pop(task, None)
 
     def need_initial(self, line: dict[str, Any]) -> None:
         """Holds a task that is placed against the image's own."""
@@ -263,25 +296,23 @@ class Legs:
         if [line["entry"], line["ts"], line["args"]] != [task.entry, timestamp, list(task.arguments)]:
             raise WrongLine(f"the image's task {place} is another one")
 
-    def next_leg(self, task: Task) -> Asked:
-        """The fields that tell the next leg of a task. It is run once, however often what it asks for is refused."""
+    def next_leg(self, task: Task) -> Core:
+        """The core of a task, behind its next leg. That is run once, however often what it asks for is refused."""
         core = self.cores.get(task)
         if core is None:
             core = self.cores[task] = Core(self.scratch, task)
-        if core.waiting is None:
-            core.waiting = core.leg(self.quantum, self.budget)
-        return core.waiting
+        if not core.is_waiting:
+            core.run(self.quantum, self.budget)
+        return core
 
     def need_leg(self, task: Task, line: dict[str, Any]) -> None:
         """Holds a leg against the one that the task makes by the image's text."""
-        wanted = self.next_leg(task)
+        core = self.next_leg(task)
+        wanted = core.leg
         # What is asked for says which fields a line has, so it has no others where it has these.
         if not wanted.items() <= line.items():
             name = next(it for it in FIELDS if line.get(it) != wanted.get(it))
             raise WrongLine(f"`{name}` is {line.get(name, 'missing')}, and by the image's text it is "
                             f"{wanted.get(name, 'missing')}")
         if line["reply"] == "ok":
-            core = self.cores[task]
-            core.waiting = None
-            if wanted["asks"] not in ("go", "trap"):
-                core.grant(line.get("old", 0))
+            core.go_on(line.get("old", 0))

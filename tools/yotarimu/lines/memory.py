@@ -56,6 +56,10 @@ class Memory:
                 if known not in (None, byte):
                     raise WrongLine(f"at {DATA_START + more:08x} it finds the byte {byte}, and {known} stands there")
             self.data[place:place + count] = told
+
+    def touch(self, address: int, count: int) -> None:
+        """Notes an access to so many bytes."""
+        place = address - DATA_START
         self.touched[place:place + count] = TOUCHED * count
 
     def write(self, address: int, count: int, value: int) -> None:

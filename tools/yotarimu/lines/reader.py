@@ -15,6 +15,7 @@ A line that can't follow is refused by its number.
 from __future__ import annotations
 
 import contextlib
+import functools
 import sys
 from typing import IO, Iterator, Optional
 
@@ -23,7 +24,7 @@ from yotarimu.common.outcome import Refusal
 from yotarimu.courses.schedules import MOST_CORES, MOST_TILES
 from yotarimu.images.image import Image
 from yotarimu.lines.fields import Line, Shapes, WrongLine
-from yotarimu.lines.foresight import Foresight
+from yotarimu.lines.foresight import foresight_of
 from yotarimu.lines.replay import Machine, ToldLine
 
 # The values that the numbers of a head may have: docs/guest/FORMATS.md.
@@ -45,17 +46,18 @@ class Reader:
                  image: Optional[Image] = None) -> None:
         self.file, self.name, self.is_cut_allowed = file, name, is_cut_allowed
         self.number, self.shapes = 0, Shapes()
+        # The lines that weren't taken yet.
+        self.texts = self.whole_lines()
         # The last line, once it was read; None where the text was cut before it.
         self.end: Optional[Line] = None
         self.head = self.read_head()
         with self.place_told():
             self.machine = Machine(self.head, image)
-        legs = self.machine.legs
-        self.foresight = None if legs is None else Foresight(self.machine, legs)
+        self.foresight = foresight_of(self.machine)
 
     def read_head(self) -> Line:
         """Reads the first line, which tells of which machine the others are; refuses what can't be one."""
-        text = self.next_text()
+        text = next(self.texts, None)
         if text is None:
             raise Refusal(f"{self.name}: it has no whole line, so it isn't what the second program tells.")
         with self.place_told():
@@ -64,42 +66,45 @@ class Reader:
         return head
 
     def __iter__(self) -> Iterator[ToldLine]:
-        follow = self.machine.follow
         with self.place_told():
-            while (text := self.next_text()) is not None:
-                line = self.line_of(text)
-                if self.end is not None:
-                    raise WrongLine("nothing may follow on the end")
-                if "at" in line or "view" in line:
-                    told = ToldLine(self.number, line)
-                    follow(told)
+            for text in self.texts:
+                told = None if self.foresight is None else self.foresight.follow(self.number, text)
+                if told is None:
+                    told = self.take_apart(text)
+                if told is not None:
                     yield told
-                else:
-                    self.close(line)
         if self.end is None and not self.is_cut_allowed:
             raise Refusal(f"{self.name}: it has no end: it was cut behind line {self.number}.")
 
-    def line_of(self, text: str) -> Line:
-        """The fields of a line: those that are foreseen, or else those that are read."""
-        foreseen = None if self.foresight is None else self.foresight.line_of(text)
-        return self.shapes.line_of(text) if foreseen is None else foreseen
+    def take_apart(self, text: str) -> Optional[ToldLine]:
+        """Follows a line by its fields; None where it is the last one."""
+        line = self.shapes.line_of(text)
+        if self.end is not None:
+            raise WrongLine("nothing may follow on the end")
+        if "at" in line or "view" in line:
+            told = ToldLine(self.number, text, line)
+            self.machine.follow(told)
+            return told
+        self.close(line)
+        return None
 
     def close(self, line: Line) -> None:
         """Takes the last line."""
         if "end" not in line:
             raise WrongLine("this line may only stand alone or first")
         self.machine.close(line)
-        self.end = line
+        # Behind the end nothing is foreseen.
+        self.end, self.foresight = line, None
 
-    def next_text(self) -> Optional[str]:
-        """The next line without its newline; None where there is no whole line any more."""
-        data = self.file.readline(MOST_READ)
-        if not data.endswith(b"\n"):
-            if data and not self.is_cut_allowed:
-                raise Refusal(f"{self.name}:{self.number + 1}: this line isn't whole: no newline ends it.")
-            return None
-        self.number += 1
-        return data[:-1].decode("ascii", "replace")
+    def whole_lines(self) -> Iterator[str]:
+        """The lines without their newlines, each once it has come, up to where there is no whole one any more."""
+        for data in iter(functools.partial(self.file.readline, MOST_READ), b""):
+            if not data.endswith(b"\n"):
+                if not self.is_cut_allowed:
+                    raise Refusal(f"{self.name}:{self.number + 1}: this line isn't whole: no newline ends it.")
+                return
+            self.number += 1
+            yield data[:-1].decode("ascii", "replace")
 
     @contextlib.contextmanager
     def place_told(self) -> Iterator[None]:

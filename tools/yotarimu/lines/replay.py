@@ -13,7 +13,7 @@ from typing import Callable, Iterator, NamedTuple, Optional
 
 from yotarimu.images.image import Image
 from yotarimu.lines.dispatch_numbers import DispatchNumbers
-from yotarimu.lines.fields import Line, WrongLine
+from yotarimu.lines.fields import Line, WrongLine, fields_in
 from yotarimu.lines.legs import Legs
 from yotarimu.lines.memory import DATA_START, Memory
 from yotarimu.lines.rounds import Rounds
@@ -155,12 +155,15 @@ class TakenTask(NamedTuple):
 
 
 class ToldLine:
-    """A line behind the head, and what it did: the task that it is about, those that were taken back, those of them
-    that are gone, those that were spilled, the one that came, and the one that committed."""
+    """A line behind the head, and what it did: the task that it is about, what that asked for by a step that is made,
+    those that were taken back, those of them that are gone, those that were spilled, the one that came, the one that
+    was dispatched, and the one that committed."""
 
     # Most lines do little of this.
     is_made = False
     task: Optional[Task] = None
+    asks: Optional[str] = None
+    dispatched: Optional[Task] = None
     arrived: Optional[Task] = None
     committed: Optional[Task] = None
     access: Optional[Access] = None
@@ -168,8 +171,15 @@ class ToldLine:
     gone: Sequence[Task] = ()
     spilled: Sequence[Task] = ()
 
-    def __init__(self, number: int, line: Line) -> None:
-        self.number, self.line = number, line
+    def __init__(self, number: int, text: str, fields: Optional[Line] = None) -> None:
+        self.number, self.text, self.fields = number, text, fields
+
+    @property
+    def line(self) -> Line:
+        """The line's fields by name. One that was foreseen is taken apart here, once somebody asks."""
+        if self.fields is None:
+            self.fields = fields_in(self.text)
+        return self.fields
 
     def is_act(self) -> bool:
         """Whether it tells an act; other lines tell where a task was placed, or a view of the machine."""
@@ -289,7 +299,7 @@ class Machine:
 
     def act(self, told: ToldLine, line: Line) -> None:
         """Follows an act: what it tells is held against the machine, and is made."""
-        self.count_act(line)
+        self.count_act(told, line["at"])
         word, reply = line["do"], line["reply"]
         make = MADE.get(word) if reply == "ok" else None
         events = self.events + (make is not None)
@@ -311,8 +321,6 @@ class Machine:
             make(self, told, line)
         elif word in REFUSALS and reply in REFUSALS[word] and not REFUSALS[word][reply](self, line["tile"]):
             raise WrongLine(f"the tile has no reason to answer `{reply}`")
-        if self.rounds is not None:
-            self.rounds.note_commits(self.commits)
 
     def need_leg(self, task: Task, line: Line) -> None:
         """A leg of a whole quantum goes on, whatever stands next, and no other does. None goes beyond the budget."""
@@ -339,16 +347,15 @@ class Machine:
         """Whether a tile has spilled tasks, and no room for one in its queue."""
         return bool(self.blocks[tile]) and len(self.queues[tile]) == self.head["task_queue"]
 
-    def count_act(self, line: Line) -> None:
+    def count_act(self, told: ToldLine, at: int) -> None:
         """Holds the number of an act against those before it."""
-        at = line["at"]
         if self.acts == 0 and self.placed < self.head["tasks"]:
             raise WrongLine(f"{self.placed} of {self.head['tasks']} tasks of the image are placed before the first act")
         is_next = at == self.acts + 1 if self.rounds is None else at > self.acts
         if not is_next:
             raise WrongLine(f"act {at} can't follow on act {self.acts}")
         if self.rounds is not None:
-            self.rounds.need(line)
+            self.rounds.need(told.line)
         self.acts = at
 
     def force(self, told: ToldLine, line: Line) -> None:
@@ -420,38 +427,57 @@ class Machine:
         number = self.numbers.give(self.all_tasks())
         if line["number"] != number:
             raise WrongLine(f"it gives the dispatch number {line['number']}, and {number} is the next")
+        told.dispatched = task
         self.dispatches += 1
         task.run(core, number, self.dispatches)
         self.cores[task.tile][core] = task.id
         self.running += 1
 
     def step(self, told: ToldLine, line: Line) -> None:
-        """Follows a step: the leg counts, and what the task asks for is made."""
+        """Follows a step, of a task that runs where it is told."""
         task, asks = told.task, line.get("asks")
         if asks is None or task is None or task.state is not RUNNING:
             raise WrongLine("no task runs that takes this leg")
         if task.tile != line["tile"] or task.core != line["core"]:
             raise WrongLine(f"task {task.id} runs on another core")
-        task.pc = line["pc"]
-        task.work += line["leg"] + (asks not in NOT_EXECUTED)
+        self.count_leg(told, task, line["leg"], line["pc"], asks)
+        self.request(told, task, asks, line)
+
+    def count_leg(self, told: ToldLine, task: Task, leg: int, pc: int, asks: str) -> None:
+        """Counts the leg of a step, with the instruction that asks for something."""
+        told.asks, task.pc = asks, pc
+        task.work += leg + (asks not in NOT_EXECUTED)
         task.steps += 1
-        request = REQUESTS.get(asks)
-        if request is not None:
-            request(self, told, task, line)
+
+    def request(self, told: ToldLine, task: Task, asks: str, line: Line) -> None:
+        """Makes what a task asks for behind its leg."""
+        make = REQUESTS.get(asks)
+        if make is not None:
+            make(self, told, task, line)
 
     def load_or_store(self, told: ToldLine, task: Task, line: Line) -> None:
-        """An access. A load makes the bytes known that stand there, a store those that it leaves."""
-        is_store = line["asks"] == "store"
+        """Follows an access. A load makes the bytes known that stand there, a store those that it leaves."""
         address, count, old = line["addr"], line["bytes"], line["old"]
+        self.need_data(address, count)
+        self.memory.meet(address, count, old)
+        self.access(told, task, address, count, old, line["value"] if line["asks"] == "store" else None)
+
+    def need_data(self, address: int, count: int) -> None:
+        """Refuses an access to bytes that the data hasn't, or that none may be made to at once."""
         if count not in (1, 2, 4) or not 0 <= address - DATA_START <= self.data_size - count:
             raise WrongLine(f"the data has no {count} bytes at {address}")
         if address % count:
             raise WrongLine(f"{address} is no multiple of {count}")
-        self.memory.meet(address, count, old)
-        value = line["value"] & (1 << 8 * count) - 1 if is_store else old
-        told.access = Access(is_store, address, count, old, value, task.work - 1, self.events, line["pc"],
-                             task.steps - 1)
-        task.accesses.append(told.access)
+
+    def access(self, told: ToldLine, task: Task, address: int, count: int, old: int, stored: Optional[int]) -> None:
+        """Makes an access where a number stands that was met: a load, unless a number is stored."""
+        is_store = stored is not None
+        value = old if stored is None else stored & (1 << 8 * count) - 1
+        # As a call of Access does it, which takes twice as long.
+        access = told.access = tuple.__new__(Access, (
+            is_store, address, count, old, value, task.work - 1, self.events, task.pc, task.steps - 1))
+        task.accesses.append(access)
+        self.memory.touch(address, count)
         if is_store:
             self.memory.write(address, count, value)
 
@@ -515,6 +541,8 @@ class Machine:
             task.maker.commit()
         for child in task.children:
             child.name, child.creator = (self.commits, child.index), None
+        if self.rounds is not None:
+            self.rounds.note_commits(self.commits)
 
     def abort(self, told: ToldLine, _line: Line) -> None:
         """Follows an abort that a script asked for."""
