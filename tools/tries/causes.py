@@ -26,7 +26,7 @@ TAKEN_BACK: dict[str, list[tuple[str, ...]]] = {
 # By a filter that tells the lines 1,024 and 0 apart.
 BY_OTHER_FILTERS: dict[str, list[tuple[str, ...]]] = {**TAKEN_BACK, "two_lines": []}
 # A walk whose lines of 4 bytes are more than a row has bits.
-WALK, IN_ROUNDS = ("walk", "7", "1000"), ("lockstep", "40", "3", "--tiles", "16", "--line", "4")
+WALK, IN_ROUNDS = ("walk", "7", "1000"), ("lockstep", "1000", "0", "--tiles", "16", "--cores", "4", "--line", "4")
 
 
 def paths(place: Place, name: str) -> tuple[str, str]:
