@@ -29,7 +29,15 @@ class BroughtOn(unittest.TestCase):
                                   (12, "step", 1)):
             of.need(line(at, word))
             of.note_commits(commits)
-        self.assertEqual((of.advances, of.longest, of.number, of.begun_rounds()), (2, 2, 2, 3))
+        self.assertEqual((of.advances, of.longest, of.number, of.begun_rounds), (2, 2, 2, 3))
+
+    def test_what_brings_the_least_task_on_begins_no_round(self) -> None:
+        """A run may end with the commit that act 10 brings, and then had two rounds."""
+        of = rounds(2, 2)
+        for at, word, commits in ((1, "dispatch", 0), (9, "step", 0), (10, "commit", 1)):
+            of.need(line(at, word))
+            of.note_commits(commits)
+        self.assertEqual((of.advances, of.begun_rounds), (2, 2))
 
     def test_a_commit_makes_a_round_count(self) -> None:
         """Of three rounds the second has a commit, and so no two barren ones are in a row."""

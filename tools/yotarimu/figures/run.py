@@ -104,7 +104,7 @@ class RunSums:
         if rounds is not None:
             # What brings the least task on is counted with the round behind it.
             it.occupancy.end_rounds(rounds.number)
-            it.begun_rounds, it.longest_barren, it.advances = rounds.begun_rounds(), rounds.longest, rounds.advances
+            it.begun_rounds, it.longest_barren, it.advances = rounds.begun_rounds, rounds.longest, rounds.advances
 
     def note_refused(self, told: ToldLine) -> None:
         """Notes an act that was refused, and the instructions of its leg."""

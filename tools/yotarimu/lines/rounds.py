@@ -26,10 +26,9 @@ class Rounds:
         # How many rounds in a row brought no commit by now, and at most; how often the least task was brought on.
         self.barren = self.longest = self.advances = 0
         self.is_brought_on = False
-
-    def begun_rounds(self) -> int:
-        """How many rounds were begun, once an act was told; none begins while the least task is brought on."""
-        return self.number + (not self.is_brought_on)
+        # How many rounds were begun, up to the last act that was told: what brings the least task on begins none, and a
+        # run may end with it.
+        self.begun_rounds = 0
 
     def need(self, line: Dict[str, Any]) -> None:
         """Holds an act that is told against the one that stands there."""
@@ -58,6 +57,7 @@ class Rounds:
         """Holds an act against the one that stands at its place in the round."""
         if self.number >= self.count:
             raise WrongLine(f"act {line['at']} is of no round, as there are {self.count}")
+        self.begun_rounds = self.number + 1
         act: Act = self.acts[line["at"] - self.first]
         if (line["do"], line.get("tile"), line.get("core") if act.core is not None else None) != (
                 act.word, act.tile, act.core):
@@ -67,7 +67,7 @@ class Rounds:
         """Holds an act against those that bring the least task on."""
         if line["at"] != self.first or line["do"] not in BRINGS_ON:
             raise WrongLine(f"act {self.first} brings the least task on, and another one is told")
-        self.first, self.advances = self.first + 1, self.advances + 1
+        self.first, self.advances, self.begun_rounds = self.first + 1, self.advances + 1, self.number
 
     def note_commits(self, commits: int) -> None:
         """Takes how many tasks have committed behind an act: a commit ends the bringing on."""
