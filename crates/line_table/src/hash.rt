@@ -1,7 +1,7 @@
 //! Eight hashes of a line's number, of the class H3 (Carter and Wegman 1979).
 
 ghost use Rattle.std.specs.Prelude.{◌≡◌, ◌<◌};
-ghost use Rattle.line_table.specs.Hash.{mix, mixed_below, hashes};
+ghost use Rattle.line_table.specs.Hash.{mix, hashes};
 
 /// How many bits a line's number has.
 const LINE_BITS: usize = 32;
@@ -56,7 +56,6 @@ fn mix(mixed: u64, line: u32, bit: usize) -> u64
 }
 
 /// The eight hashes of the line's number, of 8 bits each, as one number with the first in its lowest bits.
-#[tactic(auto, using(crate::proofs::Hashes::mixed_more), unfolding(crate::specs::Hash::hashes))]
 pub fn hashes(line: u32) -> u64
     ensures { result ≡ hashes line }
 {

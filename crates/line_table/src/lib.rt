@@ -4,8 +4,9 @@
 //! says neither: it is an ordered map from each line to whether it was written, so a note or an answer costs one
 //! search in it, and only a new line takes memory. `Signature` tells lines apart by their number modulo 1,024
 //! alone: it is two rows of that many bits, so a note or an answer looks at one word or two, two signatures are
-//! compared by at most sixteen pairs of words, and nothing takes memory. It stands on nothing; the machine's tasks
-//! keep a `Signature` each, `spec_rollback` compares them, and the laws of memory hold of any filter.
+//! compared by at most sixteen pairs of words, and nothing takes memory. `Lines` are a filter of one of three kinds, in
+//! two signatures: by lines' numbers modulo 1,024, by eight hashes of them, or by the task's own log where the bits say
+//! yes. It stands on nothing; the machine's tasks keep `Lines` each, and the laws of memory hold of any filter.
 #![tactic(auto)]
 
 mod banks;

@@ -4,7 +4,6 @@ ghost use Rattle.std.specs.Prelude.{◌≡◌, List, [], ◌∷◌, ◌++◌, �
 ghost use Rattle.line_table.specs.declared.lines.FilterKind.{FilterKind};
 ghost use Rattle.line_table.specs.declared.lines.FilterKind.TheVariants.{Modulo, Bloom, Exact};
 ghost use Rattle.line_table.specs.Note.{Note};
-ghost use Rattle.line_table.specs.Signature.{meets_of};
 ghost use Rattle.line_table.specs.Lines.{IsLines, unmarked, may_touch, may_write};
 
 use crate::banks::{mark_banks, touched_in_banks, wrote_in_banks};
@@ -115,19 +114,14 @@ impl Lines {
         }
     }
 
-    /// Whether some bit of a write of the first is one of a touch of the later ones: of the kind `Modulo` the bit of
-    /// a line that the first wrote and the later ones touched, by their answers. It compares at most sixteen pairs of
-    /// words.
-    pub fn shares_bit(&self, later: &Self) -> bool
-        ensures { result ≡ meets_of self.now.near later.now.near }
-    {
-        self.near.meets(&later.near)
-    }
-
     /// Forgets all notes.
+    #[tactic(auto, unfolding(crate::specs::Lines::unmarked))]
     pub fn clear(&mut self)
         ensures { self.new ≡ unmarked }
     {
-        *self = Lines::new();
+        self.kind = FilterKind::Modulo;
+        self.size = 0;
+        self.near.clear();
+        self.far.clear();
     }
 }
