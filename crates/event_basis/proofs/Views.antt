@@ -2,6 +2,7 @@
 use Rattle.std.proofs.Common.{ℕ, ◌≡◌, ◌≢◌, List, refl}
 use Rattle.std.specs.Prelude.{Contains, length}
 use Rattle.guest_image.specs.ImageValue.{ImageValue}
+use Rattle.memory_law.specs.Tasks.{IsByKey}
 use Rattle.run_journal.specs.declared.end.End.TheVariants as ends
 use Rattle.spill_store.specs.SpilledTasks.{Spilled}
 use Rattle.spec_state.specs.declared.task.Creator.{Creator}
@@ -9,8 +10,7 @@ use Rattle.spec_state.specs.declared.task.Creator.TheVariants.{Committed}
 use Rattle.spec_state.specs.declared.task.Status.TheVariants.{Trapped}
 use Rattle.spec_state.specs.declared.task.Task.{Task}
 use Rattle.spec_state.specs.View.{View, block_at}
-use Rattle.spec_state.specs.Aborts.{NotedByKey}
-use Rattle.spec_state.specs.Groups.{all_spilled}
+use Rattle.spec_state.specs.Groups.{all_spilled, logged_tasks}
 use Rattle.spec_state.specs.Least.{HasName, IsLeastTask}
 use Rattle.spec_state.specs.Numbers.{IsInUse, IsPathsOrTasks}
 use Rattle.event_def.specs.End.{HasEnd}
@@ -18,12 +18,10 @@ use Rattle.spec_law.specs.Sound.{Sound}
 use Rattle.spec_law.proofs.Proved.{contains_get, get_contains, least_is_next, numbers_are_held, place_in_all}
 use Rattle.spec_law.proofs.Proved.{spilled_are_firm}
 
--- its dispatched tasks, in order of their keys, with the notes that filters have of their logs
-pub sound_by_key : (image : ImageValue) (view : View) → Sound image view → (ids : List ℕ) × NotedByKey view ids
-sound_by_key image view sound = (
-  sound.memory.chained.ids,
-  record { by_key = sound.memory.chained.by_key; noted = sound.memory.noted },
-)
+-- its dispatched tasks, in order of their keys
+pub sound_by_key : (image : ImageValue) (view : View) → Sound image view
+    → (ids : List ℕ) × IsByKey (logged_tasks view) ids
+sound_by_key image view sound = (sound.memory.chained.ids, sound.memory.chained.by_key)
 
 -- a number in use is the path's or a task's own
 pub sound_numbers : (image : ImageValue) (view : View) → Sound image view → (number : ℕ) → IsInUse view number

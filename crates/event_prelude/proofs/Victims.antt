@@ -3,13 +3,14 @@ use Rattle.std.proofs.Common.{ℕ, ◌≡◌, inl, inr, Bool, false, List, Some,
 use Rattle.std.specs.declared.option.Option.{Option}
 use Rattle.std.specs.Prelude.{◌↔◌, IfSome, IsSome, IsTrue, is_some}
 use Rattle.guest_image.specs.ImageValue.{ImageValue}
+use Rattle.memory_law.specs.Tasks.{IsByKey}
 use Rattle.spec_state.specs.declared.effect.TakenTask.{TakenTask}
 use Rattle.spec_state.specs.declared.task.Task.{Task}
 use Rattle.spec_state.specs.declared.task.TaskId.{TaskId}
 use Rattle.spec_state.specs.View.{View, task_at}
-use Rattle.spec_state.specs.Aborts.{Aborts, NotedByKey, OnlyNode}
+use Rattle.spec_state.specs.Aborts.{Aborts, OnlyNode}
 use Rattle.spec_state.specs.Effects.{EffectValue, nothing}
-use Rattle.spec_state.specs.Groups.{live_creator}
+use Rattle.spec_state.specs.Groups.{logged_tasks, live_creator}
 use Rattle.spec_state.specs.Least.{IsFirm}
 use Rattle.spec_state.specs.Queries.{IsIdleFirm}
 use Rattle.spec_state.specs.Room.{Asker, Coalesces, QueueHasRoom, IsFull, IsLeastAsker, IsMovable, IsVictim}
@@ -40,7 +41,7 @@ AbortsTold id old aborted new told =
 
 -- in a sound view the logged tasks have an order by key, so what is an abort given one is an abort
 pub aborted_one : (image : ImageValue) (old new : View) (id aborted : ℕ) (told : List TakenTask) → Sound image old
-    → ((ids : List ℕ) → NotedByKey old ids → AbortsTold id old aborted new told)
+    → ((ids : List ℕ) → IsByKey (logged_tasks old) ids → AbortsTold id old aborted new told)
     → AbortsTold id old aborted new told
 aborted_one image old new id aborted told sound aborts =
     let by_key = sound_by_key image old sound in aborts by_key.0 by_key.1

@@ -12,9 +12,11 @@ use Rattle.spec_state.specs.StateValue.{StateValue, CoversLog, CoversChild}
 use Rattle.spec_state.specs.Changes.{LoadsFrom, StoresTo}
 use Rattle.spec_state.specs.Effects.{EffectValue, nothing}
 use Rattle.spec_access.specs.Asking.{Asks, OfTaker}
-use Rattle.spec_state.specs.Aborts.{Aborts, NotedByKey}
+use Rattle.spec_state.specs.Aborts.{Aborts}
+use Rattle.spec_state.specs.Groups.{logged_tasks}
 use Rattle.spec_state.specs.Queries.{Conflicts}
 use Rattle.spec_state.specs.Told.{TellsBack}
+use Rattle.memory_law.specs.Tasks.{IsByKey}
 use Rattle.spec_law.specs.Sound.{Sound}
 use Rattle.event_basis.specs.Forcing.{TakesStill}
 use Rattle.event_basis.proofs.Proved.{sound_by_key}
@@ -63,13 +65,13 @@ LineTelling old line write aborted new effect task =
 pub conflicts_taken : (image : ImageValue) (old new : View) (effect : EffectValue) (id line offset aborted : ℕ)
     (write : Bool) (task : Task)
     → Sound image old → task_at old id ≡ Some task → line ≡ offset / old.settings.line
-    → IfSome (task_at old id) (λ t. (ids : List ℕ) → NotedByKey old ids
+    → IfSome (task_at old id) (λ t. (ids : List ℕ) → IsByKey (logged_tasks old) ids
     → LineTelling old line write aborted new effect t)
     → effect ≡ record nothing { back = effect.back }
     → TakesTelling task offset write old aborted new effect
 conflicts_taken image old new effect id line offset aborted write task sound there line_is aborts alone =
     let by_key = sound_by_key image old sound in
-    let taken = subst (λ (o : Option Task). IfSome o (λ t. (ids : List ℕ) → NotedByKey old ids
+    let taken = subst (λ (o : Option Task). IfSome o (λ t. (ids : List ℕ) → IsByKey (logged_tasks old) ids
     → LineTelling old line write aborted new effect t))
     there aborts in
     let told = subst (λ n. LineTelling old n write aborted new effect task) line_is (taken by_key.0 by_key.1) in (

@@ -4,6 +4,7 @@ use Rattle.std.specs.Prelude.{IfSome, IsTrue, ◌↔◌}
 use Rattle.std.specs.declared.cmp.Ordering.TheVariants.{Less}
 use Rattle.fractal_vt.specs.Keys.{key_cmp}
 use Rattle.guest_image.specs.ImageValue.{ImageValue}
+use Rattle.memory_law.specs.Tasks.{IsByKey}
 use Rattle.place_policy.specs.Policy.{Policy}
 use Rattle.trace_tap.specs.declared.record.Deed.TheVariants.{Call}
 use Rattle.trace_tap.specs.declared.record.Record.{Record}
@@ -14,8 +15,9 @@ use Rattle.spec_state.specs.declared.task.Task.{Task}
 use Rattle.spec_state.specs.Effects.{EffectValue, nothing}
 use Rattle.spec_state.specs.Told.{TellsBack}
 use Rattle.spec_state.specs.View.{View, task_at, finished_at}
-use Rattle.spec_state.specs.Aborts.{Aborts, NotedByKey, OnlyNode}
+use Rattle.spec_state.specs.Aborts.{Aborts, OnlyNode}
 use Rattle.spec_state.specs.Changes.{TakesLeg, Finishes}
+use Rattle.spec_state.specs.Groups.{logged_tasks}
 use Rattle.spec_state.specs.Queries.{IsFinished, IsLatestFinished}
 use Rattle.spec_access.specs.Asking.{Asks, CommitQueueHasRoom}
 use Rattle.spec_law.specs.Sound.{Sound}
@@ -72,7 +74,7 @@ none_later view tile v x (Some task) told latest is told_so =
 module _ (image : ImageValue) (old : View) (tile core id : ℕ) (leg : LegValue) (task : Task) (sound : Sound image old)
     (takes : TakesLeg old tile core leg id task) (v aborted : ℕ) (mid : View) (effect : EffectValue)
     (full : IsCommitFull old tile) (later : HasLater old tile v task)
-    (aborts : (ids : List ℕ) → NotedByKey old ids
+    (aborts : (ids : List ℕ) → IsByKey (logged_tasks old) ids
     → (a : Aborts (OnlyNode v) old aborted mid) × TellsBack old a.marks effect.back)
     (alone : effect ≡ record nothing { back = effect.back }) where
   -- a place is freed by the latest task of the queue, which is later, and what is taken back for it is told

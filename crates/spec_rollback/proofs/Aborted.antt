@@ -12,7 +12,7 @@ use Rattle.spec_state.specs.View.{View, task_at}
 use Rattle.spec_state.specs.Groups.{logged_tasks, live_creator}
 use Rattle.spec_state.specs.Stored.{IsStored}
 use Rattle.spec_state.specs.Tasks.{idle_again}
-use Rattle.spec_state.specs.Aborts.{is_marked, is_marked_creator, taken_back, freed_core, Aborts, NotedByKey}
+use Rattle.spec_state.specs.Aborts.{is_marked, is_marked_creator, taken_back, freed_core, Aborts}
 use Rattle.spec_state.specs.Queries.{Conflicts}
 use Rattle.spec_rollback.specs.Marking.{FindsConflicts}
 use Rattle.spec_rollback.specs.Pulled.{pull_in}
@@ -77,26 +77,22 @@ one_freed marks None = refl
 one_freed marks (Some id) = refl
 
 module _ (firsts : ℕ → Type 0) (old : View) (marks : List Bool) (found : ℕ) (size : length old.tasks ≤ length marks)
-    (least : IsLeastClosed (length marks) (pull_in old.settings old.tasks) firsts marks)
+    (least : IsLeastClosed (length marks) (pull_in old.settings.line old.tasks) firsts marks)
     (counted : found ≡ count_by (λ mark. mark) marks) where
   pub aborts_by : (memory : List ℕ) (new : View)
       → TakesThese marks (is_marked marks) (record old { memory = memory }) new
-      → (ids : List ℕ) → NotedByKey old ids
+      → (ids : List ℕ) → IsByKey (logged_tasks old) ids
       → memory ≡ undone_set (is_marked marks) (logged_tasks old) ids old.memory
       → Aborts firsts old found new
-  aborts_by memory new takes ids noted undone =
+  aborts_by memory new takes ids by_key undone =
       let kept : new.memory ≡ memory = ap (λ (v : View). v.memory) takes.frame in
       record {
         marks = marks;
-        cascade = record {
-          pull = pull_in old.settings old.tasks;
-          pulls = pull_is old noted.noted;
-          size = size;
-          least = least;
-        };
+        cascade =
+            record { pull = pull_in old.settings.line old.tasks; pulls = pull_is old; size = size; least = least };
         counted = counted;
         each = λ id. takes.each id ∙ one_taken old.version marks id (task_at old id);
-        memory = record { ids = ids; by_key = noted.by_key; memory_is = kept ∙ undone };
+        memory = record { ids = ids; by_key = by_key; memory_is = kept ∙ undone };
         queues = takes.queues;
         finished = takes.finished;
         cores =
@@ -112,19 +108,19 @@ module _ (firsts : ℕ → Type 0) (old : View) (marks : List Bool) (found : ℕ
 
 -- the same over the view between
 pub aborts_from : (firsts : ℕ → Type 0) (old mid new : View) (marks : List Bool) (found : ℕ)
-    → length old.tasks ≤ length marks → IsLeastClosed (length marks) (pull_in old.settings old.tasks) firsts marks
+    → length old.tasks ≤ length marks → IsLeastClosed (length marks) (pull_in old.settings.line old.tasks) firsts marks
     → found ≡ count_by (λ mark. mark) marks → mid ≡ record old { memory = mid.memory }
     → TakesThese marks (is_marked marks) mid new
     → ((ids : List ℕ) → IsByKey (logged_tasks old) ids
     → mid.memory ≡ undone_set (is_marked marks) (logged_tasks old) ids old.memory)
-    → (ids : List ℕ) → NotedByKey old ids → Aborts firsts old found new
-aborts_from firsts old mid new marks found size least counted rest takes undone ids noted =
+    → (ids : List ℕ) → IsByKey (logged_tasks old) ids → Aborts firsts old found new
+aborts_from firsts old mid new marks found size least counted rest takes undone ids by_key =
     aborts_by firsts old marks found size least counted mid.memory new
-    (subst (λ v. TakesThese marks (is_marked marks) v new) rest takes) ids noted (undone ids noted.by_key)
+    (subst (λ v. TakesThese marks (is_marked marks) v new) rest takes) ids by_key (undone ids by_key)
 
 -- the members of a cascade of tasks that are there are there
 pub members_there : (old mid : View) (firsts marks : List Bool) (count : ℕ) → mid ≡ record old { memory = mid.memory }
-    → IsLeastClosed count (pull_in old.settings old.tasks) (Marked firsts) marks
+    → IsLeastClosed count (pull_in old.settings.line old.tasks) (Marked firsts) marks
     → ((id : ℕ) → Marked firsts id → IsSome (task_at old id)) → (id : ℕ) → Marked marks id → IsSome (task_at mid id)
 members_there old mid firsts marks count rest least there id marked =
     subst (λ (v : View). IsSome (task_at v id)) (sym rest)
@@ -140,10 +136,10 @@ off_marks n id = elim (cases_lt id n) [
 
 nothing_by : (size : ℕ) (view : View) → IsStored size view → (firsts : ℕ → Type 0) → ((id : ℕ) → firsts id → ⊥)
     → (marks : List Bool) → length view.tasks ≤ length marks
-    → ((id : ℕ) → is_marked marks id ≡ false) → (ids : List ℕ) → NotedByKey view ids
+    → ((id : ℕ) → is_marked marks id ≡ false) → (ids : List ℕ) → IsByKey (logged_tasks view) ids
     → Aborts firsts view 0 view
 nothing_by size view stored firsts none marks long off ids by_key =
-    let least : IsLeastClosed (length marks) (pull_in view.settings view.tasks) firsts marks = record {
+    let least : IsLeastClosed (length marks) (pull_in view.settings.line view.tasks) firsts marks = record {
       holds = λ id is. absurd (none id is);
       closed = λ a b in_a in_b pulled marked. absurd (cc (marked, off a));
       reached = λ id marked. absurd (cc (marked, off id));
@@ -156,7 +152,7 @@ nothing_by size view stored firsts none marks long off ids by_key =
 
 -- where there is no first task nothing is taken back
 pub nothing_aborted : (size : ℕ) (view : View) → IsStored size view → (firsts : ℕ → Type 0)
-    → ((id : ℕ) → firsts id → ⊥) → (ids : List ℕ) → NotedByKey view ids → Aborts firsts view 0 view
+    → ((id : ℕ) → firsts id → ⊥) → (ids : List ℕ) → IsByKey (logged_tasks view) ids → Aborts firsts view 0 view
 nothing_aborted size view stored firsts none =
     let marks = replicate (length view.tasks) false in
     nothing_by size view stored firsts none marks
@@ -165,23 +161,23 @@ nothing_aborted size view stored firsts none =
 -- where the task of this id is there, the cascades of the first tasks that it gives are taken back
 abbrev AbortsFor : (Task → ℕ → Type 0) → View → View → ℕ → ℕ → Type 0
 AbortsFor firsts old new aborted id = IfSome (task_at old id)
-    (λ t. (ids : List ℕ) → NotedByKey old ids → Aborts (firsts t) old aborted new)
+    (λ t. (ids : List ℕ) → IsByKey (logged_tasks old) ids → Aborts (firsts t) old aborted new)
 
 -- what was found conflicts, and was taken back
 pub conflicts_aborted : (old mid new : View) (aborted line : ℕ) (write found : Bool) (marks : List Bool) (id : ℕ)
     → mid ≡ old → found ≡ true
     → IfSome (task_at old id) (λ t. FindsConflicts old t line write found marks)
-    → ((ids : List ℕ) → NotedByKey mid ids → Aborts (Marked marks) mid aborted new)
+    → ((ids : List ℕ) → IsByKey (logged_tasks mid) ids → Aborts (Marked marks) mid aborted new)
     → AbortsFor (λ t. Conflicts old t line write) old new aborted id
 conflicts_aborted old mid new aborted line write found marks id same is finds aborts = by_slot (task_at old id) finds
   where
     by_slot : (slot : Option Task) → IfSome slot (λ t. FindsConflicts old t line write found marks)
-        → IfSome slot (λ t. (ids : List ℕ) → NotedByKey old ids
+        → IfSome slot (λ t. (ids : List ℕ) → IsByKey (logged_tasks old) ids
         → Aborts (Conflicts old t line write) old aborted new)
     by_slot None finds = tt
     by_slot (Some t) finds = λ ids by_key.
         aborts_of (Marked marks) (Conflicts old t line write) old aborted new (finds.some is)
-        (subst (λ (v : View). (ids : List ℕ) → NotedByKey v ids → Aborts (Marked marks) v aborted new) same
+        (subst (λ (v : View). (ids : List ℕ) → IsByKey (logged_tasks v) ids → Aborts (Marked marks) v aborted new) same
         aborts ids by_key)
 
 -- none was found
@@ -193,7 +189,7 @@ no_conflict_aborted size old new line write found marks id stored same is finds 
   where
     by_slot : (slot : Option Task) → IfSome slot (λ t. FindsConflicts old t line write found marks)
         → IfSome slot
-        (λ t. (ids : List ℕ) → NotedByKey old ids → Aborts (Conflicts old t line write) old 0 new)
+        (λ t. (ids : List ℕ) → IsByKey (logged_tasks old) ids → Aborts (Conflicts old t line write) old 0 new)
     by_slot None finds = tt
     by_slot (Some t) finds = λ ids by_key.
         subst (Aborts (Conflicts old t line write) old 0) (sym same)
@@ -213,19 +209,19 @@ telling_of firsts others old aborted told new same (aborts, tells) =
     (aborts_of firsts others old aborted new same aborts, tells)
 
 pub telling_from : (firsts : ℕ → Type 0) (old mid new : View) (marks : List Bool) (found : ℕ) (told : List TakenTask)
-    → length old.tasks ≤ length marks → IsLeastClosed (length marks) (pull_in old.settings old.tasks) firsts marks
+    → length old.tasks ≤ length marks → IsLeastClosed (length marks) (pull_in old.settings.line old.tasks) firsts marks
     → found ≡ count_by (λ mark. mark) marks → mid ≡ record old { memory = mid.memory }
     → TakesThese marks (is_marked marks) mid new
     → ((ids : List ℕ) → IsByKey (logged_tasks old) ids
     → mid.memory ≡ undone_set (is_marked marks) (logged_tasks old) ids old.memory)
     → TellsBack old marks told
-    → (ids : List ℕ) → NotedByKey old ids → AbortsTelling firsts old found told new
+    → (ids : List ℕ) → IsByKey (logged_tasks old) ids → AbortsTelling firsts old found told new
 unfolding aborts_by aborts_from
 telling_from firsts old mid new marks found told size least counted rest takes undone tells ids by_key =
     (aborts_from firsts old mid new marks found size least counted rest takes undone ids by_key, tells)
 
 pub nothing_told : (size : ℕ) (view : View) → IsStored size view → (firsts : ℕ → Type 0)
-    → ((id : ℕ) → firsts id → ⊥) → (ids : List ℕ) → NotedByKey view ids → AbortsTelling firsts view 0 [] view
+    → ((id : ℕ) → firsts id → ⊥) → (ids : List ℕ) → IsByKey (logged_tasks view) ids → AbortsTelling firsts view 0 [] view
 unfolding aborts_by nothing_by nothing_aborted
 nothing_told size view stored firsts none ids by_key = (
   nothing_aborted size view stored firsts none ids by_key,
@@ -236,23 +232,23 @@ nothing_told size view stored firsts none ids by_key = (
 -- where the task of this id is there, the cascades of the first tasks that it gives are taken back, and are told
 abbrev TellsFor : (Task → ℕ → Type 0) → View → View → ℕ → List TakenTask → ℕ → Type 0
 TellsFor firsts old new aborted told id = IfSome (task_at old id)
-    (λ t. (ids : List ℕ) → NotedByKey old ids → AbortsTelling (firsts t) old aborted told new)
+    (λ t. (ids : List ℕ) → IsByKey (logged_tasks old) ids → AbortsTelling (firsts t) old aborted told new)
 
 pub conflicts_told : (old mid new : View) (aborted : ℕ) (told : List TakenTask) (line : ℕ) (write found : Bool)
     (marks : List Bool) (id : ℕ) → mid ≡ old → found ≡ true
     → IfSome (task_at old id) (λ t. FindsConflicts old t line write found marks)
-    → ((ids : List ℕ) → NotedByKey mid ids → AbortsTelling (Marked marks) mid aborted told new)
+    → ((ids : List ℕ) → IsByKey (logged_tasks mid) ids → AbortsTelling (Marked marks) mid aborted told new)
     → TellsFor (λ t. Conflicts old t line write) old new aborted told id
 conflicts_told old mid new aborted told line write found marks id same is finds aborts =
     by_slot (task_at old id) finds
   where
     by_slot : (slot : Option Task) → IfSome slot (λ t. FindsConflicts old t line write found marks)
-        → IfSome slot (λ t. (ids : List ℕ) → NotedByKey old ids
+        → IfSome slot (λ t. (ids : List ℕ) → IsByKey (logged_tasks old) ids
         → AbortsTelling (Conflicts old t line write) old aborted told new)
     by_slot None finds = tt
     by_slot (Some t) finds = λ ids by_key.
         telling_of (Marked marks) (Conflicts old t line write) old aborted told new (finds.some is)
-        (subst (λ (v : View). (ids : List ℕ) → NotedByKey v ids
+        (subst (λ (v : View). (ids : List ℕ) → IsByKey (logged_tasks v) ids
         → AbortsTelling (Marked marks) v aborted told new) same aborts ids by_key)
 
 pub no_conflict_told : (size : ℕ) (old new : View) (line : ℕ) (write found : Bool) (marks : List Bool) (id : ℕ)
@@ -262,7 +258,7 @@ pub no_conflict_told : (size : ℕ) (old new : View) (line : ℕ) (write found :
 no_conflict_told size old new line write found marks id stored same is finds = by_slot (task_at old id) finds
   where
     by_slot : (slot : Option Task) → IfSome slot (λ t. FindsConflicts old t line write found marks)
-        → IfSome slot (λ t. (ids : List ℕ) → NotedByKey old ids
+        → IfSome slot (λ t. (ids : List ℕ) → IsByKey (logged_tasks old) ids
         → AbortsTelling (Conflicts old t line write) old 0 [] new)
     by_slot None finds = tt
     by_slot (Some t) finds = λ ids by_key.

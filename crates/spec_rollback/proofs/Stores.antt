@@ -1,21 +1,15 @@
--- Whether a filter tells a line to which a log has a store: by the log, and of the kind Modulo by the bits.
+-- Whether a filter tells a line to which a log has a store.
 use Rattle.std.proofs.Common.{◌≡◌, ◌==◌, ◌&&◌, ◌||◌, ◌↔◌, ◌/◌, ℕ, Bool, true, List, [], ◌∷◌, is_some, refl, sym}
 use Rattle.std.proofs.Common.{ap, ◌∙◌}
 use Rattle.std.specs.List.{list_any}
 use Rattle.std.proofs.lemmas.Bool.{and_from, and_parts, eq-eqb, eqb-true}
 use Rattle.std.proofs.lemmas.List.Folds.{Any-from_list_any, list_any-from_Any}
-use Rattle.line_table.specs.declared.lines.FilterKind.{FilterKind}
-use Rattle.line_table.specs.declared.lines.FilterKind.TheVariants.{Modulo, Bloom, Exact}
 use Rattle.line_table.specs.Note.{Note, Meet, wrote_in}
-use Rattle.line_table.specs.Lines.{IsLines, touched_by}
-use Rattle.line_table.proofs.Proved.{bits_meet_modulo}
 use Rattle.memory_law.specs.Notes.{notes_of}
 use Rattle.undo_log.specs.declared.access.Access.{Access}
-use Rattle.spec_state.specs.declared.settings.Settings.{Settings}
 use Rattle.spec_state.specs.declared.task.Task.{Task}
-use Rattle.spec_state.specs.Filters.{HasNotes, has_stored, has_touched}
-use Rattle.spec_state.proofs.Proved.{told_touched}
-use Rattle.spec_rollback.specs.Pulled.{tells_store, tells_stored}
+use Rattle.spec_state.specs.Filters.{has_stored, has_touched}
+use Rattle.spec_rollback.specs.Pulled.{tells_store}
 
 -- some note of a store is of a line that passes exactly where some line was noted with a write and passes
 module _ (test : ℕ → Bool) (notes : List Note) where
@@ -52,30 +46,10 @@ module _ (test : ℕ → Bool) (notes : List Note) where
   by_notes : (list_any (λ (note : Note). note.write && test note.line) notes ≡ true) ↔ Meet (wrote_in notes) test
   by_notes = (some_noted test notes, noted_some test notes)
 
--- what is noted of two tasks tells by either way whether the second one's filter tells a store of the first
-module _ (size : ℕ) (writer reader : Task) where
-  told_is : (kind : FilterKind) → IsLines kind size writer.lines (notes_of size writer.log)
-      → IsLines kind size reader.lines (notes_of size reader.log)
-      → ((line : ℕ) → has_touched reader line ≡ touched_by reader.lines (notes_of size reader.log) line)
-      → (tells_stored kind size writer reader ≡ true) ↔ Meet (has_stored size writer) (has_touched reader)
-  told_is Modulo first second told =
-      let both = bits_meet_modulo size writer.lines reader.lines (notes_of size writer.log) (notes_of size reader.log)
-      first second in (
-        λ bits. let meet = both.0 bits in (meet.0, meet.1, told meet.0 ∙ meet.2),
-        λ meet. both.1 (meet.0, meet.1, sym (told meet.0) ∙ meet.2),
-      )
-  told_is Bloom first second told =
-      by_notes (has_touched reader) (notes_of size writer.log)
-  told_is Exact first second told =
-      by_notes (has_touched reader) (notes_of size writer.log)
-
-pub tells_is : (settings : Settings) (writer reader : Task) → HasNotes settings writer.lines writer.log
-    → HasNotes settings reader.lines reader.log
-    → (tells_stored settings.filter settings.line writer reader ≡ true)
-    ↔ Meet (has_stored settings.line writer) (has_touched reader)
-tells_is settings writer reader first second =
-    told_is settings.line writer reader settings.filter first second
-    (λ line. told_touched settings reader line second)
+-- the filter of the second task tells a store of the first exactly where some line has one and is told
+pub tells_is : (size : ℕ) (writer reader : Task)
+    → (tells_store size writer.log reader ≡ true) ↔ Meet (has_stored size writer) (has_touched reader)
+tells_is size writer reader = by_notes (has_touched reader) (notes_of size writer.log)
 
 -- the log itself is looked at
 pub any_told : (size : ℕ) (reader : Task) (log : List Access)

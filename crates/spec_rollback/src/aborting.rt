@@ -2,8 +2,10 @@
 
 ghost use Rattle.std.specs.Prelude.{◌≡◌, ℕ, List, IsSome, IfSome};
 ghost use Rattle.abort_cascade.specs.Cascade.{Marked};
+ghost use Rattle.memory_law.specs.Tasks.{IsByKey};
 ghost use Rattle.spec_state.specs.View.{task_at};
-ghost use Rattle.spec_state.specs.Aborts.{Aborts, NotedByKey, OnlyNode};
+ghost use Rattle.spec_state.specs.Groups.{logged_tasks};
+ghost use Rattle.spec_state.specs.Aborts.{Aborts, OnlyNode};
 ghost use Rattle.spec_state.specs.Effects.{nothing};
 ghost use Rattle.spec_state.specs.Queries.{Conflicts};
 ghost use Rattle.spec_state.specs.Told.{TellsBack};
@@ -20,10 +22,10 @@ use spec_state::{State, TaskId};
 pub fn abort<N: Naming>(state: &mut State<N>, task: TaskId) -> u32
     requires live { IsSome (task_at state.old.view task.0) }
 
-    // The dispatched tasks of a sound state have an order by key, and each filter has the notes of its log.
+    // The dispatched tasks of a sound state have an order by key.
     ensures aborts { let old = state.old.view in
         let new = state.new.view in
-        (ids : List ℕ) → NotedByKey old ids
+        (ids : List ℕ) → IsByKey (logged_tasks old) ids
         → (a : Aborts (OnlyNode task.0) old result new) × TellsBack old a.marks state.new.effect.back }
     ensures effect { state.new.effect ≡ record nothing { back = state.new.effect.back } }
     ensures spare { state.new.spare ≡ state.old.spare }
@@ -38,7 +40,7 @@ pub fn abort_conflicts<N: Naming>(state: &mut State<N>, task: TaskId, line: u32,
     requires live { IsSome (task_at state.old.view task.0) }
     ensures aborts { let old = state.old.view in
         let new = state.new.view in
-        IfSome (task_at old task.0) (λ t. (ids : List ℕ) → NotedByKey old ids
+        IfSome (task_at old task.0) (λ t. (ids : List ℕ) → IsByKey (logged_tasks old) ids
         → (a : Aborts (Conflicts old t line write) old result new) × TellsBack old a.marks state.new.effect.back) }
     ensures effect { state.new.effect ≡ record nothing { back = state.new.effect.back } }
     ensures spare { state.new.spare ≡ state.old.spare }
@@ -58,7 +60,7 @@ fn abort_marked<N: Naming>(state: &mut State<N>) -> u32
         (id : ℕ) → Marked old.scratch.marks id → IsSome (task_at old.view id) }
     ensures aborts { let firsts = Marked state.old.scratch.marks in
         let old = state.old.view in
-        (ids : List ℕ) → NotedByKey old ids
+        (ids : List ℕ) → IsByKey (logged_tasks old) ids
         → (a : Aborts firsts old result state.new.view) × TellsBack old a.marks state.new.effect.back }
     ensures effect { state.new.effect ≡ record nothing { back = state.new.effect.back } }
     ensures spare { state.new.spare ≡ state.old.spare }

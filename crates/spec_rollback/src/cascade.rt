@@ -4,22 +4,20 @@ ghost use Rattle.std.specs.Prelude.{◌≡◌, ◌≤◌, ℕ, IsSome, option_co
 ghost use Rattle.abort_cascade.specs.Cascade.{Marked, IsLeastClosed};
 ghost use Rattle.spec_state.specs.View.{task_at};
 ghost use Rattle.spec_state.specs.Groups.{live_creator};
-ghost use Rattle.spec_rollback.specs.Pulled.{is_creator, tells_store, tells_stored, reads_from, reads_from_some};
-ghost use Rattle.spec_rollback.specs.Pulled.{pull_in};
+ghost use Rattle.spec_rollback.specs.Pulled.{is_creator, tells_store, reads_from, reads_from_some, pull_in};
 ghost use Rattle.spec_rollback.specs.Pulled.{ListsMarked};
 
 use abort_cascade::{Pulls, close};
 use fractal_vt::cmp;
 use kept_slab::KeptSlab;
-use line_table::FilterKind;
 use rv_core::Naming;
-use spec_state::{Creator, Settings, State, Task, line_of};
+use spec_state::{Creator, State, Task, line_of};
 use undo_log::Access;
 
-/// Of the tasks of a slab, which are taken back with one, by these settings.
+/// Of the tasks of a slab, which are taken back with one, where a line has `size` bytes.
 #[derive(Drop)]
 struct Cascade<'a> {
-    settings: Settings,
+    size: u32,
     tasks: &'a KeptSlab<Task>,
 }
 
@@ -42,35 +40,24 @@ fn tells_store(log: &[Access], size: u32, reader: &Task) -> bool
     })
 }
 
-/// The same of the log of the first, by these settings. Of the kind `Modulo` it is so exactly where the writes of the
-/// first and the touches of the second have a bit in common, so that sixteen pairs of words tell it.
-fn tells_stored(settings: &Settings, writer: &Task, reader: &Task) -> bool
-    ensures { let s = settings.now in result ≡ tells_stored s.filter s.line writer.now reader.now }
-{
-    match settings.filter {
-        FilterKind::Modulo => writer.lines.shares_bit(&reader.lines),
-        FilterKind::Bloom => tells_store(writer.log.accesses(), settings.line, reader),
-        FilterKind::Exact => tells_store(writer.log.accesses(), settings.line, reader),
-    }
-}
-
-/// Whether both are dispatched, and the second is later and its filter tells a line to which the first stored.
-fn reads_from(settings: &Settings, writer: &Task, reader: &Task) -> bool
-    ensures { result ≡ reads_from settings.now writer.now reader.now }
+/// Whether both are dispatched, and the second is later and its filter tells a line to which the first stored. The
+/// log comes last, since it may be long.
+fn reads_from(size: u32, writer: &Task, reader: &Task) -> bool
+    ensures { result ≡ reads_from size writer.now reader.now }
 {
     writer.key.tb.is_some()
         && reader.key.tb.is_some()
-        && tells_stored(settings, writer, reader)
         && cmp(&writer.key, &reader.key).is_lt()
+        && tells_store(writer.log.accesses(), size, reader)
 }
 
 /// The same, where there is a first task.
-fn reads_from_some(settings: &Settings, writer: Option<&Task>, reader: &Task) -> bool
-    ensures { result ≡ reads_from_some settings.now (option_copied writer.entry) reader.now }
+fn reads_from_some(size: u32, writer: Option<&Task>, reader: &Task) -> bool
+    ensures { result ≡ reads_from_some size (option_copied writer.entry) reader.now }
 {
     match writer {
         None => false,
-        Some(writer) => reads_from(settings, writer, reader),
+        Some(writer) => reads_from(size, writer, reader),
     }
 }
 
@@ -79,7 +66,7 @@ impl Pulls for Cascade<'_> {
 
     ghost count = { λ cascade. cascade.tasks.now.capacity };
 
-    ghost pull = { λ cascade. pull_in cascade.settings cascade.tasks.now.slots };
+    ghost pull = { λ cascade. pull_in cascade.size cascade.tasks.now.slots };
 
     fn len(&self) -> usize {
         self.tasks.capacity()
@@ -89,7 +76,7 @@ impl Pulls for Cascade<'_> {
         match self.tasks.get(b) {
             None => false,
             Some(second) => {
-                is_made_by(second, a) || reads_from_some(&self.settings, self.tasks.get(a), second)
+                is_made_by(second, a) || reads_from_some(self.size, self.tasks.get(a), second)
             }
         }
     }
@@ -102,7 +89,7 @@ pub(crate) fn close_marks<N: Naming>(state: &mut State<N>) -> usize
         (id : ℕ) → Marked old.scratch.marks id → IsSome (task_at old.view id) }
     ensures size { length state.old.view.tasks ≤ length state.new.scratch.marks }
     ensures least { let marks = state.new.scratch.marks in
-        let pull = pull_in state.old.view.settings state.old.view.tasks in
+        let pull = pull_in state.old.view.settings.line state.old.view.tasks in
         IsLeastClosed (length marks) pull (Marked state.old.scratch.marks) marks }
     ensures listed { ListsMarked state.new.scratch result }
     ensures few { result ≤ 4096 }
@@ -112,7 +99,7 @@ pub(crate) fn close_marks<N: Naming>(state: &mut State<N>) -> usize
     // Each id is below the number of slots, and there are as many marks.
     let _slots = state.tasks.capacity();
     let cascade = Cascade {
-        settings: state.settings,
+        size: state.settings.line,
         tasks: &state.tasks,
     };
     close(

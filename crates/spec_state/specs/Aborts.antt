@@ -8,7 +8,7 @@ use Rattle.memory_law.specs.Tasks.{IsByKey, undone_set}
 use Rattle.task_law.specs.Room.{queue_after}
 use Rattle.spec_state.specs.declared.task.Task.{Task}
 use Rattle.spec_state.specs.View.{View, task_at}
-use Rattle.spec_state.specs.Filters.{HasNotes, has_stored, has_touched}
+use Rattle.spec_state.specs.Filters.{has_stored, has_touched}
 use Rattle.spec_state.specs.Tasks.{is_dispatched, idle_again}
 use Rattle.spec_state.specs.Groups.{logged_tasks, room_tasks, live_creator}
 use Rattle.spec_state.specs.Queries.{IsLater}
@@ -28,11 +28,6 @@ pub record ReadsFrom (view : View) (a b : ℕ) : Type 0 where
   pub reader : Task
   pub later : IsLater view writer b reader
   pub meets : Meet (has_stored view.settings.line writer) (has_touched reader)
-
--- these are the dispatched tasks by rising key, and each task's filter has the notes of its log
-pub record NotedByKey (view : View) (ids : List ℕ) : Type 0 where
-  pub by_key : IsByKey (logged_tasks view) ids
-  pub noted : (id : ℕ) (task : Task) → task_at view id ≡ Some task → HasNotes view.settings task.lines task.log
 
 -- what is taken back with a task: its children, and the later tasks that may have seen what it wrote
 abbrev pub PullsInView : View → ℕ → ℕ → Type 0

@@ -1,6 +1,6 @@
 -- The lines that a task touched and wrote, by its filter. Here alone it is said which filter that is: the one that the
 -- settings name. It tells lines apart by their numbers modulo 1,024, by eight hashes of them, or one from every other,
--- for which it asks the task's own log. It is known also where filters meet (`Pulled` of spec_rollback), and in code.
+-- for which it asks the task's own log. Besides, the code alone knows it.
 use Rattle.std.specs.Prelude.{ℕ, Bool, List}
 use Rattle.line_table.specs.Note.{wrote_in}
 use Rattle.line_table.specs.Lines.{IsLines, touched_by, wrote_by}

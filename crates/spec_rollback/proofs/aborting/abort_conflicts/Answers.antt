@@ -1,9 +1,10 @@
 use Rattle.std.proofs.Common.{sym, ap, subst, ◌∙◌, ℕ, List}
 use Rattle.std.specs.Prelude.{IfSome}
+use Rattle.memory_law.specs.Tasks.{IsByKey}
 use Rattle.spec_state.specs.declared.effect.TakenTask.{TakenTask}
 use Rattle.spec_state.specs.Effects.{EffectValue}
 use Rattle.spec_state.specs.View.{task_at}
-use Rattle.spec_state.specs.Aborts.{NotedByKey}
+use Rattle.spec_state.specs.Groups.{logged_tasks}
 use Rattle.spec_state.specs.Queries.{Conflicts}
 use Rattle.spec_rollback.proofs.Aborted.{AbortsTelling, conflicts_told, no_conflict_told}
 use Rattle.spec_rollback.proofs.aborting.abort_conflicts.Goals as goal
@@ -18,7 +19,7 @@ returns-then-mark_conflicts-clause-aborts g c =
 pub returns-else-mark_conflicts-clause-aborts : goal.returns-else-mark_conflicts-clause-aborts
 returns-else-mark_conflicts-clause-aborts g c =
     subst (λ (told : List TakenTask). IfSome (task_at c.args.state.now.view c.args.task.0) (λ t. (ids : List ℕ)
-    → NotedByKey c.args.state.now.view ids
+    → IsByKey (logged_tasks c.args.state.now.view) ids
     → AbortsTelling (Conflicts c.args.state.now.view t c.args.line c.args.write) c.args.state.now.view 0 told
     c.forget.new.state.view))
     (sym (ap (λ (e : EffectValue). e.back) c.forget.ensures.effect))

@@ -55,9 +55,9 @@ returns-clause-few g c =
     let there : (id : ℕ) → Marked c.as_mut_slice.result.now id → IsSome (task_at c.args.state.now.view id) =
     λ id marked. c.requires.live id
     (subst (λ (m : List Bool). Marked m id) (c.as_mut_slice.ensures.value ∙ firsts) marked) in
-    let members = few_members c.args.state.now.view c.state.inside.settings c.state.inside.tasks.slots
+    let members = few_members c.args.state.now.view c.state.inside.settings.line c.state.inside.tasks.slots
     c.as_mut_slice.result.now c.close.new.marks c.state.inside.tasks.capacity
-    (ap (λ (v : StateValue). v.view.settings) c.state.view_is) (ap (λ (v : StateValue). v.view.tasks) c.state.view_is)
+    (ap (λ (v : StateValue). v.view.settings.line) c.state.view_is) (ap (λ (v : StateValue). v.view.tasks) c.state.view_is)
     c.close.ensures.least there in
     let tasks = few_tasks _ _ _ _ _ _ _ c.state.invariant.0.valid c.state.invariant.1 c.state.invariant.3
     in
