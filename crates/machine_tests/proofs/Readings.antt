@@ -13,4 +13,5 @@ pub opening_told : OpeningIsReading → (image : ImageValue) (budget : ℕ) (jou
     → AreReadings image budget journal told
 opening_told every image budget journal told is =
     let P : Reading → Type 0 = λ reading. ∥ IsReading image budget journal reading ∥₁ in
-    subst (AreReadings image budget journal) (sym is) (All-cons P opening_reading [] ∣ every image budget journal ∣₁ (All-nil P))
+    subst (AreReadings image budget journal) (sym is)
+    (All-cons P opening_reading [] ∣ every image budget journal ∣₁ (All-nil P))
