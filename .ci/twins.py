@@ -25,6 +25,8 @@ MAY_BE = {
     ("b_type", "i_type", "s_type"): "three formats of the manual, each with its registers and its immediate",
     ("after_accesses", "after_calls"): "two lists of unlike items, each made one after another",
     ("EndIsOne", "LeastIsOne"): "two laws that something is one, of unlike things",
+    ("ComesOn", "GoesOn"): "a story so far, and one whose last act has still to be ended: each, or how the story ended",
+    ("do_spot", "kind_done"): "what an act does, or else its name, as a word of a line and as a kind that is counted",
     ("AsksForChild", "AsksForSubdomain"): "two requests of a task, each with its own data",
 }
 

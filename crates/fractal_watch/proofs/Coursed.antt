@@ -1,7 +1,8 @@
 -- A course behind its opening.
-use Rattle.std.proofs.Common.{◌≡◌, inl, List, [], length, refl, sym, subst, Err}
+use Rattle.std.proofs.Common.{◌≡◌, ◌++◌, ℕ, inl, List, [], ap, length, refl, sym, subst, Err}
 use Rattle.sim_io.specs.Parts.{TakesFront}
 use Rattle.sim_io.specs.Streams.{SinkState}
+use Rattle.sim_io.proofs.Fronts.{TakesFront-more}
 use Rattle.spec_state.specs.declared.settings.Settings.{Settings}
 use Rattle.event_def.specs.Book.{BookView}
 use Rattle.step_script.specs.declared.act.Act.{Act}
@@ -10,7 +11,9 @@ use Rattle.watch_play.specs.declared.stop.StoryStop.TheVariants as stops
 use Rattle.watch_play.specs.Courses.{course_word, first_stage}
 use Rattle.watch_play.specs.Stories.{begun}
 use Rattle.watch_play.specs.Telling.{HasStory, Plan, Tells, TellsOpening}
-use Rattle.watch_play.proofs.Proved.{lines_begin}
+use Rattle.watch_play.specs.Counted.{counts_of, last_counts}
+use Rattle.watch_play.specs.Texts.{opening_lines}
+use Rattle.watch_play.proofs.Proved.{text_begins}
 use Rattle.watch_text.specs.declared.head.CourseWord.{CourseWord}
 use Rattle.watch_text.specs.declared.head.CourseWord.TheVariants as courses
 use Rattle.fractal_watch.specs.Watched.{course_of}
@@ -24,7 +27,7 @@ same_word (courses.Lockstep rounds seed barren) settings script = refl
 
 module _ (N : Type 0) (plan : Plan) (opening : BookView) where
   -- the story before the first act
-  nothing_yet : (book : BookView) → book ≡ opening → HasStory {N = N} plan opening [] book
+  abbrev nothing_yet : (book : BookView) → book ≡ opening → HasStory {N = N} plan opening [] book
   nothing_yet book same = record {
     count = 0;
     stage = first_stage plan.course (length opening.view.history);
@@ -32,6 +35,12 @@ module _ (N : Type 0) (plan : Plan) (opening : BookView) where
     goes = (refl, refl, refl);
     book_is = same;
   }
+
+  -- the counts of it
+  abbrev counts_at_end : List ℕ
+  counts_at_end = last_counts plan.telling
+      (counts_of {N = N} plan.image plan.course opening 0 (first_stage plan.course (length opening.view.history)) []
+      (begun opening) (refl, refl, refl)) (begun opening)
 
   -- the lines before the first act weren't all told
   pub opening_stopped : (book : BookView) (before after : SinkState) (stop : StoryStop) → book ≡ opening
@@ -41,6 +50,9 @@ module _ (N : Type 0) (plan : Plan) (opening : BookView) where
   opening_stopped book before after stops.Sink same told = record {
     moments = [];
     story = nothing_yet book same;
-    took = subst (TakesFront before after) (sym (lines_begin N plan opening)) told.0;
+    took =
+        subst (TakesFront before after) (ap (λ text. text ++ counts_at_end) (sym (text_begins N plan opening)))
+        (TakesFront-more before after
+        (opening_lines plan.course plan.settings plan.image opening.view plan.telling) counts_at_end told.0);
     rose = told.1;
   }

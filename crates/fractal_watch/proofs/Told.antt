@@ -1,6 +1,6 @@
 -- A story that was told, of a book that was closed, is that of a run that was watched.
 use Rattle.std.proofs.Common.{◌≡◌, inl, inr, ℕ, List, [], length, refl, sym, ap, subst, arith, None}
-use Rattle.std.proofs.Common.{Err, map}
+use Rattle.std.proofs.Common.{Err, map, ⊎_elim}
 use Rattle.std.specs.declared.option.Option.{Option}
 use Rattle.guest_image.specs.ImageValue.{ImageValue}
 use Rattle.place_policy.specs.Policy.{Policy}
@@ -135,7 +135,7 @@ module _ (N : Type 0) (input : Input) (asking : Asking) (image : ImageValue) (be
       answer_of before after _ _ o c
       (inl record {
         status_is = c.holds.status_is;
-        want = inr record { watched = w; end_is = same_end _ _ o c; took = inr (inl took) };
+        want = inr record { watched = w; end_is = same_end _ _ o c; took = inr (inr (told.through, took)) };
       })
       (λ bytes known well. inl c.holds.status_is)
   finished_tells before between after o told (EndCut end c stands took rose) =
@@ -164,7 +164,11 @@ module _ (N : Type 0) (input : Input) (asking : Asking) (image : ImageValue) (be
       answer_of before after _ _ o c
       (inl record {
         status_is = c.holds.status_is;
-        want = inr record { watched = w; end_is = same_end _ _ o c; took = told.took };
+        want = inr record {
+          watched = w;
+          end_is = same_end _ _ o c;
+          took = ⊎_elim inl (λ most. inr (inl most)) told.took;
+        };
       })
       (λ bytes known well. inl c.holds.status_is)
   stopped_tells before after stops.Sink o told c =

@@ -2,6 +2,7 @@
 use Rattle.std.specs.Prelude.{◌≡◌, ◌⊎◌, ℕ, List, [], None, Some}
 use Rattle.run_journal.specs.declared.end.End.{End}
 use Rattle.machine_run.specs.Played.{StandsAt}
+use Rattle.sim_io.specs.Parts.{SinkTakes}
 use Rattle.watch_play.specs.Courses.{IsThrough}
 use Rattle.watch_play.specs.Telling.{TookMost}
 use Rattle.program_call.specs.declared.outcome.Outcome.{Outcome}
@@ -26,13 +27,17 @@ pub data IsAnswer (N : Type 0) (input : Input) (o : Outcome) : ℕ → List ℕ 
       → IsAnswer N input o (watch_status end) (text_of_watched watched end)
 
 -- memory ran out behind the beginning of a run: the outcome holds the run so far, without an end, and the sink took
--- nothing of a run at its opening, or the lines of all moments, or of all but the last
+-- nothing of a run at its opening, or the lines of all moments, or of all but the last; or the whole text of a course
+-- that is through, with the counts at its end where counts are told
 pub record IsWantOnTheWay (N : Type 0) (call : Call) (o : Outcome) : Type 0 where
   pub watched : IsWatched N call.input o
   pub end_is : o.end ≡ None
   pub took : ((watched.moments ≡ []) × (call.sink_after ≡ call.sink_before))
-      ⊎ TookMost (plan_of watched.asking watched.image watched.script) watched.opening watched.moments
-      call.sink_before call.sink_after
+      ⊎ TookMost (plan_of watched.asking watched.image watched.script) watched.opening watched.moments watched.book
+      watched.story call.sink_before call.sink_after
+      ⊎ (IsThrough (plan_of watched.asking watched.image watched.script).course watched.story.count
+      watched.story.stage watched.book.view
+      × SinkTakes call.sink_before call.sink_after (lines_of_watched watched))
 
 -- a sink that failed may have taken a part of this text: the line for a script that is refused, the lines of a story so
 -- far, or these and what comes at the end; the run stopped there, and no end is told

@@ -10,7 +10,7 @@ use Rattle.watch_text.specs.declared.head.CourseWord.{CourseWord}
 use Rattle.watch_text.specs.declared.head.CourseWord.TheVariants as courses
 use Rattle.watch_text.specs.Moments.{Moment}
 use Rattle.watch_play.specs.Courses.{Course, OfLeast, OfRounds, OfScript}
-use Rattle.watch_play.specs.Telling.{HasStory, Plan, lines_by}
+use Rattle.watch_play.specs.Telling.{HasStory, Plan, text_of_course}
 use Rattle.spec_state.specs.declared.settings.Settings.{Settings}
 use Rattle.program_call.specs.declared.outcome.Outcome.{Outcome}
 use Rattle.program_call.specs.Outcomes.{closed_of}
@@ -58,9 +58,9 @@ pub record IsWatched (N : Type 0) (input : Input) (o : Outcome) : Type 0 where
   pub leaves : LeavesRun book events (closed_of o)
   pub steps_is : o.steps ≡ Some events
 
--- the lines of its story
+-- the text of its story, as of a course that is through: the lines, or the lines of counts
 abbrev pub lines_of_watched : {N : Type 0} {input : Input} {o : Outcome} → IsWatched N input o → List ℕ
-lines_of_watched w = lines_by (plan_of w.asking w.image w.script) w.opening w.moments
+lines_of_watched w = text_of_course (plan_of w.asking w.image w.script) w.opening w.moments w.book w.story
 
 -- and what comes at the end, where the run stands so: where its memory is told, the text is the memory that the outcome
 -- holds

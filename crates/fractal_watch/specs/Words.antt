@@ -30,11 +30,26 @@ views_number (each ∷ behind) =
     number_in (between 1 (2 ^ 32 - 1)) each >>= λ number.
     Some (record { telling = tellings.Views number; behind = behind })
 
--- `memory` or `views K` in front of other words, or neither
+-- `every K`, of which these are the words behind the first
+abbrev pub counts_number : List (List ℕ) → Option WordsBehindTelling
+counts_number [] = None
+counts_number (each ∷ behind) =
+    number_in (between 1 (2 ^ 32 - 1)) each >>= λ number.
+    Some (record { telling = tellings.Counts number; behind = behind })
+
+-- `every K` in front of other words, of which `counts` was the first; 0 stands for it where it isn't there
+abbrev pub counts_in : List (List ℕ) → Option WordsBehindTelling
+counts_in [] = None
+counts_in (word ∷ words) =
+    if bytes_eq word (codes "every") then counts_number words
+    else Some (record { telling = tellings.Counts 0; behind = word ∷ words })
+
+-- `memory`, `views K` or `counts` in front of other words, or none of them
 abbrev pub telling_in : List (List ℕ) → Option WordsBehindTelling
 telling_in [] = None
 telling_in (word ∷ words) =
     if bytes_eq word (codes "memory") then Some (record { telling = tellings.Memory; behind = words })
+    else if bytes_eq word (codes "counts") then counts_in words
     else if bytes_eq word (codes "views") then views_number words
     else Some (record { telling = tellings.Lines; behind = word ∷ words })
 

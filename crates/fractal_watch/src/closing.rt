@@ -116,6 +116,7 @@ fn tell_end<K: Sink>(
         Telling::Lines => tell_last_line(sink, line, image, closed, end),
         Telling::Views(_) => tell_last_line(sink, line, image, closed, end),
         Telling::Memory => tell_text(sink, closed.memory.as_slice()),
+        Telling::Counts(_) => tell_last_line(sink, line, image, closed, end),
     }
 }
 

@@ -87,6 +87,7 @@ fn tell_book<N: Naming, P: Placer, T: Tap, K: Sink>(
         line,
         telling: _,
         count: _,
+        counts: _,
     } = watch;
     match told {
         Ok(()) => finish(sink, asking.telling, image, book, line),

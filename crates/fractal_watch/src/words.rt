@@ -4,7 +4,8 @@ ghost use Rattle.std.specs.Prelude.{◌≡◌, ◌≤◌, ◌∷◌, ◌++◌, I
 ghost use Rattle.std.specs.Str.{bytes_eq};
 ghost use Rattle.command_line.specs.Requests.{IsLimited};
 ghost use Rattle.watch_play.specs.Texts.{IsTellable};
-ghost use Rattle.fractal_watch.specs.Words.{IsInRanges, asking_of_words, barren_in, course_in, lockstep_in, telling_in};
+ghost use Rattle.fractal_watch.specs.Words.{IsInRanges, asking_of_words, barren_in, counts_in, course_in, lockstep_in};
+ghost use Rattle.fractal_watch.specs.Words.{telling_in};
 ghost use Rattle.fractal_watch.specs.Words.{HasRounds, words_of, course_asked, filter_among, filter_named};
 ghost use Rattle.fractal_watch.specs.Words.{filter_place, with_filter};
 
@@ -52,7 +53,30 @@ struct Leading<'a> {
     behind: &'a [&'a str],
 }
 
-/// `memory` or `views K` in front of other words, or neither.
+/// `every K` in front of other words, of which `counts` was the first, or 0.
+fn counts_of<'a>(words: &'a [&'a str]) -> Option<Told<'a>>
+    ensures value { option_map (λ t. record { telling = t.telling; behind = map (λ w. w.now) t.behind.now }) result
+        ≡ counts_in (map (λ w. w.now) words.now) }
+    ensures telling { IfSome result (λ t. IsTellable t.telling) }
+{
+    let Some((word, behind)) = words.split_first() else {
+        return None;
+    };
+    if word.as_bytes() != b"every".as_slice() {
+        return Some(Told {
+            telling: Telling::Counts(0),
+            behind: words,
+        });
+    }
+    let (each, behind) = behind.split_first()?;
+    let each = number_between(1, u32::MAX, each)?;
+    Some(Told {
+        telling: Telling::Counts(each),
+        behind,
+    })
+}
+
+/// `memory`, `views K` or `counts`, with `every K` or not, in front of other words, or none of them.
 fn telling_of<'a>(words: &'a [&'a str]) -> Option<Told<'a>>
     ensures value { option_map (λ t. record { telling = t.telling; behind = map (λ w. w.now) t.behind.now }) result
         ≡ telling_in (map (λ w. w.now) words.now) }
@@ -66,6 +90,9 @@ fn telling_of<'a>(words: &'a [&'a str]) -> Option<Told<'a>>
             telling: Telling::Memory,
             behind,
         });
+    }
+    if word.as_bytes() == b"counts".as_slice() {
+        return counts_of(behind);
     }
     if word.as_bytes() != b"views".as_slice() {
         return Some(Told {
@@ -165,8 +192,9 @@ fn in_front<'a>(
     Ok(words)
 }
 
-/// What words without `--filter` ask for. `Usage` where they are outside the grammar: `memory`, `views K` or neither,
-/// then `steps`, `least`, or `lockstep ROUNDS SEED`, with `barren K` or not, and then the options of the first program.
+/// What words without `--filter` ask for. `Usage` where they are outside the grammar: `memory`, `views K`, `counts`
+/// with `every K` or not, or none of them, then `steps`, `least`, or `lockstep ROUNDS SEED`, with `barren K` or not,
+/// and then the options of the first program.
 #[tactic(auto, unfolding(crate::specs::Words::course_asked))]
 fn read_course(alloc: Global, words: &[&str]) -> Result<Asking, Refusal>
     ensures value { IfOk result (λ asking. course_asked (map (λ w. w.now) words.now) ≡ Some asking) }

@@ -1,6 +1,8 @@
 pub mod AskedToo
+pub mod Behind
 pub mod Chosen
 pub mod Does
+pub mod Due
 pub mod Forced
 pub mod GetsOn
 pub mod SoundPlays
@@ -8,10 +10,12 @@ pub mod InRound
 pub mod InRounds
 pub mod Leaving
 pub mod Lined
+pub mod Openings
 pub mod Plays
 pub mod Rounds
 pub mod Scripts
 pub mod Stages
 pub mod Tellings
+pub mod Turns
 pub mod Twice
 pub mod Proved

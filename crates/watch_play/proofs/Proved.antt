@@ -1,2 +1,2 @@
 -- The lemmas that other crates cite.
-pub use Rattle.watch_play.proofs.Tellings.{lines_begin}
+pub use Rattle.watch_play.proofs.Openings.{text_begins}

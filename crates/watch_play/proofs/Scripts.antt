@@ -12,8 +12,9 @@ use Rattle.step_script.specs.Playing.{PlayState}
 use Rattle.watch_play.specs.declared.stop.StoryStop.{StoryStop}
 use Rattle.watch_play.specs.declared.telling.Telling.{Telling}
 use Rattle.watch_play.specs.Courses.{OfLeast, OfScript, Stage, course_act}
-use Rattle.watch_play.specs.Made.{TellsAct}
-use Rattle.watch_play.proofs.Tellings.{CourseGoes, CourseGoesOn, course_goes_on}
+use Rattle.watch_play.specs.Telling.{MomentGoesOn, SoTold}
+use Rattle.watch_play.proofs.Tellings.{CourseGoes, CourseGoesOn}
+use Rattle.watch_play.proofs.Turns.{course_goes_on}
 
 -- the act of a place of a script
 script_act_is : (script : List Act) (n : ℕ) (stage : Stage) (d : Act) → n < length script
@@ -34,31 +35,25 @@ least_act_is : (n : ℕ) (stage : Stage) → course_act OfLeast n stage ≡ Some
 unfolding course_act
 least_act_is n stage = refl
 
-module _ (N : Type 0) (image : ImageValue) (telling : Telling) (first : PlayState) (began : SinkState) where
+module _ (N : Type 0) (image : ImageValue) (telling : Telling) (first : PlayState) (began : SinkState)
+    (told new_told : SoTold) (old new : PlayState) (now after : SinkState) (r : Result (Unit {0}) StoryStop)
+    (kept : Telling) (telling_is : kept ≡ telling) where
   -- the next act of a script is told, by what is counted on the way
-  pub script_goes_on : (script : List Act) (stage : Stage) (i at count : ℕ) (kept : Telling) (d : Act)
-      (old new : PlayState) (now after : SinkState) (r : Result (Unit {0}) StoryStop) → i < length script
-      → at ≡ i → count ≡ i → kept ≡ telling
-      → CourseGoes N image telling (OfScript script) first began i stage i old now
-      → TellsAct N image kept (at + 1) (count + 1) (slice_index_or script i d) old new now after r
-      → CourseGoesOn N image telling (OfScript script) first began (i + 1) stage (i + 1) new after r
-  script_goes_on script stage i at count kept d old new now after r inside at_is count_is telling_is so_far tells =
-      let act = slice_index_or script i d in
-      course_goes_on N image telling (OfScript script) first began i stage i old now so_far act
-      (script_act_is script i stage d inside) tt
-      new after r
-      (subst (λ e. TellsAct N image e (i + 1) (i + 1) act old new now after r) telling_is
-      (subst (λ n. TellsAct N image kept (i + 1) (n + 1) act old new now after r) count_is
-      (subst (λ n. TellsAct N image kept (n + 1) (count + 1) act old new now after r) at_is tells)))
+  pub script_goes_on : (script : List Act) (stage : Stage) (i at : ℕ) (d : Act) → i < length script → at ≡ i
+      → CourseGoes N image telling (OfScript script) first began i stage told old now
+      → MomentGoesOn N image kept at (slice_index_or script i d) told new_told old new now after r
+      → CourseGoesOn N image telling (OfScript script) first began (i + 1) stage new_told new after r
+  script_goes_on script stage i at d inside at_is so_far tells =
+      course_goes_on N image telling (OfScript script) first began i stage told old now so_far
+      (slice_index_or script i d) (script_act_is script i stage d inside) tt tt kept new_told new after r telling_is
+      (subst (λ n. MomentGoesOn N image kept n (slice_index_or script i d) told new_told old new now after r) at_is
+      tells)
 
   -- the next event for the least task is told
-  pub least_goes_on : (stage : Stage) (i count : ℕ) (kept : Telling) (old new : PlayState) (now after : SinkState)
-      (r : Result (Unit {0}) StoryStop) → count ≡ i → kept ≡ telling → (IsOver old.book.view → ⊥)
-      → CourseGoes N image telling OfLeast first began i stage i old now
-      → TellsAct N image kept (i + 1) (count + 1) acts.Advance old new now after r
-      → CourseGoesOn N image telling OfLeast first began (i + 1) stage (i + 1) new after r
-  least_goes_on stage i count kept old new now after r count_is telling_is going so_far tells =
-      course_goes_on N image telling OfLeast first began i stage i old now so_far acts.Advance (least_act_is i stage)
-      going new after r
-      (subst (λ e. TellsAct N image e (i + 1) (i + 1) acts.Advance old new now after r) telling_is
-      (subst (λ n. TellsAct N image kept (i + 1) (n + 1) acts.Advance old new now after r) count_is tells))
+  pub least_goes_on : (stage : Stage) (i : ℕ) → (IsOver old.book.view → ⊥)
+      → CourseGoes N image telling OfLeast first began i stage told old now
+      → MomentGoesOn N image kept i acts.Advance told new_told old new now after r
+      → CourseGoesOn N image telling OfLeast first began (i + 1) stage new_told new after r
+  least_goes_on stage i going so_far tells =
+      course_goes_on N image telling OfLeast first began i stage told old now so_far acts.Advance
+      (least_act_is i stage) going tt kept new_told new after r telling_is tells

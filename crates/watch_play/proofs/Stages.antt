@@ -1,5 +1,5 @@
 -- The stages of a course in rounds.
-use Rattle.std.proofs.Common.{◌≡◌, ◌≢◌, ◌<◌, ◌+◌, ◌==◌, ℕ, false, length, nat_lt, Some, None, refl}
+use Rattle.std.proofs.Common.{◌≡◌, ◌≢◌, ◌<◌, ◌+◌, ◌==◌, ℕ, Bool, true, false, length, nat_lt, Some, None, refl}
 use Rattle.std.proofs.Common.{sym, ap, ◌∙◌, eq-eqb, arith, lt-ltb}
 use Rattle.std.specs.Prelude.{if◌then◌else◌, slice_get}
 use Rattle.std.proofs.lemmas.Bool.{cond-false, cond-true, false_from_ne_true, eqb-true}
@@ -11,7 +11,7 @@ use Rattle.watch_play.specs.Courses.{OfRounds, Order, Stage, at_round, barren_af
 use Rattle.watch_play.specs.Courses.{next_order, next_round, round_act, stage_after}
 
 -- a test of two numbers that differ
-differ : (a b : ℕ) → a ≢ b → (a == b) ≡ false
+pub differ : (a b : ℕ) → a ≢ b → (a == b) ≡ false
 differ a b apart = false_from_ne_true (a == b) (λ same. apart (eqb-true a b same))
 
 -- ---- within a round
@@ -64,6 +64,50 @@ module _ (seed most : ℕ) (order : Order) (round begun barren : ℕ) where
       cond-false (nat_lt round rounds) (slice_get order.acts 0) None
       (let past : nat_lt round rounds ≡ false = grind (arith, nat_tests, all) in past)
 
+-- ---- the number of the round
+
+-- behind the last round the next one comes, whether the least task is brought on before it or not
+after_last : (forced : Bool) (order : Order) (round commits barren : ℕ)
+    → (if forced then forced_stage order round commits else at_round order round commits barren).round ≡ round
+after_last true order round commits barren = refl
+after_last false order round commits barren = refl
+
+module _ (seed most : ℕ) (stage : Stage) (commits : ℕ) where
+  next_number : (next_round seed most stage commits).round ≡ stage.round + 1
+  unfolding next_round
+  next_number =
+      after_last (barren_after stage commits == most) (next_order seed stage.order) (stage.round + 1) commits
+      (barren_after stage commits)
+
+  module _ (unforced : stage.forced ≡ false) where
+    unforced_is : stage_after seed most stage commits
+        ≡ (if stage.place + 1 == length stage.order.acts then next_round seed most stage commits
+        else record stage { place = stage.place + 1 })
+    unfolding stage_after
+    unforced_is =
+        cond-false stage.forced (if commits == stage.begun then stage else record stage {
+          begun = commits;
+          forced = false;
+        }) (if stage.place + 1 == length stage.order.acts then next_round seed most stage commits
+        else record stage { place = stage.place + 1 }) unforced
+
+    -- behind an act that isn't the last one it is the same
+    pub same_round : (stage.place + 1 == length stage.order.acts) ≡ false
+        → (stage_after seed most stage commits).round ≡ stage.round
+    same_round more =
+        ap (λ (s : Stage). s.round) (unforced_is
+        ∙ cond-false (stage.place + 1 == length stage.order.acts) (next_round seed most stage commits)
+        (record stage { place = stage.place + 1 }) more)
+
+    -- behind the last one it is one more
+    pub round_more : (stage.place + 1 == length stage.order.acts) ≡ true
+        → (stage_after seed most stage commits).round ≡ stage.round + 1
+    round_more last =
+        ap (λ (s : Stage). s.round) (unforced_is
+        ∙ cond-true (stage.place + 1 == length stage.order.acts) (next_round seed most stage commits)
+        (record stage { place = stage.place + 1 }) last)
+        ∙ next_number
+
 -- ---- from one round to the next
 
 module _ (seed most : ℕ) (stage : Stage) (commits in_a_row : ℕ) (counted : in_a_row ≡ barren_after stage commits) where
@@ -110,6 +154,16 @@ module _ (seed most : ℕ) (order : Order) (round begun : ℕ) where
   forced_stays commits none =
       cond-true (commits == begun) (forced_stage order round begun) (at_round order round commits 0)
       (eq-eqb commits begun none)
+
+  -- within the same round
+  forced_round : (commits : ℕ) (none : Bool)
+      → (if none then forced_stage order round begun else at_round order round commits 0).round ≡ round
+  forced_round commits true = refl
+  forced_round commits false = refl
+
+  pub forced_within : (commits : ℕ) → (stage_after seed most (forced_stage order round begun) commits).round ≡ round
+  unfolding stage_after
+  forced_within commits = forced_round commits (commits == begun)
 
   -- then the round begins
   pub forced_ends : (commits : ℕ) → commits ≢ begun

@@ -1,105 +1,44 @@
 -- A story that is told act by act.
-use Rattle.std.proofs.Common.{◌≡◌, ◌⊎◌, ◌+◌, ℕ, List, [], ◌∷◌, ◌++◌, length, Some, Result, Ok, Err}
-use Rattle.std.proofs.Common.{inl, inr, refl, sym, ap, subst, ◌∙◌, add-one, append_assoc, append-nil, arith}
-use Rattle.std.proofs.Common.{true, false}
-use Rattle.std.specs.Prelude.{OnOk}
-use Rattle.std.specs.List.{flat_map}
+use Rattle.std.proofs.Common.{◌≡◌, ◌⊎◌, ◌+◌, ◌&&◌, ℕ, suc, List, [], ◌∷◌, ◌++◌, length, Some, Result, Ok, Err}
+use Rattle.std.proofs.Common.{inl, inr, refl, sym, ap, subst, ◌∙◌, add-one, append-nil, arith, Bool, true, false}
+use Rattle.std.specs.Prelude.{OnOk, if◌then◌else◌}
 use Rattle.std.proofs.lemmas.List.{length_push}
-use Rattle.std.proofs.lemmas.List.Concat.{flat_map-append}
 use Rattle.std.proofs.KnownBytes.{Appends-nil}
 use Rattle.guest_image.specs.ImageValue.{ImageValue}
-use Rattle.sim_io.specs.Parts.{SinkTakes, Writes}
+use Rattle.sim_io.specs.Parts.{SinkTakes, TakesFront, Writes}
 use Rattle.sim_io.specs.Streams.{SinkState}
-use Rattle.sim_io.proofs.Proved.{Wrote, wrote_front, wrote_more}
-use Rattle.spec_state.specs.declared.settings.Settings.{Settings}
+use Rattle.sim_io.proofs.Fronts.{TakesFront-more, TakesFront-then}
+use Rattle.sim_io.proofs.Proved.{Wrote, wrote_more}
 use Rattle.event_def.specs.Book.{BookView}
-use Rattle.event_def.specs.End.{IsOver}
 use Rattle.step_script.specs.declared.act.Act.{Act}
 use Rattle.step_script.specs.Playing.{PlayState}
-use Rattle.watch_text.specs.declared.head.CourseWord.{CourseWord}
 use Rattle.watch_text.specs.Lines.{line_of}
 use Rattle.watch_text.specs.Moments.{Moment}
-use Rattle.watch_text.specs.Opening.{head_line, placed_lines}
+use Rattle.watch_counts.specs.declared.counts.Counts.{Counts}
+use Rattle.watch_counts.specs.Capped.{capped_counts}
+use Rattle.watch_counts.specs.Counts.{after_passed, counts_after, counts_at}
+use Rattle.watch_counts.specs.Texts.{counts_line}
 use Rattle.watch_play.specs.declared.stop.StoryStop.{StoryStop}
 use Rattle.watch_play.specs.declared.stop.StoryStop.TheVariants as stops
 use Rattle.watch_play.specs.declared.telling.Telling.{Telling}
-use Rattle.watch_play.specs.declared.telling.Telling.TheVariants as tellings
-use Rattle.watch_play.specs.Courses.{Course, IsAskedBy, IsAskedInRound, IsThrough, Stage, course_act, first_stage}
-use Rattle.watch_play.specs.Courses.{course_word, next_stage}
+use Rattle.watch_play.specs.Counted.{after_stage, counts_lines, counts_of, is_due_behind, last_counts}
+use Rattle.watch_play.specs.Courses.{Course, IsAskedBy, IsThrough, Stage, course_act, first_stage, next_stage}
 use Rattle.watch_play.specs.Made.{TellsAct}
 use Rattle.watch_play.specs.Playing.{IsMomentAt, MakesAct}
-use Rattle.watch_play.specs.Stories.{StoryLeads, Makes, Passes, commits_of}
-use Rattle.watch_play.specs.Telling.{ActGoesOn, GoesOn, GoesSoFar, HasStory, IsOpened, IsAllTold}
-use Rattle.watch_play.specs.Telling.{IsToldInPart, Plan, TellsCourse, TellsOpening, TellsText, lines_by}
-use Rattle.watch_play.specs.Texts.{has_lines, moment_lines, opening_lines, story_lines, view_text}
+use Rattle.watch_play.specs.Stories.{ActComes, Makes, Passes, StoryLeads, commits_of}
+use Rattle.watch_play.specs.Telling.{AllTaken, ComesOn, GoesOn, GoesSoFar, HasCome, HasStory, IsAllTold, IsOpened}
+use Rattle.watch_play.specs.Telling.{IsToldInPart, MostTaken, Plan, SoTold, Tells, TellsCourse, TellsText, text_with}
+use Rattle.watch_play.specs.Texts.{has_counts, has_lines, moment_lines, view_text}
+use Rattle.watch_play.proofs.Behind.{more_counts, more_lines}
 use Rattle.watch_play.proofs.Lined.{where_lines}
+use Rattle.watch_play.proofs.Openings.{text_begins}
 
--- the lines of one moment more
-lines_more : {N : Type 0} (plan : Plan) (opening : BookView) (moments : List (Moment N)) (m : Moment N)
-    → lines_by plan opening (moments ++ m ∷ []) ≡ lines_by plan opening moments ++ (moment_lines plan.telling m ++ [])
-lines_more {N} plan opening moments m = by_telling plan.telling where
-  joined : (front : List ℕ) (f : Moment N → List ℕ)
-      → front ++ flat_map f (moments ++ m ∷ []) ≡ (front ++ flat_map f moments) ++ (f m ++ [])
-  joined front f =
-      ap (λ l. front ++ l) (flat_map-append f moments (m ∷ []))
-      ∙ sym (append_assoc front (flat_map f moments) (flat_map f (m ∷ [])))
-
-  by_telling : (telling : Telling)
-      → story_lines plan.course plan.settings plan.image opening.view telling (moments ++ m ∷ [])
-      ≡ story_lines plan.course plan.settings plan.image opening.view telling moments
-      ++ (moment_lines telling m ++ [])
-  by_telling tellings.Lines =
-      joined (opening_lines plan.course plan.settings plan.image opening.view tellings.Lines)
-      (moment_lines tellings.Lines)
-  by_telling (tellings.Views each) =
-      joined (opening_lines plan.course plan.settings plan.image opening.view (tellings.Views each))
-      (moment_lines (tellings.Views each))
-  by_telling tellings.Memory = refl
-
--- those of none
-pub lines_begin : (N : Type 0) (plan : Plan) (opening : BookView)
-    → lines_by {N = N} plan opening [] ≡ opening_lines plan.course plan.settings plan.image opening.view plan.telling
-lines_begin N plan opening = by_telling plan.telling where
-  by_telling : (telling : Telling)
-      → story_lines {N = N} plan.course plan.settings plan.image opening.view telling []
-      ≡ opening_lines plan.course plan.settings plan.image opening.view telling
-  by_telling tellings.Lines =
-      append-nil (opening_lines plan.course plan.settings plan.image opening.view tellings.Lines)
-  by_telling (tellings.Views each) =
-      append-nil (opening_lines plan.course plan.settings plan.image opening.view (tellings.Views each))
-  by_telling tellings.Memory = refl
-
--- ---- whether lines are told
-
-module _ (plan : Plan) (opening : BookView) (course : CourseWord) (settings : Settings) (image : ImageValue)
-    (telling : Telling) (image_is : plan.image ≡ image) (course_is : course_word plan.course ≡ course)
-    (settings_is : plan.settings ≡ settings) (telling_is : plan.telling ≡ telling) where
-  abbrev before_acts : List ℕ
-  before_acts = head_line (course_word plan.course) plan.settings plan.image ++ placed_lines opening.view
-
-  -- the lines before the first act were told
-  pub opening_told : (before after : SinkState) (r : Result (Unit {0}) StoryStop) → has_lines telling ≡ true
-      → TellsText (head_line course settings image ++ placed_lines opening.view) before after r
-      → TellsOpening plan opening before after r
-  opening_told before after r lines told =
-      let same : opening_lines plan.course plan.settings plan.image opening.view plan.telling
-      ≡ head_line course settings image ++ placed_lines opening.view =
-      where_lines plan.telling before_acts true (ap has_lines telling_is ∙ lines)
-      ∙ (λ i. head_line (course_is i) (settings_is i) (image_is i) ++ placed_lines opening.view) in
-      subst (λ text. TellsText text before after r) (sym same) told
-
-  -- or nothing was
-  pub opening_untold : (sink : SinkState) → has_lines telling ≡ false → TellsOpening plan opening sink sink (Ok tt)
-  opening_untold sink none =
-      let same : opening_lines plan.course plan.settings plan.image opening.view plan.telling ≡ [] =
-      where_lines plan.telling before_acts false (ap has_lines telling_is ∙ none) in
-      (subst (SinkTakes sink sink) (sym same) (Appends-nil sink.taken), omega arith)
-
--- an act of which nothing is told
+-- an act of which no line is told
 pub act_untold : (N : Type 0) (image : ImageValue) (telling : Telling) (at number : ℕ) (act : Act)
-    (old new : PlayState) (sink : SinkState) (r : Result (Unit {0}) StoryStop) → has_lines telling ≡ false
-    → MakesAct N image at number act old new r → TellsAct N image telling at number act old new sink sink r
-act_untold N image telling at number act old new sink (Ok done) none makes =
+    (old new : PlayState) (counts new_counts : Counts) (sink : SinkState) (r : Result (Unit {0}) StoryStop)
+    → has_lines telling ≡ false → MakesAct N image telling at number act old new counts new_counts r
+    → TellsAct N image telling at number act old new counts new_counts sink sink r
+act_untold N image telling at number act old new counts new_counts sink (Ok done) none makes =
     let m = makes.0 in
     let lines = line_of m ++ view_text telling m.number m.new.view m.new.steps in
     let nothing : Writes {E = StoryStop} sink sink (Ok done) [] = record {
@@ -109,55 +48,67 @@ act_untold N image telling at number act old new sink (Ok done) none makes =
     } in (
       m,
       makes.1,
+      makes.2,
       subst (Writes {E = StoryStop} sink sink (Ok done)) (sym (where_lines telling lines false none)) nothing,
     )
-act_untold N image telling at number act old new sink (Err stops.Memory) none makes = (inr makes.1, refl)
-act_untold N image telling at number act old new sink (Err stops.Sink) none makes = absurd (cc (makes.0))
+act_untold N image telling at number act old new counts new_counts sink (Err stops.Memory) none makes =
+    (inr makes.1, refl)
+act_untold N image telling at number act old new counts new_counts sink (Err stops.Sink) none makes =
+    absurd (cc (makes.0))
 
 -- ---- a story that goes on
 
 module _ (N : Type 0) (plan : Plan) (opening : BookView) (start : SinkState) where
   -- a story of no moment
-  pub begins : (play : PlayState) (now : SinkState) → IsOpened plan opening play start now
-      → GoesSoFar N plan opening 0 (first_stage plan.course (commits_of play)) 0 play start now
-  begins play now opened = (
+  pub begins : (told : SoTold) (play : PlayState) (now : SinkState) → told.moments ≡ 0
+      → told.counts ≡ capped_counts (counts_at play.book.view) → IsOpened plan opening play start now
+      → GoesSoFar N plan opening 0 (first_stage plan.course (commits_of play)) told play start now
+  begins told play now none counted opened = (
     [],
     record {
       goes = (refl, opened.play_is, ap (λ p. first_stage plan.course (commits_of p)) opened.play_is);
-      told_are = refl;
-      took = subst (SinkTakes start now) (sym (lines_begin N plan opening)) opened.took;
+      told_are = sym none;
+      counted = λ are. counted ∙ ap (λ (p : PlayState). capped_counts (counts_at p.book.view)) opened.play_is;
+      took = subst (SinkTakes start now) (sym (text_begins N plan opening)) opened.took;
       later = opened.later;
     },
   )
 
-  module _ (count : ℕ) (stage : Stage) (told : ℕ) (old : PlayState) (now : SinkState)
+  module _ (count : ℕ) (stage : Stage) (told : SoTold) (old : PlayState) (now : SinkState)
       (so_far : GoesSoFar N plan opening count stage told old start now)
     where
-      -- the stage behind the next act
-      abbrev behind : PlayState → Stage
-      behind new = next_stage plan.course stage (commits_of new)
-
       abbrev moments : List (Moment N)
       moments = so_far.0
 
-      wrote : Wrote start now (lines_by plan opening moments)
-      wrote = record { taken = so_far.1.took; later = so_far.1.later }
+      abbrev goes : StoryLeads plan.image plan.course opening count stage moments old
+      goes = so_far.1.goes
+
+      abbrev so_counted : Counts
+      so_counted = counts_of plan.image plan.course opening count stage moments old goes
+
+      abbrev so_lined : List ℕ
+      so_lined = counts_lines plan.telling plan.image plan.course opening count stage moments old goes
+
+      abbrev here : HasStory plan opening moments old.book
+      here = record { count = count; stage = stage; last = old; goes = goes; book_is = refl }
 
       -- the act of this number isn't asked for
       pub passes : (act : Act) → course_act plan.course count stage ≡ Some act
-          → (IsAskedBy plan.course old.book.view act → ⊥)
-          → GoesSoFar N plan opening (count + 1) (behind old) told old start now
-      passes act is unasked = (
-        moments,
-        record {
-          goes =
-              subst (λ n. StoryLeads plan.image plan.course opening n (behind old) moments old) (sym (add-one count))
-              (moments, old, stage, so_far.1.goes, Passes act is unasked refl refl, refl);
-          told_are = so_far.1.told_are;
-          took = so_far.1.took;
-          later = so_far.1.later;
-        },
-      )
+          → (IsAskedBy plan.course old.book.view act → ⊥) → (new_told : SoTold) → new_told.moments ≡ told.moments
+          → ((c : Counts) → has_counts plan.telling ≡ true → told.counts ≡ capped_counts c
+          → new_told.counts ≡ capped_counts (after_passed act c))
+          → HasCome N plan opening count stage new_told old start now
+      passes act is unasked new_told same counts = record {
+        front = moments;
+        old = old;
+        goes = goes;
+        moments = moments;
+        comes = Passes act is unasked refl refl;
+        told_are = so_far.1.told_are ∙ sym same;
+        counted = λ are. counts so_counted are (so_far.1.counted are);
+        took = so_far.1.took;
+        later = so_far.1.later;
+      }
 
       module _ (act : Act) (is : course_act plan.course count stage ≡ Some act)
           (asked : IsAskedBy plan.course old.book.view act)
@@ -166,99 +117,159 @@ module _ (N : Type 0) (plan : Plan) (opening : BookView) (start : SinkState) whe
         longer m = moments ++ m ∷ []
 
         -- it is a moment
-        goes_more : (m : Moment N) → IsMomentAt plan.image (count + 1) (told + 1) act m old new
-            → StoryLeads plan.image plan.course opening (count + 1) (behind new) (longer m) new
-        goes_more m comes =
+        abbrev makes : (m : Moment N) → IsMomentAt plan.image (count + 1) (told.moments + 1) act m old new
+            → ActComes plan.image plan.course count stage moments old (longer m) new
+        makes m comes =
             let act_is : course_act plan.course count stage ≡ Some m.act = is ∙ ap Some (sym comes.act_is) in
             let asked_is = subst (IsAskedBy plan.course old.book.view) (sym comes.act_is) asked in
             let number : m.number ≡ length moments + 1 = comes.number_is ∙ ap (λ n. n + 1) (sym so_far.1.told_are) in
-            subst (λ n. StoryLeads plan.image plan.course opening n (behind new) (longer m) new) (sym (add-one count))
-            (moments, old, stage, so_far.1.goes, Makes m act_is asked_is comes.at_is number comes.moment refl, refl)
+            Makes m act_is asked_is comes.at_is number comes.moment refl
 
-        has_more : (m : Moment N) → IsMomentAt plan.image (count + 1) (told + 1) act m old new
-            → HasStory plan opening (longer m) new.book
-        has_more m comes =
-            record {
-              count = count + 1;
-              stage = behind new;
-              last = new;
-              goes = goes_more m comes;
-              book_is = refl;
-            }
+        -- the stage behind it
+        abbrev stage_behind : Stage
+        stage_behind = next_stage plan.course stage (commits_of new)
 
-        untold : (after : SinkState) → after ≡ now → ((m : Moment N) × IsMomentAt plan.image (count + 1) (told + 1)
-            act m old new) ⊎ (new.book ≡ old.book)
+        -- the story with it
+        story_with : (moments_with : List (Moment N))
+            → ActComes plan.image plan.course count stage moments old moments_with new
+            → HasStory plan opening moments_with new.book
+        story_with moments_with comes = record {
+          count = suc count;
+          stage = stage_behind;
+          last = new;
+          goes = (moments, old, stage, goes, comes, refl);
+          book_is = refl;
+        }
+
+        untold : (after : SinkState) → after ≡ now → ((m : Moment N) × IsMomentAt plan.image (count + 1)
+            (told.moments + 1) act m old new) ⊎ (new.book ≡ old.book)
             → IsToldInPart N plan opening new.book start after
         untold after same (inl made) = record {
           moments = longer made.0;
-          story = has_more made.0 made.1;
+          story = record {
+            count = suc count;
+            stage = stage_behind;
+            last = new;
+            goes = (moments, old, stage, goes, makes made.0 made.1, refl);
+            book_is = refl;
+          };
           took =
-              inr (inr (
-                moments,
-                made.0,
-                refl,
-                subst (λ s. SinkTakes start s (lines_by plan opening moments))
-                    (sym same) so_far.1.took,
-              ));
+              inr (MostTaken moments old.book here (omega arith)
+              (let pushed = length_push moments made.0 in omega (arith, pushed))
+              (subst (λ s. SinkTakes start s (text_with plan opening so_lined moments)) (sym same) so_far.1.took));
         }
         untold after same (inr unmade) = record {
           moments = moments;
-          story = record { count = count; stage = stage; last = old; goes = so_far.1.goes; book_is = unmade };
-          took = inr (inl (subst (λ s. SinkTakes start s (lines_by plan opening moments)) (sym same) so_far.1.took));
+          story = record { count = count; stage = stage; last = old; goes = goes; book_is = unmade };
+          took =
+              inr (AllTaken
+              (subst (λ s. SinkTakes start s (text_with plan opening so_lined moments)) (sym same) so_far.1.took));
         }
 
         -- and told, or not
-        pub goes_on : (after : SinkState) (r : Result (Unit {0}) StoryStop)
-            → TellsAct N plan.image plan.telling (count + 1) (told + 1) act old new now after r
-            → GoesOn N plan opening (count + 1) (behind new) (told + 1) new start after r
-        goes_on after (Ok done) tells =
+        pub comes_on : (new_told : SoTold) (after : SinkState) (r : Result (Unit {0}) StoryStop)
+            → TellsAct N plan.image plan.telling (count + 1) (told.moments + 1) act old new told.counts new_told.counts
+            now after r → OnOk r (new_told.moments ≡ told.moments + 1)
+            → ComesOn N plan opening count stage new_told new start after r
+        comes_on new_told after (Ok done) tells number =
             let m = tells.0 in
-            let more : Wrote start after (lines_by plan opening moments ++ moment_lines plan.telling m) =
-            wrote_more {E = StoryStop} start now after (lines_by plan opening moments) (moment_lines plan.telling m)
-            wrote tells.2 in
-            let text : lines_by plan opening moments ++ moment_lines plan.telling m ≡ lines_by plan opening (longer m) =
-            ap (λ l. lines_by plan opening moments ++ l) (sym (append-nil (moment_lines plan.telling m)))
-            ∙ sym (lines_more plan opening moments m) in (
-              longer m,
-              record {
-                goes = goes_more m tells.1;
-                told_are = length_push moments m ∙ ap (λ n. n + 1) so_far.1.told_are;
-                took = subst (SinkTakes start after) text more.taken;
-                later = more.later;
-              },
-            )
-        goes_on after (Err stops.Memory) tells = untold after tells.1 tells.0
-        goes_on after (Err stops.Sink) tells =
+            let more : Wrote start after (text_with plan opening so_lined moments ++ moment_lines plan.telling m) =
+            wrote_more {E = StoryStop} start now after (text_with plan opening so_lined moments)
+            (moment_lines plan.telling m) (record { taken = so_far.1.took; later = so_far.1.later }) tells.3 in
+            record {
+              front = moments;
+              old = old;
+              goes = goes;
+              moments = longer m;
+              comes = makes m tells.1;
+              told_are = length_push moments m ∙ ap (λ n. n + 1) so_far.1.told_are ∙ sym number;
+              counted = λ are. tells.2 are so_counted (so_far.1.counted are);
+              took = subst (SinkTakes start after) (sym (more_lines plan opening so_lined moments m)) more.taken;
+              later = more.later;
+            }
+        comes_on new_told after (Err stops.Memory) tells number = untold after tells.1 tells.0
+        comes_on new_told after (Err stops.Sink) tells number =
             let m = tells.0 in
-            let cut =
-            subst (Writes {E = StoryStop} start after (Err stops.Sink)) (sym (lines_more plan opening moments m))
-            (wrote_front start now after stops.Sink (lines_by plan opening moments) (moment_lines plan.telling m) []
-            wrote tells.2) in
-            record { moments = longer m; story = has_more m tells.1; took = cut.err; rose = cut.cause.failed }
+            let lines = moment_lines plan.telling m in
+            let behind = after_stage stage stage_behind (counts_after so_counted m) in
+            let line : List ℕ = if is_due_behind plan.telling plan.course (suc count) stage stage_behind
+            then counts_line behind new.book.view else [] in
+            let told_line : List ℕ = if has_counts plan.telling then line else [] in
+            let last = last_counts plan.telling behind new in
+            let text = text_with plan opening so_lined moments in
+            let front : TakesFront start after (((text ++ lines) ++ told_line) ++ last) =
+            TakesFront-more start after ((text ++ lines) ++ told_line) last
+            (TakesFront-more start after (text ++ lines) told_line
+            (TakesFront-then start now after text lines so_far.1.took tells.2.err)) in
+            let before = so_far.1.later in
+            let rose = tells.2.cause.failed in
+            record {
+              moments = longer m;
+              story = record {
+                count = suc count;
+                stage = stage_behind;
+                last = new;
+                goes = (moments, old, stage, goes, makes m tells.1, refl);
+                book_is = refl;
+              };
+              took =
+                  subst (TakesFront start after)
+                  (ap (λ t. t ++ last) (ap (λ t. t ++ told_line) (sym (more_lines plan opening so_lined moments m))
+                  ∙ sym (more_counts plan opening so_lined line (longer m)))) front;
+              rose = omega (arith, before, rose);
+            }
 
-      -- all of the course is told
-      pub ends : IsThrough plan.course count stage old.book.view → IsAllTold N plan opening old.book start now
-      ends through = record {
+      -- all of the course is told, and the counts at its end, or not
+      pub ends : IsThrough plan.course count stage old.book.view → (after : SinkState)
+          (r : Result (Unit {0}) StoryStop) → TellsText (last_counts plan.telling so_counted old) now after r
+          → Tells N plan opening old.book start after r
+      ends through after (Ok done) tells =
+          let last = last_counts plan.telling so_counted old in
+          let more : Wrote start after (text_with plan opening so_lined moments ++ last) =
+          wrote_more {E = StoryStop} start now after (text_with plan opening so_lined moments) last
+          (record { taken = so_far.1.took; later = so_far.1.later })
+          (record { ok = tells.0; err = tt; cause = record { later = tells.1; failed = tt } }) in
+          record { moments = moments; story = here; through = through; took = more.taken; later = more.later }
+      ends through after (Err stops.Memory) tells = record {
         moments = moments;
-        story = record { count = count; stage = stage; last = old; goes = so_far.1.goes; book_is = refl };
-        through = through;
-        took = so_far.1.took;
-        later = so_far.1.later;
+        story = here;
+        took =
+            inr (AllTaken
+            (subst (λ s. SinkTakes start s (text_with plan opening so_lined moments)) (sym tells) so_far.1.took));
       }
+      ends through after (Err stops.Sink) tells =
+          let last = last_counts plan.telling so_counted old in
+          let before = so_far.1.later in
+          let rose = tells.1 in
+          record {
+            moments = moments;
+            story = here;
+            took =
+                TakesFront-then start now after (text_with plan opening so_lined moments) last so_far.1.took tells.0;
+            rose = omega (arith, before, rose);
+          }
+
+      -- by what is read of the telling, and where telling the counts leaves the play
+      pub ends_so : IsThrough plan.course count stage old.book.view → (kept : Telling) (new : PlayState)
+          (after : SinkState) (r : Result (Unit {0}) StoryStop) → kept ≡ plan.telling → new ≡ old
+          → ((c : Counts) → (has_counts kept ≡ true → told.counts ≡ capped_counts c)
+          → TellsText (last_counts kept c old) now after r)
+          → Tells N plan opening new.book start after r
+      ends_so through kept new after r same left tells =
+          subst (λ (p : PlayState). Tells N plan opening p.book start after r) (sym left)
+          (ends through after r
+          (subst (λ t. TellsText (last_counts t so_counted old) now after r) same
+          (tells so_counted (λ are. so_far.1.counted (ap has_counts (sym same) ∙ are)))))
 
       -- memory runs out between two acts
       pub wants : IsToldInPart N plan opening old.book start now
-      wants = record {
-        moments = moments;
-        story = record { count = count; stage = stage; last = old; goes = so_far.1.goes; book_is = refl };
-        took = inr (inl so_far.1.took);
-      }
+      wants = record { moments = moments; story = here; took = inr (AllTaken so_far.1.took) }
 
 -- ---- whatever the plan is of which the course is told
 
 -- so many acts of the course, from an opening on that was told, led here, to this stage
 abbrev pub CourseGoes : (N : Type 0) → ImageValue → Telling → Course → (first : PlayState) → SinkState
-    → (count : ℕ) → Stage → (told : ℕ) → PlayState → SinkState → Type 0
+    → (count : ℕ) → Stage → (told : SoTold) → PlayState → SinkState → Type 0
 CourseGoes N image telling course first begun_at count stage told play now =
     (plan : Plan) (opening : BookView) (start : SinkState) → plan.image ≡ image → plan.telling ≡ telling
     → plan.course ≡ course → IsOpened plan opening first start begun_at
@@ -266,7 +277,7 @@ CourseGoes N image telling course first begun_at count stage told play now =
 
 -- and led on, or the course ended there
 abbrev pub CourseGoesOn : (N : Type 0) → ImageValue → Telling → Course → (first : PlayState) → SinkState
-    → (count : ℕ) → Stage → (told : ℕ) → PlayState → SinkState → Result (Unit {0}) StoryStop → Type 0
+    → (count : ℕ) → Stage → (told : SoTold) → PlayState → SinkState → Result (Unit {0}) StoryStop → Type 0
 CourseGoesOn N image telling course first begun_at count stage told play now r =
     (plan : Plan) (opening : BookView) (start : SinkState) → plan.image ≡ image → plan.telling ≡ telling
     → plan.course ≡ course → IsOpened plan opening first start begun_at
@@ -275,36 +286,27 @@ CourseGoesOn N image telling course first begun_at count stage told play now r =
 module _ (N : Type 0) (image : ImageValue) (telling : Telling) (course : Course) (first : PlayState)
     (begun_at : SinkState)
   where
-    pub course_begins : CourseGoes N image telling course first begun_at 0 (first_stage course (commits_of first)) 0
-        first begun_at
-    course_begins plan opening start image_is telling_is course_is opened =
-        subst (λ c. GoesSoFar N plan opening 0 (first_stage c (commits_of first)) 0 first start begun_at) course_is
-        (begins N plan opening start first begun_at opened)
+    pub course_begins : (told : SoTold) (play : PlayState) → told.moments ≡ 0
+        → told.counts ≡ capped_counts (counts_at first.book.view) → play ≡ first
+        → CourseGoes N image telling course first begun_at 0 (first_stage course (commits_of first)) told play begun_at
+    course_begins told play none counted same plan opening start image_is telling_is course_is opened =
+        subst (λ p. GoesSoFar N plan opening 0 (first_stage course (commits_of first)) told p start begun_at) (sym same)
+        (subst (λ c. GoesSoFar N plan opening 0 (first_stage c (commits_of first)) told first start begun_at) course_is
+        (begins N plan opening start told first begun_at none counted opened))
 
-    module _ (count : ℕ) (stage : Stage) (told : ℕ) (old : PlayState) (now : SinkState)
+    module _ (count : ℕ) (stage : Stage) (told : SoTold) (old : PlayState) (now : SinkState)
         (so_far : CourseGoes N image telling course first begun_at count stage told old now) where
-      pub course_goes_on : (act : Act) → course_act course count stage ≡ Some act
-          → IsAskedBy course old.book.view act
-          → (new : PlayState) (after : SinkState) (r : Result (Unit {0}) StoryStop)
-          → TellsAct N image telling (count + 1) (told + 1) act old new now after r
-          → CourseGoesOn N image telling course first begun_at (count + 1) (next_stage course stage (commits_of new))
-          (told + 1) new after r
-      course_goes_on act is asked new after r tells plan opening start image_is telling_is course_is opened =
-          subst (λ c. GoesOn N plan opening (count + 1) (next_stage c stage (commits_of new)) (told + 1) new start after
-          r) course_is
-          (goes_on N plan opening start count stage told old now
-          (so_far plan opening start image_is telling_is course_is opened) act
-          (subst (λ c. course_act c count stage ≡ Some act) (sym course_is) is)
-          (subst (λ c. IsAskedBy c old.book.view act) (sym course_is) asked) new after r
-          (subst (λ e. TellsAct N plan.image e (count + 1) (told + 1) act old new now after r) (sym telling_is)
-          (subst (λ i. TellsAct N i telling (count + 1) (told + 1) act old new now after r) (sym image_is) tells)))
-
+      -- the course is through
       pub course_ends : IsThrough course count stage old.book.view
-          → TellsCourse N image telling course first old.book begun_at now (Ok tt)
-      course_ends through plan opening start image_is telling_is course_is opened =
-          ends N plan opening start count stage told old now
+          → (kept : Telling) (new : PlayState) (after : SinkState) (r : Result (Unit {0}) StoryStop) → kept ≡ telling
+          → new ≡ old → ((c : Counts) → (has_counts kept ≡ true → told.counts ≡ capped_counts c)
+          → TellsText (last_counts kept c old) now after r)
+          → TellsCourse N image telling course first new.book begun_at after r
+      course_ends through kept new after r kept_is left tells plan opening start image_is telling_is course_is opened =
+          ends_so N plan opening start count stage told old now
           (so_far plan opening start image_is telling_is course_is opened)
-          (subst (λ c. IsThrough c count stage old.book.view) (sym course_is) through)
+          (subst (λ c. IsThrough c count stage old.book.view) (sym course_is) through) kept new after r
+          (kept_is ∙ sym telling_is) left tells
 
       pub course_wants : TellsCourse N image telling course first old.book begun_at now (Err stops.Memory)
       course_wants plan opening start image_is telling_is course_is opened =
@@ -312,51 +314,17 @@ module _ (N : Type 0) (image : ImageValue) (telling : Telling) (course : Course)
           (so_far plan opening start image_is telling_is course_is opened)
 
     -- by how the act came out
-    pub course_told : (count : ℕ) (stage : Stage) (told : ℕ) (play : PlayState) (now : SinkState)
+    pub course_told : (count : ℕ) (stage : Stage) (told : SoTold) (play : PlayState) (now : SinkState)
         (r : Result (Unit {0}) StoryStop)
         → CourseGoesOn N image telling course first begun_at count stage told play now r → r ≡ Ok tt
         → CourseGoes N image telling course first begun_at count stage told play now
     course_told count stage told play now r goes is =
         subst (CourseGoesOn N image telling course first begun_at count stage told play now) is goes
 
-    pub course_stops : (count : ℕ) (stage : Stage) (told : ℕ) (play : PlayState) (now : SinkState)
+    pub course_stops : (count : ℕ) (stage : Stage) (told : SoTold) (play : PlayState) (now : SinkState)
         (r q : Result (Unit {0}) StoryStop) (stop : StoryStop)
         → CourseGoesOn N image telling course first begun_at count stage told play now r → r ≡ Err stop → q ≡ Err stop
         → TellsCourse N image telling course first play.book begun_at now q
     course_stops count stage told play now r q stop goes is told_is =
         subst (TellsCourse N image telling course first play.book begun_at now) (sym told_is)
         (subst (CourseGoesOn N image telling course first begun_at count stage told play now) is goes)
-
--- ---- courses in rounds
-
--- an act that is asked for, and told
-pub act_goes_on : (N : Type 0) (image : ImageValue) (telling : Telling) (number : ℕ) (act : Act) (told new_told : ℕ)
-    (old new : PlayState) (now after : SinkState) (r : Result (Unit {0}) StoryStop)
-    → ((IsOver old.book.view → ⊥) × IsAskedInRound old.book.view act)
-    → TellsAct N image telling (number + 1) (told + 1) act old new now after r → OnOk r (new_told ≡ told + 1)
-    → ActGoesOn N image telling number act told new_told old new now after r
-act_goes_on N image telling number act told new_told old new now after r asked tells counts rounds seed barren settings
-    stage plan opening start image_is telling_is course_is is so_far =
-    by_result r counts
-    (goes_on N plan opening start number stage told old now so_far act is
-    (subst (λ c. IsAskedBy c old.book.view act) (sym course_is) asked) new after r
-    (subst (λ e. TellsAct N plan.image e (number + 1) (told + 1) act old new now after r) (sym telling_is)
-    (subst (λ i. TellsAct N i telling (number + 1) (told + 1) act old new now after r) (sym image_is) tells)))
-  where
-    by_result : (q : Result (Unit {0}) StoryStop) → OnOk q (new_told ≡ told + 1)
-        → GoesOn N plan opening (number + 1) (next_stage plan.course stage (commits_of new)) (told + 1) new start
-        after q
-        → GoesOn N plan opening (number + 1) (next_stage plan.course stage (commits_of new)) new_told new start after q
-    by_result (Ok done) counts goes =
-        subst (λ n. GoesSoFar N plan opening (number + 1) (next_stage plan.course stage (commits_of new)) n new start
-        after) (sym counts) goes
-    by_result (Err stop) counts goes = goes
-
--- one that isn't asked for
-pub act_passes : (N : Type 0) (image : ImageValue) (telling : Telling) (number : ℕ) (act : Act) (told : ℕ)
-    (old : PlayState) (now : SinkState) → ((IsOver old.book.view → ⊥) × IsAskedInRound old.book.view act → ⊥)
-    → ActGoesOn N image telling number act told told old old now now (Ok tt)
-act_passes N image telling number act told old now unasked rounds seed barren settings stage plan opening start image_is
-    telling_is course_is is so_far =
-    passes N plan opening start number stage told old now so_far act is
-    (λ asked. unasked (subst (λ c. IsAskedBy c old.book.view act) course_is asked))

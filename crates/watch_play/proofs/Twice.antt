@@ -117,9 +117,11 @@ module _ (N : Type 0) (image : ImageValue) (course : Course) (opening other_open
       reply_is = same_reply;
       aborted_is = ap (λ (s : Said). s.aborted) said_is;
       old =
-          subst (λ b. AreSameBooks b m'.old) (sym is.old_is) (subst (AreSameBooks p.book) (sym is'.old_is) so_far.go.books);
+          subst (λ b. AreSameBooks b m'.old) (sym is.old_is) (subst (AreSameBooks p.book) (sym is'.old_is)
+          so_far.go.books);
       new =
-          subst (λ b. AreSameBooks b m'.new) (sym is.new_is) (subst (AreSameBooks p'.book) (sym is'.new_is) both.1.books);
+          subst (λ b. AreSameBooks b m'.new) (sym is.new_is) (subst (AreSameBooks p'.book) (sym is'.new_is)
+          both.1.books);
     }
 
   -- one act more of both
@@ -174,7 +176,8 @@ module _ (N : Type 0) (image : ImageValue) (course : Course) (opening other_open
         let inside = well.inside m.act is in
         let number : m'.number ≡ m.number =
         number_is' ∙ (ap (λ k. k + 1) so_far.numbers ∙ sym number_is) in
-        let thing = one_thing n at p q last other front other_front m m' so_far well.good other_good inside act_is moment
+        let thing = one_thing n at p q last other front other_front m m' so_far well.good other_good inside
+        act_is moment
         moment' (at_is' ∙ sym at_is) number in
         let go = (both n at p q last other front other_front m m' so_far well.good other_good inside act_is moment
         moment').1 in

@@ -3,8 +3,9 @@ pub mod Courses
 pub mod Stories
 pub mod Texts
 pub mod Playing
-pub mod Made
+pub mod Counted
 pub mod Telling
+pub mod Made
 pub mod Replies
 pub mod Rounds
 pub mod Lockstep

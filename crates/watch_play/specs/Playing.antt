@@ -1,10 +1,13 @@
 -- What comes of one act.
-use Rattle.std.specs.Prelude.{◌≡◌, ℕ, List, Result, Ok, Err}
+use Rattle.std.specs.Prelude.{◌≡◌, ℕ, List, Result, Ok, Err, true}
 use Rattle.guest_image.specs.ImageValue.{ImageValue}
 use Rattle.step_script.specs.declared.act.Act.{Act}
 use Rattle.step_script.specs.Playing.{PlayState}
 use Rattle.watch_text.specs.Moments.{IsMoment, Moment}
-use Rattle.watch_play.specs.Texts.{moment_lines}
+use Rattle.watch_counts.specs.declared.counts.Counts.{Counts}
+use Rattle.watch_counts.specs.Capped.{capped_counts}
+use Rattle.watch_counts.specs.Counts.{counts_after}
+use Rattle.watch_play.specs.Texts.{has_counts, moment_lines}
 use Rattle.watch_play.specs.declared.playing.PlayedAct.{PlayedAct}
 use Rattle.watch_play.specs.declared.playing.PlayedAct.TheVariants as came
 use Rattle.watch_play.specs.declared.stop.StoryStop.{StoryStop}
@@ -29,8 +32,16 @@ ComesToLine N image telling at number act old came.Untold line new =
     (m : Moment N) × IsMomentAt image at number act m old new
 ComesToLine N image telling at number act old came.Unmade line new = new.book ≡ old.book
 
--- an act of which nothing is told is a moment; or memory ran out, it is none, and the book stays
-abbrev pub MakesAct : Type 0 → ImageValue → (at number : ℕ) → Act → PlayState → PlayState
-    → Result (Unit {0}) StoryStop → Type 0
-MakesAct N image at number act old new (Ok done) = (m : Moment N) × IsMomentAt image at number act m old new
-MakesAct N image at number act old new (Err stop) = (stop ≡ stops.Memory) × (new.book ≡ old.book)
+-- where counts are told, those before and behind a moment are what the code has
+abbrev pub CountsMoment : {N : Type 0} → Telling → Moment N → (before after : Counts) → Type 0
+CountsMoment telling m before after =
+    has_counts telling ≡ true → (c : Counts) → before ≡ capped_counts c → after ≡ capped_counts (counts_after c m)
+
+-- an act of which no line is told is a moment, which is counted where counts are told; or memory ran out, it is none,
+-- and the book stays
+abbrev pub MakesAct : Type 0 → ImageValue → Telling → (at number : ℕ) → Act → PlayState → PlayState
+    → (before after : Counts) → Result (Unit {0}) StoryStop → Type 0
+MakesAct N image telling at number act old new before after (Ok done) =
+    (m : Moment N) × IsMomentAt image at number act m old new × CountsMoment telling m before after
+MakesAct N image telling at number act old new before after (Err stop) =
+    (stop ≡ stops.Memory) × (new.book ≡ old.book)

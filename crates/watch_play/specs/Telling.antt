@@ -1,5 +1,6 @@
 -- How far a story was told.
-use Rattle.std.specs.Prelude.{◌≡◌, ◌⊎◌, ◌+◌, ◌<◌, ◌≤◌, ◌++◌, ◌∷◌, ℕ, List, [], Result, Ok, Err, Some, length}
+use Rattle.std.specs.Prelude.{◌≡◌, ◌⊎◌, ◌+◌, ◌<◌, ◌≤◌, ◌==◌, ◌++◌, ℕ, List, [], Result, Ok, Err, Some, length}
+use Rattle.std.specs.Prelude.{Bool, true, false, if◌then◌else◌}
 use Rattle.guest_image.specs.ImageValue.{ImageValue}
 use Rattle.sim_io.specs.Causes.{Rose}
 use Rattle.sim_io.specs.Parts.{SinkTakes, TakesFront}
@@ -9,15 +10,18 @@ use Rattle.event_def.specs.Book.{BookView}
 use Rattle.event_def.specs.End.{IsOver}
 use Rattle.step_script.specs.declared.act.Act.{Act}
 use Rattle.step_script.specs.Playing.{PlayState}
+use Rattle.watch_counts.specs.declared.counts.Counts.{Counts}
+use Rattle.watch_counts.specs.Capped.{capped_counts}
 use Rattle.watch_text.specs.Moments.{Moment}
 use Rattle.watch_play.specs.declared.stop.StoryStop.{StoryStop}
 use Rattle.watch_play.specs.declared.stop.StoryStop.TheVariants as stops
 use Rattle.watch_play.specs.declared.telling.Telling.{Telling}
-use Rattle.watch_play.specs.Courses.{Course, IsThrough, OfRounds, Order, Stage, at_round, course_act, forced_stage}
-use Rattle.watch_play.specs.Courses.{next_order, next_round, next_stage, stage_after}
+use Rattle.watch_play.specs.Courses.{Course, IsAskedBy, IsThrough, OfRounds, Order, Stage, at_round, course_act}
+use Rattle.watch_play.specs.Courses.{forced_stage, next_order, next_round, next_stage, stage_after}
 use Rattle.watch_play.specs.declared.lockstep.SoFar.{SoFar}
-use Rattle.watch_play.specs.Stories.{StoryLeads, begun, commits_of}
-use Rattle.watch_play.specs.Texts.{opening_lines, story_lines}
+use Rattle.watch_play.specs.Stories.{ActComes, StoryLeads, begun, commits_of}
+use Rattle.watch_play.specs.Counted.{AreCounted, after_act, counts_lines, counts_of, last_counts}
+use Rattle.watch_play.specs.Texts.{has_counts, opening_lines, story_lines}
 
 -- what is told of a course on a machine of these settings, of this image
 pub record Plan : Type 0 where
@@ -31,6 +35,19 @@ abbrev pub lines_by : {N : Type 0} → Plan → BookView → List (Moment N) →
 lines_by plan opening moments =
     story_lines plan.course plan.settings plan.image opening.view plan.telling moments
 
+-- its lines, and these lines of counts behind them where counts are told
+abbrev pub text_with : {N : Type 0} → Plan → BookView → (counts : List ℕ) → List (Moment N) → List ℕ
+text_with plan opening counts moments = if has_counts plan.telling
+    then lines_by plan opening moments ++ counts
+    else lines_by plan opening moments
+
+-- the text of a story so far by this plan: its lines, or the head and the lines of counts that were due
+abbrev pub text_so_far : {N : Type 0} (plan : Plan) (opening : BookView) (count : ℕ) (stage : Stage)
+    (moments : List (Moment N)) (play : PlayState)
+    → StoryLeads plan.image plan.course opening count stage moments play → List ℕ
+text_so_far plan opening count stage moments play goes = text_with plan opening
+    (counts_lines plan.telling plan.image plan.course opening count stage moments play goes) moments
+
 -- so many acts of the course led here, through these moments
 pub record HasStory {N : Type 0} (plan : Plan) (opening : BookView) (moments : List (Moment N)) (book : BookView)
     : Type 0 where
@@ -40,33 +57,49 @@ pub record HasStory {N : Type 0} (plan : Plan) (opening : BookView) (moments : L
   pub goes : StoryLeads plan.image plan.course opening count stage moments last
   pub book_is : book ≡ last.book
 
+-- the text of such a story
+abbrev pub text_of_story : {N : Type 0} (plan : Plan) (opening : BookView) (moments : List (Moment N))
+    (book : BookView) → HasStory plan opening moments book → List ℕ
+text_of_story plan opening moments book s = text_so_far plan opening s.count s.stage moments s.last s.goes
+
+-- and that of one whose course is through: the counts come last, where counts are told
+abbrev pub text_of_course : {N : Type 0} (plan : Plan) (opening : BookView) (moments : List (Moment N))
+    (book : BookView) → HasStory plan opening moments book → List ℕ
+text_of_course plan opening moments book s = text_of_story plan opening moments book s
+    ++ last_counts plan.telling
+    (counts_of plan.image plan.course opening s.count s.stage moments s.last s.goes) s.last
+
 -- the course was played to its end, and all of it was told
 pub record IsAllTold (N : Type 0) (plan : Plan) (opening book : BookView) (before after : SinkState) : Type 0 where
   pub moments : List (Moment N)
   pub story : HasStory plan opening moments book
   pub through : IsThrough plan.course story.count story.stage book.view
-  pub took : SinkTakes before after (lines_by plan opening moments)
+  pub took : SinkTakes before after (text_of_course plan opening moments book story)
   pub later : before.faults ≤ after.faults
 
--- the sink has the lines of these moments, or of all but the last
-abbrev pub TookMost : {N : Type 0} → Plan → BookView → List (Moment N) → SinkState → SinkState → Type 0
-TookMost {N} plan opening moments before after =
-    SinkTakes before after (lines_by plan opening moments)
-    ⊎ ((front : List (Moment N)) × (m : Moment N) × (moments ≡ front ++ m ∷ [])
-    × SinkTakes before after (lines_by plan opening front))
+-- the sink has the text of this story, or of the one that led to its last act or round: the lines of all of its
+-- moments, or of all but the last
+pub data TookMost {N : Type 0} (plan : Plan) (opening : BookView) (moments : List (Moment N)) (book : BookView)
+    (story : HasStory plan opening moments book) (before after : SinkState) : Type 0 where
+  AllTaken : SinkTakes before after (text_of_story plan opening moments book story)
+      → TookMost plan opening moments book story before after
+  MostTaken : (front : List (Moment N)) (old : BookView) (shorter : HasStory plan opening front old)
+      → shorter.count < story.count → length moments ≤ length front + 1
+      → SinkTakes before after (text_of_story plan opening front old shorter)
+      → TookMost plan opening moments book story before after
 
 -- memory ran out, behind whole lines: nothing was told of a book at its opening, or all moments were but at most the
 -- last
 pub record IsToldInPart (N : Type 0) (plan : Plan) (opening book : BookView) (before after : SinkState) : Type 0 where
   pub moments : List (Moment N)
   pub story : HasStory plan opening moments book
-  pub took : ((moments ≡ []) × (after ≡ before)) ⊎ TookMost plan opening moments before after
+  pub took : ((moments ≡ []) × (after ≡ before)) ⊎ TookMost plan opening moments book story before after
 
--- the sink failed: it has a front of the lines of these moments
+-- the sink failed: it has a front of the text of this story, with the counts at its end or without
 pub record IsCutOff (N : Type 0) (plan : Plan) (opening book : BookView) (before after : SinkState) : Type 0 where
   pub moments : List (Moment N)
   pub story : HasStory plan opening moments book
-  pub took : TakesFront before after (lines_by plan opening moments)
+  pub took : TakesFront before after (text_of_course plan opening moments book story)
   pub rose : Rose before.faults after.faults
 
 -- how far a story was told, by what is answered
@@ -77,46 +110,104 @@ Tells N plan opening book before after (Err stops.Sink) = IsCutOff N plan openin
 
 -- ---- a story that goes on
 
--- so many acts of the course led here, to this stage, through so many moments, all of which were told
-pub record IsSoFar {N : Type 0} (plan : Plan) (opening : BookView) (count : ℕ) (stage : Stage) (told : ℕ)
+-- how much was told so far: so many moments, and what was counted of them
+pub record SoTold : Type 0 where
+  pub moments : ℕ
+  pub counts : Counts
+
+-- so many acts of the course led here, to this stage, through so many moments, all of which were told, or counted
+pub record IsSoFar {N : Type 0} (plan : Plan) (opening : BookView) (count : ℕ) (stage : Stage) (told : SoTold)
     (moments : List (Moment N)) (play : PlayState) (before now : SinkState) : Type 0 where
   pub goes : StoryLeads plan.image plan.course opening count stage moments play
-  pub told_are : length moments ≡ told
-  pub took : SinkTakes before now (lines_by plan opening moments)
+  pub told_are : length moments ≡ told.moments
+  pub counted : AreCounted plan.telling plan.image plan.course opening count stage moments play goes told.counts
+  pub took : SinkTakes before now (text_so_far plan opening count stage moments play goes)
   pub later : before.faults ≤ now.faults
 
 -- some story led so far
-abbrev pub GoesSoFar : (N : Type 0) → Plan → BookView → (count : ℕ) → Stage → (told : ℕ) → PlayState
+abbrev pub GoesSoFar : (N : Type 0) → Plan → BookView → (count : ℕ) → Stage → (told : SoTold) → PlayState
     → (before now : SinkState) → Type 0
 GoesSoFar N plan opening count stage told play before now =
     (moments : List (Moment N)) × IsSoFar plan opening count stage told moments play before now
 
 -- so many acts of the course led on from there, to this stage, or the story ended on the way
-abbrev pub GoesOn : (N : Type 0) → Plan → BookView → (count : ℕ) → Stage → (told : ℕ) → (new : PlayState)
+abbrev pub GoesOn : (N : Type 0) → Plan → BookView → (count : ℕ) → Stage → (told : SoTold) → (new : PlayState)
     → (before after : SinkState) → Result (Unit {0}) StoryStop → Type 0
 GoesOn N plan opening count stage told new before after (Ok done) =
     GoesSoFar N plan opening count stage told new before after
 GoesOn N plan opening count stage told new before after (Err stop) =
     Tells N plan opening new.book before after (Err stop)
 
--- whatever story of a course in rounds led to the act of this number, it leads on, to the next stage, or the story ends
--- there
-abbrev pub ActGoesOn : (N : Type 0) → ImageValue → Telling → (number : ℕ) → Act → (told new_told : ℕ)
+-- behind a story so far, at this stage, the next act came: its lines were told where lines are, and it was counted
+-- where counts are, but neither was the end of its round counted, nor were the counts told that may be due behind it
+pub record HasCome (N : Type 0) (plan : Plan) (opening : BookView) (count : ℕ) (stage : Stage) (told : SoTold)
+    (play : PlayState) (before now : SinkState) : Type 0 where
+  pub front : List (Moment N)
+  pub old : PlayState
+  pub goes : StoryLeads plan.image plan.course opening count stage front old
+  pub moments : List (Moment N)
+  pub comes : ActComes plan.image plan.course count stage front old moments play
+  pub told_are : length moments ≡ told.moments
+  pub counted : has_counts plan.telling ≡ true → told.counts ≡ capped_counts
+      (after_act comes (counts_of plan.image plan.course opening count stage front old goes))
+  pub took : SinkTakes before now (text_with plan opening
+      (counts_lines plan.telling plan.image plan.course opening count stage front old goes) moments)
+  pub later : before.faults ≤ now.faults
+
+-- so it came, or the story ended on the way
+abbrev pub ComesOn : (N : Type 0) → Plan → BookView → (count : ℕ) → Stage → (told : SoTold) → (new : PlayState)
+    → (before after : SinkState) → Result (Unit {0}) StoryStop → Type 0
+ComesOn N plan opening count stage told new before after (Ok done) =
+    HasCome N plan opening count stage told new before after
+ComesOn N plan opening count stage told new before after (Err stop) =
+    Tells N plan opening new.book before after (Err stop)
+
+-- the course has no rounds
+abbrev pub HasNoRounds : Course → Type 0
+HasNoRounds (OfRounds rounds seed barren settings) = ⊥
+HasNoRounds other = Unit {0}
+
+-- whatever story of a course without rounds led to the act of this number, which is asked for, it leads on, or the
+-- story ends there
+abbrev pub MomentGoesOn : (N : Type 0) → ImageValue → Telling → (number : ℕ) → Act → (told new_told : SoTold)
     → (old new : PlayState) → (now after : SinkState) → Result (Unit {0}) StoryStop → Type 0
-ActGoesOn N image telling number act told new_told old new now after result =
+MomentGoesOn N image telling number act told new_told old new now after result =
+    (stage : Stage) (plan : Plan) (opening : BookView) (start : SinkState)
+    → plan.image ≡ image → plan.telling ≡ telling → HasNoRounds plan.course
+    → course_act plan.course number stage ≡ Some act → IsAskedBy plan.course old.book.view act
+    → GoesSoFar N plan opening number stage told old start now
+    → GoesOn N plan opening (number + 1) (next_stage plan.course stage (commits_of new)) new_told new start after
+    result
+
+-- whatever story of a course in rounds led to the act of this number, that comes, or the story ends there
+abbrev pub ActComesOn : (N : Type 0) → ImageValue → Telling → (number : ℕ) → Act → (told new_told : SoTold)
+    → (old new : PlayState) → (now after : SinkState) → Result (Unit {0}) StoryStop → Type 0
+ActComesOn N image telling number act told new_told old new now after result =
     (rounds seed barren : ℕ) (settings : Settings) (stage : Stage) (plan : Plan) (opening : BookView)
     (start : SinkState)
     → plan.image ≡ image → plan.telling ≡ telling → plan.course ≡ OfRounds rounds seed barren settings
     → course_act plan.course number stage ≡ Some act → GoesSoFar N plan opening number stage told old start now
+    → ComesOn N plan opening number stage new_told new start after result
+
+-- whatever story of such a course led to it, within this round, where it is the last act of the round or isn't, the
+-- story leads on, to the next stage, or it ends there
+abbrev pub ActGoesOn : (N : Type 0) → ImageValue → Telling → (number : ℕ) → Act → (ends : Bool) → (round : ℕ)
+    → (told new_told : SoTold) → (old new : PlayState) → (now after : SinkState) → Result (Unit {0}) StoryStop → Type 0
+ActGoesOn N image telling number act ends round told new_told old new now after result =
+    (rounds seed barren : ℕ) (settings : Settings) (stage : Stage) (plan : Plan) (opening : BookView)
+    (start : SinkState)
+    → plan.image ≡ image → plan.telling ≡ telling → plan.course ≡ OfRounds rounds seed barren settings
+    → stage.forced ≡ false → stage.round ≡ round → (stage.place + 1 == length stage.order.acts) ≡ ends
+    → course_act plan.course number stage ≡ Some act → GoesSoFar N plan opening number stage told old start now
     → GoesOn N plan opening (number + 1) (next_stage plan.course stage (commits_of new)) new_told new start after
     result
 
--- whatever story of such a course led to a round in this order, the acts of the round lead on, to the next round, or
+-- whatever story of such a course led to this round in this order, the acts of the round lead on, to the next round, or
 -- the story ends on the way
-abbrev pub RoundGoesOn : (N : Type 0) → ImageValue → Telling → (number : ℕ) → List Act → (told new_told : ℕ)
-    → (old new : PlayState) → (now after : SinkState) → Result (Unit {0}) StoryStop → Type 0
-RoundGoesOn N image telling number acts told new_told old new now after result =
-    (rounds seed barren : ℕ) (settings : Settings) (drawn round so_barren : ℕ) (plan : Plan) (opening : BookView)
+abbrev pub RoundGoesOn : (N : Type 0) → ImageValue → Telling → (number : ℕ) → List Act → (round : ℕ)
+    → (told new_told : SoTold) → (old new : PlayState) → (now after : SinkState) → Result (Unit {0}) StoryStop → Type 0
+RoundGoesOn N image telling number acts round told new_told old new now after result =
+    (rounds seed barren : ℕ) (settings : Settings) (drawn so_barren : ℕ) (plan : Plan) (opening : BookView)
     (start : SinkState)
     → plan.image ≡ image → plan.telling ≡ telling → plan.course ≡ OfRounds rounds seed barren settings → round < rounds
     → (let stage = at_round (record { drawn = drawn; acts = acts }) round (commits_of old) so_barren in
@@ -125,15 +216,15 @@ RoundGoesOn N image telling number acts told new_told old new now after result =
     after result)
 
 -- so many acts led to this stage, or the story ended on the way
-abbrev pub LeadsOn : (N : Type 0) → Plan → BookView → Stage → (told : ℕ) → (new : PlayState)
+abbrev pub LeadsOn : (N : Type 0) → Plan → BookView → Stage → (told : SoTold) → (new : PlayState)
     → (before after : SinkState) → Result ℕ StoryStop → Type 0
 LeadsOn N plan opening stage told new before after (Ok count) =
     GoesSoFar N plan opening count stage told new before after
 LeadsOn N plan opening stage told new before after (Err stop) = Tells N plan opening new.book before after (Err stop)
 
 -- whatever story of such a course led to where the least task is brought on, that leads on, or the story ends there
-abbrev pub ForcedGoesOn : (N : Type 0) → ImageValue → Telling → (number told new_told : ℕ) → (old new : PlayState)
-    → (now after : SinkState) → Result ℕ StoryStop → Type 0
+abbrev pub ForcedGoesOn : (N : Type 0) → ImageValue → Telling → (number : ℕ) → (told new_told : SoTold)
+    → (old new : PlayState) → (now after : SinkState) → Result ℕ StoryStop → Type 0
 ForcedGoesOn N image telling number told new_told old new now after result =
     (rounds seed barren : ℕ) (settings : Settings) (order : Order) (round : ℕ) (plan : Plan) (opening : BookView)
     (start : SinkState)
@@ -143,28 +234,29 @@ ForcedGoesOn N image telling number told new_told old new now after result =
     → LeadsOn N plan opening (stage_after seed barren stage (commits_of new)) new_told new start after result)
 
 -- where the next round begins, in the order that follows this one
-abbrev pub next_at : (seed : ℕ) → List Act → SoFar → (round commits : ℕ) → Stage
-next_at seed acts so_far round commits =
-    at_round (next_order seed (record { drawn = so_far.drawn; acts = acts })) round commits so_far.barren
+abbrev pub next_at : (seed : ℕ) → List Act → SoFar → (commits : ℕ) → Stage
+next_at seed acts so_far commits =
+    at_round (next_order seed (record { drawn = so_far.drawn; acts = acts })) so_far.rounds commits so_far.barren
 
 -- so many acts led to where the next round begins, or where the run is over; or the story ended on the way
-abbrev pub LeadsThrough : (N : Type 0) → Plan → BookView → (seed : ℕ) → List Act → (round told : ℕ)
+abbrev pub LeadsThrough : (N : Type 0) → Plan → BookView → (seed : ℕ) → List Act → (told : SoTold)
     → (new : PlayState) → (before after : SinkState) → Result SoFar StoryStop → Type 0
-LeadsThrough N plan opening seed acts round told new before after (Ok so_far) =
+LeadsThrough N plan opening seed acts told new before after (Ok so_far) =
     (stage : Stage) × GoesSoFar N plan opening so_far.acts stage told new before after
-    × ((IsOver new.book.view → ⊥) → stage ≡ next_at seed acts so_far round (commits_of new))
-LeadsThrough N plan opening seed acts round told new before after (Err stop) =
+    × ((IsOver new.book.view → ⊥) → stage ≡ next_at seed acts so_far (commits_of new))
+LeadsThrough N plan opening seed acts told new before after (Err stop) =
     Tells N plan opening new.book before after (Err stop)
 
 -- whatever story of such a course led to the next round, that round, and what brings the least task on behind it, lead
 -- on, or the story ends on the way
 abbrev pub NextGoesOn : (N : Type 0) → ImageValue → Telling → (seed barren : ℕ) → SoFar → (acts new_acts : List Act)
-    → (told new_told : ℕ) → (old new : PlayState) → (now after : SinkState) → Result SoFar StoryStop → Type 0
+    → (told new_told : SoTold) → (old new : PlayState) → (now after : SinkState) → Result SoFar StoryStop → Type 0
 NextGoesOn N image telling seed barren so_far acts new_acts told new_told old new now after result =
-    (rounds round : ℕ) (settings : Settings) (plan : Plan) (opening : BookView) (start : SinkState)
-    → plan.image ≡ image → plan.telling ≡ telling → plan.course ≡ OfRounds rounds seed barren settings → round < rounds
-    → GoesSoFar N plan opening so_far.acts (next_at seed acts so_far round (commits_of old)) told old start now
-    → LeadsThrough N plan opening seed new_acts (round + 1) new_told new start after result
+    (rounds : ℕ) (settings : Settings) (plan : Plan) (opening : BookView) (start : SinkState)
+    → plan.image ≡ image → plan.telling ≡ telling → plan.course ≡ OfRounds rounds seed barren settings
+    → so_far.rounds < rounds
+    → GoesSoFar N plan opening so_far.acts (next_at seed acts so_far (commits_of old)) told old start now
+    → LeadsThrough N plan opening seed new_acts new_told new start after result
 
 -- ---- the opening
 

@@ -1,5 +1,5 @@
 -- The text of a story.
-use Rattle.std.specs.Prelude.{◌%◌, ◌≤◌, ◌==◌, ℕ, Bool, true, false, List, [], ◌++◌, if◌then◌else◌}
+use Rattle.std.specs.Prelude.{◌%◌, ◌≤◌, ◌==◌, ◌&&◌, ℕ, Bool, true, false, not, List, [], ◌++◌, if◌then◌else◌}
 use Rattle.std.specs.List.{flat_map}
 use Rattle.guest_image.specs.ImageValue.{ImageValue}
 use Rattle.spec_state.specs.declared.settings.Settings.{Settings}
@@ -20,7 +20,18 @@ IsTellable other = Unit {0}
 -- lines are told
 abbrev pub has_lines : Telling → Bool
 has_lines tellings.Memory = false
+has_lines (tellings.Counts each) = false
 has_lines other = true
+
+-- counts are told
+abbrev pub has_counts : Telling → Bool
+has_counts (tellings.Counts each) = true
+has_counts other = false
+
+-- they are told behind so many rounds, or moments where the course has no rounds: a multiple of K, unless that is 0
+abbrev pub are_counts_due : Telling → ℕ → Bool
+are_counts_due (tellings.Counts each) number = not (each == 0) && number % each == 0
+are_counts_due other number = false
 
 -- a view is told behind the moment of this number: a multiple of K
 abbrev pub is_due : Telling → ℕ → Bool
@@ -37,13 +48,15 @@ abbrev pub moment_lines : {N : Type 0} → Telling → Moment N → List ℕ
 moment_lines telling m =
     if has_lines telling then line_of m ++ view_text telling m.number m.new.view m.new.steps else []
 
--- the lines before the first act, where lines are told
+-- the lines before the first act, where lines are told; where counts are, the head alone
 abbrev pub opening_lines : Course → Settings → ImageValue → View → Telling → List ℕ
 opening_lines course settings image opening telling =
-    if has_lines telling then head_line (course_word course) settings image ++ placed_lines opening else []
+    if has_lines telling then head_line (course_word course) settings image ++ placed_lines opening
+    else if has_counts telling then head_line (course_word course) settings image else []
 
--- the lines of a story, up to its last moment, where lines are told
+-- the lines of a story, up to its last moment, where lines are told; where counts are, the head alone
 abbrev pub story_lines : {N : Type 0} → Course → Settings → ImageValue → View → Telling → List (Moment N) → List ℕ
 story_lines course settings image opening telling moments =
     if has_lines telling
-    then opening_lines course settings image opening telling ++ flat_map (moment_lines telling) moments else []
+    then opening_lines course settings image opening telling ++ flat_map (moment_lines telling) moments
+    else opening_lines course settings image opening telling

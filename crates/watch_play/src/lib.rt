@@ -8,6 +8,7 @@
 //! book; `fractal_watch` calls it.
 #![tactic(auto)]
 
+mod counting;
 mod courses;
 mod laws;
 mod lockstep;

@@ -1,7 +1,7 @@
 //! The course in lockstep.
 
 ghost use Rattle.std.specs.Prelude.{◌≡◌, ◌≢◌, ◌↔◌, ◌<◌, ◌≤◌, ◌+◌, ◌^◌, ◌++◌, All, IfOk, IsPermutation, IsTrue};
-ghost use Rattle.std.specs.Prelude.{OnOk, ◌==◌, if◌then◌else◌, length, map, replicate};
+ghost use Rattle.std.specs.Prelude.{OnOk, ◌==◌, ◌&&◌, [], if◌then◌else◌, length, map, replicate, true};
 ghost use Rattle.std.specs.List.{flat_map, range_with_len};
 ghost use Rattle.conflict_book.specs.BookViews.{machine_view, view_of};
 ghost use Rattle.spec_state.specs.Least.{IsLeast};
@@ -10,10 +10,16 @@ ghost use Rattle.step_script.specs.Ranges.{ActIsInRange};
 ghost use Rattle.event_def.specs.End.{IsOver};
 ghost use Rattle.watch_play.specs.Courses.{IsAskedInRound, OfRounds, next_draw, next_order, round_acts, shuffled};
 ghost use Rattle.watch_play.specs.Courses.{tile_acts};
-ghost use Rattle.watch_play.specs.Made.{play_of};
-ghost use Rattle.watch_play.specs.Telling.{ActGoesOn, ForcedGoesOn, NextGoesOn, RoundGoesOn, TellsCourse};
-ghost use Rattle.watch_play.specs.Texts.{IsTellable};
+ghost use Rattle.watch_play.specs.Made.{play_of, told_of};
+ghost use Rattle.watch_counts.specs.declared.counts.Counts.{Counts};
+ghost use Rattle.watch_counts.specs.Capped.{capped_counts};
+ghost use Rattle.watch_counts.specs.Counts.{after_round};
+ghost use Rattle.watch_counts.specs.Texts.{counts_line};
+ghost use Rattle.watch_play.specs.Telling.{ActComesOn, ActGoesOn, ForcedGoesOn, NextGoesOn, RoundGoesOn, TellsCourse};
+ghost use Rattle.watch_play.specs.Telling.{TellsText};
+ghost use Rattle.watch_play.specs.Texts.{IsTellable, are_counts_due, has_counts};
 
+use crate::counting::{begin_counts, end_round, pass_act, tell_last_counts};
 use crate::playing::tell_act;
 use crate::stop::StoryStop;
 use crate::watch::Watch;
@@ -37,6 +43,8 @@ struct SoFar {
     acts: u64,
     /// How many rounds in a row brought no commit.
     barren: u32,
+    /// How many rounds ended.
+    rounds: u64,
 }
 
 /// Adds what a tile does at the front of a round: it dispatches, and each of its cores makes a step.
@@ -227,7 +235,7 @@ fn play_asked<N: Naming, P: Placer, T: Tap, K: Sink>(
     requires below { number + 1 < 2 ^ 64 }
     requires within { let settings = (machine_view watch.old.book).settings in
         ActIsInRange settings.tiles settings.cores act }
-    ensures goes_on { ActGoesOn N N.image watch.old.telling number act watch.old.count watch.new.count
+    ensures goes_on { ActComesOn N N.image watch.old.telling number act (told_of watch.old) (told_of watch.new)
         (play_of P.policy T.notes watch.old) (play_of P.policy T.notes watch.new) (K.state sink.old) (K.state sink.new)
         result }
     ensures settings { (machine_view watch.new.book).settings ≡ (machine_view watch.old.book).settings }
@@ -237,34 +245,92 @@ fn play_asked<N: Naming, P: Placer, T: Tap, K: Sink>(
     if is_asked(&watch.book, act) {
         tell_act(watch, sink, image, number + 1, act)
     } else {
+        pass_act(watch, act);
         Ok(())
     }
 }
 
-/// Plays the acts of a round that are asked for, where so many acts came before it.
+/// Ends a round, where so many came before it and this is its end.
+fn end_round_if<N: Naming, P: Placer, T: Tap, K: Sink>(
+    watch: &mut Watch<N, P, T>,
+    sink: &mut K,
+    ends: bool,
+    round: u64,
+) -> Result<(), StoryStop>
+    requires { round + 1 < 2 ^ 64 }
+    ensures tells { (c : Counts) → (has_counts watch.old.telling ≡ true → watch.old.counts ≡ capped_counts c)
+        → TellsText (if ends && are_counts_due watch.old.telling (round + 1)
+        then counts_line (after_round c) (machine_view watch.old.book) else [])
+        (K.state sink.old) (K.state sink.new) result }
+    ensures counts { (c : Counts) → has_counts watch.old.telling ≡ true → watch.old.counts ≡ capped_counts c
+        → watch.new.counts ≡ capped_counts (if ends then after_round c else c) }
+    ensures play { play_of P.policy T.notes watch.new ≡ play_of P.policy T.notes watch.old }
+    ensures settings { (machine_view watch.new.book).settings ≡ (machine_view watch.old.book).settings }
+    ensures telling { watch.new.telling ≡ watch.old.telling }
+    ensures count { watch.new.count ≡ watch.old.count }
+{
+    if ends {
+        end_round(watch, sink, round + 1)
+    } else {
+        Ok(())
+    }
+}
+
+/// Plays an act of a round behind so many, where it is asked for, and ends the round behind its last act.
+fn play_of_round<N: Naming, P: Placer, T: Tap, K: Sink>(
+    watch: &mut Watch<N, P, T>,
+    sink: &mut K,
+    image: &Image,
+    number: u64,
+    act: Act,
+    ends: bool,
+    round: u64,
+) -> Result<(), StoryStop>
+    requires image { image.now ≡ N.image }
+    requires telling { IsTellable watch.old.telling }
+    requires count { watch.old.count ≤ number }
+    requires below { number + 1 < 2 ^ 64 }
+    requires rounds { round + 1 < 2 ^ 64 }
+    requires within { let settings = (machine_view watch.old.book).settings in
+        ActIsInRange settings.tiles settings.cores act }
+    ensures goes_on { ActGoesOn N N.image watch.old.telling number act ends round (told_of watch.old)
+        (told_of watch.new) (play_of P.policy T.notes watch.old) (play_of P.policy T.notes watch.new)
+        (K.state sink.old) (K.state sink.new) result }
+    ensures settings { (machine_view watch.new.book).settings ≡ (machine_view watch.old.book).settings }
+    ensures telling { watch.new.telling ≡ watch.old.telling }
+    ensures count { OnOk result (watch.new.count ≤ number + 1) }
+{
+    play_asked(watch, sink, image, number, act)?;
+    end_round_if(watch, sink, ends, round)
+}
+
+/// Plays the acts of a round that are asked for, where so many acts and rounds came before it.
 fn play_round<N: Naming, P: Placer, T: Tap, K: Sink>(
     watch: &mut Watch<N, P, T>,
     sink: &mut K,
     image: &Image,
     acts: &[Act],
     before: u64,
+    round: u64,
 ) -> Result<(), StoryStop>
     requires image { image.now ≡ N.image }
     requires telling { IsTellable watch.old.telling }
     requires count { watch.old.count ≤ before }
     requires below { before + length acts.now < 2 ^ 64 }
+    requires rounds { round + 1 < 2 ^ 64 }
     requires some { 0 < length acts.now }
     requires within { let settings = (machine_view watch.old.book).settings in
         All (ActIsInRange settings.tiles settings.cores) acts.now }
-    ensures goes_on { RoundGoesOn N N.image watch.old.telling before acts.now watch.old.count watch.new.count
-        (play_of P.policy T.notes watch.old) (play_of P.policy T.notes watch.new) (K.state sink.old) (K.state sink.new)
-        result }
+    ensures goes_on { RoundGoesOn N N.image watch.old.telling before acts.now round (told_of watch.old)
+        (told_of watch.new) (play_of P.policy T.notes watch.old) (play_of P.policy T.notes watch.new)
+        (K.state sink.old) (K.state sink.new) result }
     ensures settings { (machine_view watch.new.book).settings ≡ (machine_view watch.old.book).settings }
     ensures telling { watch.new.telling ≡ watch.old.telling }
     ensures count { OnOk result (watch.new.count ≤ before + length acts.now) }
 {
     for (place, act) in acts.iter().enumerate() {
-        play_asked(watch, sink, image, before + place as u64, *act)?;
+        let ends = place + 1 == acts.len();
+        play_of_round(watch, sink, image, before + place as u64, *act, ends, round)?;
     }
     Ok(())
 }
@@ -280,7 +346,7 @@ fn play_forced<N: Naming, P: Placer, T: Tap, K: Sink>(
     requires image { image.now ≡ N.image }
     requires telling { IsTellable watch.old.telling }
     requires count { watch.old.count ≤ before }
-    ensures goes_on { ForcedGoesOn N N.image watch.old.telling before watch.old.count watch.new.count
+    ensures goes_on { ForcedGoesOn N N.image watch.old.telling before (told_of watch.old) (told_of watch.new)
         (play_of P.policy T.notes watch.old) (play_of P.policy T.notes watch.new) (K.state sink.old) (K.state sink.new)
         result }
     ensures ends { let commits = length (machine_view watch.new.book).history in
@@ -326,10 +392,11 @@ fn play_next<N: Naming, P: Placer, T: Tap, K: Sink>(
     requires few { length acts.old < 2 ^ 32 }
     requires some { 0 < length acts.old }
     requires barren { so_far.barren + 1 < 2 ^ 32 }
+    requires rounds { so_far.rounds + 1 < 2 ^ 64 }
     requires within { let settings = (machine_view watch.old.book).settings in
         All (ActIsInRange settings.tiles settings.cores) acts.old }
-    ensures goes_on { NextGoesOn N N.image watch.old.telling seed barren so_far acts.old acts.new watch.old.count
-        watch.new.count (play_of P.policy T.notes watch.old) (play_of P.policy T.notes watch.new) (K.state sink.old)
+    ensures goes_on { NextGoesOn N N.image watch.old.telling seed barren so_far acts.old acts.new (told_of watch.old)
+        (told_of watch.new) (play_of P.policy T.notes watch.old) (play_of P.policy T.notes watch.new) (K.state sink.old)
         (K.state sink.new) result }
     ensures permuted { OnOk result (IsPermutation acts.old acts.new) }
     ensures len { OnOk result (length acts.new ≡ length acts.old) }
@@ -337,6 +404,7 @@ fn play_next<N: Naming, P: Placer, T: Tap, K: Sink>(
     ensures telling { watch.new.telling ≡ watch.old.telling }
     ensures count { IfOk result (λ behind. watch.new.count ≤ behind.acts) }
     ensures barren { IfOk result (λ behind. behind.barren ≤ so_far.barren + 1) }
+    ensures rounds { IfOk result (λ behind. behind.rounds ≡ so_far.rounds + 1) }
 {
     let Some(behind) = so_far.acts.checked_add(acts.len() as u64) else {
         // No run is so long; want of memory is the one answer that says nothing of it.
@@ -344,13 +412,14 @@ fn play_next<N: Naming, P: Placer, T: Tap, K: Sink>(
     };
     let drawn = next_order(acts, so_far.drawn, seed);
     let begun = watch.book.state().commit_count();
-    play_round(watch, sink, image, acts, so_far.acts)?;
+    play_round(watch, sink, image, acts, so_far.acts, so_far.rounds)?;
     let in_a_row = barren_rounds_after(so_far.barren, begun, watch.book.state().commit_count());
     if in_a_row != barren {
         return Ok(SoFar {
             drawn,
             acts: behind,
             barren: in_a_row,
+            rounds: so_far.rounds + 1,
         });
     }
     let behind = play_forced(watch, sink, image, behind)?;
@@ -358,6 +427,7 @@ fn play_next<N: Naming, P: Placer, T: Tap, K: Sink>(
         drawn,
         acts: behind,
         barren: 0,
+        rounds: so_far.rounds + 1,
     })
 }
 
@@ -383,18 +453,20 @@ fn play_in_order<N: Naming, P: Placer, T: Tap, K: Sink>(
         (K.state sink.old) (K.state sink.new) result }
 {
     watch.book.is_sound();
+    begin_counts(watch);
     let mut so_far = SoFar {
         drawn: seed,
         acts: 0,
         barren: 0,
+        rounds: 0,
     };
     for _round in 0..rounds {
         so_far = play_next(watch, sink, image, acts, seed, barren, so_far)?;
         if watch.book.end().is_some() {
-            return Ok(());
+            return tell_last_counts(watch, sink);
         }
     }
-    Ok(())
+    tell_last_counts(watch, sink)
 }
 
 /// Plays so many rounds in lockstep, each of which shuffles the order of the round before, unless the seed is 0; or as

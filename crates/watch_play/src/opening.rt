@@ -9,7 +9,7 @@ ghost use Rattle.watch_play.specs.Made.{play_of};
 ghost use Rattle.watch_play.specs.Telling.{Plan, TellsOpening, TellsText};
 
 use crate::stop::{StoryStop, tell_text};
-use crate::telling::has_lines;
+use crate::telling::{has_counts, has_lines};
 use crate::watch::Watch;
 use guest_image::Image;
 use place_policy::Placer;
@@ -31,6 +31,7 @@ fn put_opening<N: Naming, P: Placer, T: Tap>(
     ensures play { play_of P.policy T.notes watch.new ≡ play_of P.policy T.notes watch.old }
     ensures telling { watch.new.telling ≡ watch.old.telling }
     ensures count { watch.new.count ≡ watch.old.count }
+    ensures counts { watch.new.counts ≡ watch.old.counts }
 {
     watch.line.clear();
     put_head(&mut watch.line, course, watch.book.settings(), image)?;
@@ -50,6 +51,7 @@ fn tell_lines<N: Naming, P: Placer, T: Tap, K: Sink>(
     ensures play { play_of P.policy T.notes watch.new ≡ play_of P.policy T.notes watch.old }
     ensures telling { watch.new.telling ≡ watch.old.telling }
     ensures count { watch.new.count ≡ watch.old.count }
+    ensures counts { watch.new.counts ≡ watch.old.counts }
 {
     if put_opening(watch, image, course).is_err() {
         return Err(StoryStop::Memory);
@@ -57,8 +59,29 @@ fn tell_lines<N: Naming, P: Placer, T: Tap, K: Sink>(
     tell_text(sink, watch.line.as_bytes())
 }
 
-/// Tells the head, and the tasks of the image where they were placed, where lines are told; else the sink is left
-/// alone.
+/// Tells the head alone.
+fn tell_head<N: Naming, P: Placer, T: Tap, K: Sink>(
+    watch: &mut Watch<N, P, T>,
+    sink: &mut K,
+    image: &Image,
+    course: CourseWord,
+) -> Result<(), StoryStop>
+    ensures tells { TellsText (head_line course (machine_view watch.old.book).settings image.now) (K.state sink.old)
+        (K.state sink.new) result }
+    ensures play { play_of P.policy T.notes watch.new ≡ play_of P.policy T.notes watch.old }
+    ensures telling { watch.new.telling ≡ watch.old.telling }
+    ensures count { watch.new.count ≡ watch.old.count }
+    ensures counts { watch.new.counts ≡ watch.old.counts }
+{
+    watch.line.clear();
+    if put_head(&mut watch.line, course, watch.book.settings(), image).is_err() {
+        return Err(StoryStop::Memory);
+    }
+    tell_text(sink, watch.line.as_bytes())
+}
+
+/// Tells the head, and the tasks of the image where they were placed, where lines are told; where counts are, the head
+/// alone; else the sink is left alone.
 pub fn tell_opening<N: Naming, P: Placer, T: Tap, K: Sink>(
     watch: &mut Watch<N, P, T>,
     sink: &mut K,
@@ -71,9 +94,12 @@ pub fn tell_opening<N: Naming, P: Placer, T: Tap, K: Sink>(
     ensures play { play_of P.policy T.notes watch.new ≡ play_of P.policy T.notes watch.old }
     ensures telling { watch.new.telling ≡ watch.old.telling }
     ensures count { watch.new.count ≡ watch.old.count }
+    ensures counts { watch.new.counts ≡ watch.old.counts }
 {
     if has_lines(watch.telling) {
         tell_lines(watch, sink, image, course)
+    } else if has_counts(watch.telling) {
+        tell_head(watch, sink, image, course)
     } else {
         Ok(())
     }

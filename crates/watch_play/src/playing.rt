@@ -10,10 +10,15 @@ ghost use Rattle.watch_text.specs.Lines.{rest_text};
 ghost use Rattle.watch_text.specs.Moments.{task_of};
 ghost use Rattle.watch_play.specs.Made.{TellsAct, play_of};
 ghost use Rattle.watch_play.specs.Playing.{ComesToLine, MakesAct};
-ghost use Rattle.watch_play.specs.Texts.{IsTellable, has_lines, is_due, view_text};
+ghost use Rattle.watch_play.specs.Texts.{IsTellable, has_counts, has_lines, is_due, view_text};
+ghost use Rattle.watch_counts.specs.declared.counts.Counts.{Counts};
+ghost use Rattle.watch_counts.specs.Capped.{capped_counts};
+ghost use Rattle.watch_counts.specs.Counts.{after_attempt, after_told};
+ghost use Rattle.watch_counts.specs.Kinds.{kind_done};
+ghost use Rattle.watch_counts.specs.Work.{done_by};
 
 use crate::stop::StoryStop;
-use crate::telling::{Telling, has_lines};
+use crate::telling::{Telling, has_counts, has_lines};
 use crate::watch::Watch;
 use conflict_book::{Book, Reply};
 use guest_image::Image;
@@ -23,6 +28,7 @@ use sim_io::{Sink, write_all};
 use std::alloc::AllocError;
 use step_script::{Act, Asked};
 use trace_tap::Tap;
+use watch_counts::{Done, done_by};
 use watch_text::{About, Answer, about_of, put_front, put_rest, put_view};
 
 /// What came of an act.
@@ -45,6 +51,7 @@ fn is_due(telling: Telling, number: u64) -> bool
         Telling::Lines => false,
         Telling::Views(each) => number % u64::from(each) == 0,
         Telling::Memory => false,
+        Telling::Counts(_) => false,
     }
 }
 
@@ -157,8 +164,8 @@ fn tell_line<N: Naming, P: Placer, T: Tap, K: Sink>(
     requires lines { has_lines watch.old.telling ≡ true }
     requires count { watch.old.count + 1 < 2 ^ 64 }
     ensures tells { TellsAct N N.image watch.old.telling at (watch.old.count + 1) act
-        (play_of P.policy T.notes watch.old) (play_of P.policy T.notes watch.new) (K.state sink.old)
-        (K.state sink.new) result }
+        (play_of P.policy T.notes watch.old) (play_of P.policy T.notes watch.new) watch.old.counts watch.new.counts
+        (K.state sink.old) (K.state sink.new) result }
     ensures settings { (machine_view watch.new.book).settings ≡ (machine_view watch.old.book).settings }
     ensures telling { watch.new.telling ≡ watch.old.telling }
     ensures count { OnOk result (watch.new.count ≡ watch.old.count + 1) }
@@ -173,18 +180,66 @@ fn tell_line<N: Naming, P: Placer, T: Tap, K: Sink>(
     }
 }
 
-/// Plays an act of which nothing is told.
+/// What the task has done that a commit is about, where counts are told.
+fn done_before<N: Naming, P: Placer, T: Tap>(
+    watch: &Watch<N, P, T>,
+    asked: &Asked,
+    about: &About,
+) -> Option<Done>
+    ensures { (leg : LegValue) → has_counts watch.now.telling ≡ true → result
+        ≡ done_by {N = N} (machine_view watch.now.book) (asks_of asked.now leg) (task_of about.now) }
+{
+    if has_counts(watch.telling) {
+        done_by(watch.book.state(), asked, about)
+    } else {
+        None
+    }
+}
+
+/// Counts an act that was played, where counts are told: its number, what it came to, with how many instructions its
+/// leg has, what that is about, what the task had done that a commit is about, and the reply.
+fn count_moment<N: Naming, P: Placer, T: Tap>(
+    watch: &mut Watch<N, P, T>,
+    at: u64,
+    act: Act,
+    asked: &Asked,
+    steps: u32,
+    about: &About,
+    done: &Option<Done>,
+    reply: Reply,
+)
+    ensures counts { (leg : LegValue) (c : Counts) → has_counts watch.old.telling ≡ true → leg.steps ≡ steps
+        → watch.old.counts ≡ capped_counts c → watch.new.counts ≡ capped_counts
+        (after_attempt reply (asks_of {N = N} asked.now leg) (task_of about.now) about.now.request
+        (effect_of watch.old.book) done.now (machine_view watch.old.book)
+        (after_told at (kind_done act (asks_of {N = N} asked.now leg)) c)) }
+    ensures play { play_of P.policy T.notes watch.new ≡ play_of P.policy T.notes watch.old }
+    ensures telling { watch.new.telling ≡ watch.old.telling }
+    ensures count { watch.new.count ≡ watch.old.count }
+{
+    if has_counts(watch.telling) {
+        let effect = watch.book.effect();
+        let state = watch.book.state();
+        watch
+            .counts
+            .note(at, act, asked, steps, about, done, reply, effect, state);
+    }
+}
+
+/// Plays an act of this number, of which no line is told, and counts it where counts are.
 fn make_act<N: Naming, P: Placer, T: Tap>(
     watch: &mut Watch<N, P, T>,
     image: &Image,
+    at: u64,
     act: Act,
 ) -> Result<(), StoryStop>
     requires image { image.now ≡ N.image }
     requires within { let settings = (machine_view watch.old.book).settings in
         ActIsInRange settings.tiles settings.cores act }
     requires count { watch.old.count + 1 < 2 ^ 64 }
-    ensures makes { (at : ℕ) → MakesAct N N.image at (watch.old.count + 1) act (play_of P.policy T.notes watch.old)
-        (play_of P.policy T.notes watch.new) result }
+    ensures makes { MakesAct N N.image watch.old.telling at (watch.old.count + 1) act
+        (play_of P.policy T.notes watch.old) (play_of P.policy T.notes watch.new) watch.old.counts watch.new.counts
+        result }
     ensures settings { (machine_view watch.new.book).settings ≡ (machine_view watch.old.book).settings }
     ensures telling { watch.new.telling ≡ watch.old.telling }
     ensures count { OnOk result (watch.new.count ≡ watch.old.count + 1) }
@@ -193,13 +248,16 @@ fn make_act<N: Naming, P: Placer, T: Tap>(
         return Err(StoryStop::Memory);
     };
     let leg = watch.player.leg();
+    let steps = leg.steps();
     // What the act is about belongs to its moment, told or not.
-    let _about = about_of(watch.book.state(), &asked, leg);
+    let about = about_of(watch.book.state(), &asked, leg);
+    let done = done_before(watch, &asked, &about);
     let applied = watch.player.make(&mut watch.book, asked);
     if applied.reply == Reply::Memory {
         return Err(StoryStop::Memory);
     }
     watch.count += 1;
+    count_moment(watch, at, act, &asked, steps, &about, &done, applied.reply);
     Ok(())
 }
 
@@ -217,8 +275,8 @@ pub(crate) fn tell_act<N: Naming, P: Placer, T: Tap, K: Sink>(
     requires telling { IsTellable watch.old.telling }
     requires count { watch.old.count + 1 < 2 ^ 64 }
     ensures tells { TellsAct N N.image watch.old.telling at (watch.old.count + 1) act
-        (play_of P.policy T.notes watch.old) (play_of P.policy T.notes watch.new) (K.state sink.old)
-        (K.state sink.new) result }
+        (play_of P.policy T.notes watch.old) (play_of P.policy T.notes watch.new) watch.old.counts watch.new.counts
+        (K.state sink.old) (K.state sink.new) result }
     ensures settings { (machine_view watch.new.book).settings ≡ (machine_view watch.old.book).settings }
     ensures telling { watch.new.telling ≡ watch.old.telling }
     ensures count { OnOk result (watch.new.count ≡ watch.old.count + 1) }
@@ -226,6 +284,6 @@ pub(crate) fn tell_act<N: Naming, P: Placer, T: Tap, K: Sink>(
     if has_lines(watch.telling) {
         tell_line(watch, sink, image, at, act)
     } else {
-        make_act(watch, image, act)
+        make_act(watch, image, at, act)
     }
 }

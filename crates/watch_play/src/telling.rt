@@ -1,7 +1,7 @@
 //! What is told of a run.
 
 ghost use Rattle.std.specs.Prelude.{◌≡◌};
-ghost use Rattle.watch_play.specs.Texts.{has_lines};
+ghost use Rattle.watch_play.specs.Texts.{are_counts_due, has_counts, has_lines};
 
 /// What is told of a run.
 #[derive(Clone, Copy, Debug, PartialEq, Eq)]
@@ -12,6 +12,9 @@ pub enum Telling {
     Views(u32),
     /// No line: nothing but, at the end, the memory that the run leaves.
     Memory,
+    /// No line of a moment: the counts, at the end, and behind each so many rounds, or moments where the course has no
+    /// rounds. With 0 at the end alone.
+    Counts(u32),
 }
 
 /// Whether lines are told.
@@ -22,5 +25,30 @@ pub(crate) fn has_lines(telling: Telling) -> bool
         Telling::Lines => true,
         Telling::Views(_) => true,
         Telling::Memory => false,
+        Telling::Counts(_) => false,
+    }
+}
+
+/// Whether counts are told.
+pub(crate) fn has_counts(telling: Telling) -> bool
+    ensures { result ≡ has_counts telling }
+{
+    match telling {
+        Telling::Lines => false,
+        Telling::Views(_) => false,
+        Telling::Memory => false,
+        Telling::Counts(_) => true,
+    }
+}
+
+/// Whether counts are told behind the last of so many rounds, or moments where the course has no rounds.
+pub(crate) fn are_counts_due(telling: Telling, number: u64) -> bool
+    ensures { result ≡ are_counts_due telling number }
+{
+    match telling {
+        Telling::Lines => false,
+        Telling::Views(_) => false,
+        Telling::Memory => false,
+        Telling::Counts(each) => each != 0 && number % u64::from(each) == 0,
     }
 }

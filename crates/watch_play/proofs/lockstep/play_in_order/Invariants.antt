@@ -2,7 +2,7 @@ use Rattle.std.proofs.Common.{◌≡◌, ◌≤◌, All, length}
 use Rattle.conflict_book.specs.BookViews.{machine_view}
 use Rattle.step_script.specs.Ranges.{ActIsInRange}
 use Rattle.watch_play.specs.Courses.{OfRounds, round_length}
-use Rattle.watch_play.specs.Made.{play_of}
+use Rattle.watch_play.specs.Made.{play_of, told_of}
 use Rattle.watch_play.specs.Stories.{commits_of}
 use Rattle.watch_play.specs.Telling.{next_at}
 use Rattle.watch_play.proofs.Tellings.{CourseGoes}
@@ -13,8 +13,8 @@ invariant-loop-round g l = record {
   goes : CourseGoes g.row.N.Denot g.N.Naming.image l.fn.watch.telling
       (OfRounds l.rounds l.seed l.barren (machine_view l.fn.watch.book).settings)
       (play_of g.P.Placer.policy g.T.Tap.notes l.fn.watch) (g.K.Sink.state l.fn.sink) l.so_far.acts
-      (next_at l.seed l.acts l.so_far l._round (commits_of (play_of g.P.Placer.policy g.T.Tap.notes l.watch)))
-      l.watch.count (play_of g.P.Placer.policy g.T.Tap.notes l.watch) (g.K.Sink.state l.sink);
+      (next_at l.seed l.acts l.so_far (commits_of (play_of g.P.Placer.policy g.T.Tap.notes l.watch)))
+      (told_of l.watch) (play_of g.P.Placer.policy g.T.Tap.notes l.watch) (g.K.Sink.state l.sink);
   length_is : length l.acts ≡ round_length (machine_view l.fn.watch.book).settings;
   inside : All (ActIsInRange (machine_view l.fn.watch.book).settings.tiles
       (machine_view l.fn.watch.book).settings.cores)
@@ -23,4 +23,5 @@ invariant-loop-round g l = record {
   telling : l.watch.telling ≡ l.fn.watch.telling;
   count : l.watch.count ≤ l.so_far.acts;
   barren : l.so_far.barren ≤ l._round;
+  rounds : l.so_far.rounds ≡ l._round;
 }

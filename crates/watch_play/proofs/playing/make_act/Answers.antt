@@ -1,14 +1,18 @@
-use Rattle.std.proofs.Common.{rules, ◌≢◌, ◌+◌, refl}
+use Rattle.std.proofs.Common.{rules, ◌≢◌, ◌+◌, ◌∙◌, refl, sym}
 use Rattle.event_def.specs.declared.event.Reply.TheVariants as reply
-use Rattle.conflict_book.specs.BookViews.{effect_of, view_of}
+use Rattle.conflict_book.specs.BookViews.{effect_of, machine_view, view_of}
+use Rattle.step_script.specs.Asking.{asks_of}
 use Rattle.step_script.specs.Playing.{PlayState}
 use Rattle.watch_text.specs.Moments.{task_of}
+use Rattle.watch_counts.specs.Capped.{capped_counts}
+use Rattle.watch_counts.specs.Counts.{after_attempt, after_told}
+use Rattle.watch_counts.specs.Kinds.{kind_done}
 use Rattle.watch_play.specs.Made.{play_of}
 use Rattle.watch_play.proofs.Lined.{is_told, told_by}
 use Rattle.watch_play.proofs.playing.make_act.Goals as goal
 
 pub returns-clause-makes : goal.returns-clause-makes
-returns-clause-makes g c = λ at.
+returns-clause-makes g c =
     let number = c.args.watch.now.count + 1 in
     let old = play_of g.P.Placer.policy g.T.Tap.notes c.args.watch.now in
     let new : PlayState = record {
@@ -18,13 +22,19 @@ returns-clause-makes g c = λ at.
     let leg = c.leg-leg.result.now in
     let about = c.about_of-about in
     let task = task_of about.result in
+    let asks = asks_of {N = g.row.N.Denot} c.in-Ok.asked leg in
     let applied = c.make-applied in
     let effect = effect_of applied.new.book in
     let there : applied.result.reply ≢ reply.Memory = search rules in (
-      told_by g.row.N.Denot g.N.Naming.image at number c.args.act old new c.in-Ok.asked leg c.ask.new.self.leg task
-          about.result.request applied.result.reply applied.result.aborted effect c.leg-leg.ensures leg,
-      is_told g.row.N.Denot g.N.Naming.image at number c.args.act old new c.in-Ok.asked leg c.ask.new.self.leg task
-          about.result.request applied.result.reply applied.result.aborted effect c.leg-leg.ensures
-          c.state.result.now.view new c.state.ensures.view refl c.in-Ok.ensures.asks about.ensures.task
+      told_by g.row.N.Denot g.N.Naming.image c.args.at number c.args.act old new c.in-Ok.asked leg c.ask.new.self.leg
+          task about.result.request applied.result.reply applied.result.aborted effect c.leg-leg.ensures leg,
+      is_told g.row.N.Denot g.N.Naming.image c.args.at number c.args.act old new c.in-Ok.asked leg c.ask.new.self.leg
+          task about.result.request applied.result.reply applied.result.aborted effect c.leg-leg.ensures
+          c.state.result.now.view (play_of g.P.Placer.policy g.T.Tap.notes c.count_moment.new.watch)
+          c.state.ensures.view c.count_moment.ensures.play c.in-Ok.ensures.asks about.ensures.task
           about.ensures.request there applied.ensures.comes applied.ensures.told,
+      λ told counts are. c.count_moment.ensures.counts leg counts told (sym c.steps-steps.ensures.value) are
+          ∙ (λ i. capped_counts (after_attempt applied.result.reply asks task about.result.request effect
+          (c.done_before-done.ensures leg told i) (machine_view applied.new.book)
+          (after_told c.args.at (kind_done c.args.act asks) counts))),
     )

@@ -23,12 +23,16 @@ returns-in-Ok-tell_rest-clause-comes g c =
     let applied = c.make-applied in
     let effect = effect_of applied.new.book in
     let there : applied.result.reply ≢ reply.Memory = search rules in (
-      told_by g.row.N.Denot g.N.Naming.image c.args.at number c.args.act old new c.in-Ok.asked leg c.ask.new.self.leg task
+      told_by g.row.N.Denot g.N.Naming.image c.args.at number c.args.act old new c.in-Ok.asked leg
+          c.ask.new.self.leg task
           about.result.request applied.result.reply applied.result.aborted effect c.leg-leg.ensures leg,
-      is_told g.row.N.Denot g.N.Naming.image c.args.at number c.args.act old new c.in-Ok.asked leg c.ask.new.self.leg task
-          about.result.request applied.result.reply applied.result.aborted effect c.leg-leg.ensures c.state.result.now.view
+      is_told g.row.N.Denot g.N.Naming.image c.args.at number c.args.act old new c.in-Ok.asked leg
+          c.ask.new.self.leg task
+          about.result.request applied.result.reply applied.result.aborted effect c.leg-leg.ensures
+          c.state.result.now.view
           (play_of g.P.Placer.policy g.T.Tap.notes c.tell_rest.new.watch) c.state.ensures.view c.tell_rest.ensures.play
-          c.in-Ok.ensures.asks about.ensures.task about.ensures.request there applied.ensures.comes applied.ensures.told,
+          c.in-Ok.ensures.asks about.ensures.task about.ensures.request there applied.ensures.comes
+          applied.ensures.told,
       line_is g.row.N.Denot g.N.Naming.image c.args.at number c.args.act old new
           (asks_of {N = g.row.N.Denot} c.in-Ok.asked leg) task about.result.request applied.result.reply
           applied.result.aborted effect c.args.watch.now.telling (string_bytes c.clear.new.self)
@@ -50,10 +54,14 @@ returns-in-Err-clause-comes g c =
     let applied = c.make-applied in
     let effect = effect_of applied.new.book in
     let there : applied.result.reply ≢ reply.Memory = search rules in (
-      told_by g.row.N.Denot g.N.Naming.image c.args.at number c.args.act old new c.in-Ok.asked leg c.ask.new.self.leg task
+      told_by g.row.N.Denot g.N.Naming.image c.args.at number c.args.act old new c.in-Ok.asked leg
+          c.ask.new.self.leg task
           about.result.request applied.result.reply applied.result.aborted effect c.leg-leg.ensures leg,
-      is_told g.row.N.Denot g.N.Naming.image c.args.at number c.args.act old new c.in-Ok.asked leg c.ask.new.self.leg task
-          about.result.request applied.result.reply applied.result.aborted effect c.leg-leg.ensures c.state.result.now.view
+      is_told g.row.N.Denot g.N.Naming.image c.args.at number c.args.act old new c.in-Ok.asked leg
+          c.ask.new.self.leg task
+          about.result.request applied.result.reply applied.result.aborted effect c.leg-leg.ensures
+          c.state.result.now.view
           (play_of g.P.Placer.policy g.T.Tap.notes c.tell_rest.new.watch) c.state.ensures.view c.tell_rest.ensures.play
-          c.in-Ok.ensures.asks about.ensures.task about.ensures.request there applied.ensures.comes applied.ensures.told,
+          c.in-Ok.ensures.asks about.ensures.task about.ensures.request there applied.ensures.comes
+          applied.ensures.told,
     )

@@ -7,5 +7,6 @@ pub returns-else-has_lines-clause-tells : goal.returns-else-has_lines-clause-tel
 returns-else-has_lines-clause-tells g c =
     act_untold g.row.N.Denot g.N.Naming.image c.args.watch.now.telling c.args.at (c.args.watch.now.count + 1)
     c.args.act (play_of g.P.Placer.policy g.T.Tap.notes c.args.watch.now)
-    (play_of g.P.Placer.policy g.T.Tap.notes c.make_act.new.watch) (g.K.Sink.state c.args.sink.now) c.make_act.result
-    (search rules) (c.make_act.ensures.makes c.args.at)
+    (play_of g.P.Placer.policy g.T.Tap.notes c.make_act.new.watch) c.args.watch.now.counts
+    c.make_act.new.watch.counts (g.K.Sink.state c.args.sink.now) c.make_act.result
+    (search rules) c.make_act.ensures.makes
