@@ -39,7 +39,7 @@ def store(address: int, value: int = 1, event: int = 1) -> Access:
 def member(it: Any, timestamp: int, dispatch: float, *accesses: Access, is_gone: bool = False) -> TakenTask:
     """A task that was taken back, with what it had done."""
     time = root(True).time(timestamp, dispatch)
-    return TakenTask(it, time, len(accesses), list(accesses), [], "running", 0, is_gone)
+    return TakenTask(it, time, len(accesses), list(accesses), [], "running", 0, is_gone, [])
 
 
 def event(members: list[TakenTask], asker: Any = None, access: Optional[Access] = None, **line: Any) -> Any:

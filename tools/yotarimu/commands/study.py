@@ -48,6 +48,7 @@ from yotarimu.courses.grid import MOST_RUNS, cells_of, picture_of, shard_of, val
 from yotarimu.courses.shards import join_shards
 from yotarimu.courses.study import Choice, StudyRows, Study, csv_of, rows_in, tell
 from yotarimu.figures.columns import COLUMNS, END, UNLESS_TOLD
+from yotarimu.figures.counted import COUNTED
 from yotarimu.programs.calls import Calls
 from yotarimu.programs.program import SECOND_PROGRAM
 from yotarimu.programs.table import Table
@@ -110,8 +111,11 @@ def study_of(words: Sequence[str], grid: Table) -> tuple[StudyRows, list[str], d
     if not shard.of(choices):
         raise Refusal(f"shard {shard.number} has nothing to do, as there are {len(choices)} choices.")
     calls = Calls(SECOND_PROGRAM if seen["program"] is None else pathlib.Path(seen["program"]))
+    columns = columns_of(seen["columns"])
+    # A file and a plot may have each column.
+    is_counted = seen["csv"] is None and seen["plot"] is None and set(columns) <= set(COUNTED)
     study = Study({path: read_bytes(path) for path in paths}, number_of(seen, "seed", 0, MOST_SEED, 0),
-                  number_of(seen, "rounds", 1, MOST_ROUNDS, MOST_ROUNDS), columns_of(seen["columns"]), calls, shard)
+                  number_of(seen, "rounds", 1, MOST_ROUNDS, MOST_ROUNDS), columns, calls, shard, is_counted)
     return StudyRows(study, choices), [name for name in grid.course_options if len(values.get(name, [])) > 1], seen
 
 

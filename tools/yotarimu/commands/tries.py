@@ -18,13 +18,13 @@ from yotarimu.common.outcome import Refusal
 from yotarimu.common.words import Words
 
 from tries import (
-    applications, build, c_tasks, causes, contents, debug, documents, explain, figures, gate, instruction_set,
+    applications, build, c_tasks, causes, contents, counts, debug, documents, explain, figures, gate, instruction_set,
     interrupts, launcher, lockstep, packages, pages, resume, schedules, studies, sweep, watch, web, words)
 from tries.place import Failure, Omission, Place
 
 Attempt = Callable[[Place], None]
 PARTS = (launcher, words, packages, build, c_tasks, instruction_set, contents, applications, explain, gate, sweep,
-         resume, schedules, lockstep, studies, watch, causes, debug, figures, pages, web, interrupts, documents)
+         resume, schedules, lockstep, studies, watch, counts, causes, debug, figures, pages, web, interrupts, documents)
 TRIES: list[Attempt] = [attempt for part in PARTS for attempt in part.TRIES]
 OK, FAILED, LEFT_OUT = "ok", "FAILED", "left"
 

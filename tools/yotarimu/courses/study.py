@@ -15,13 +15,17 @@ from yotarimu.common.progress import show_line
 from yotarimu.common.tables import row_of, table
 from yotarimu.courses.grid import Shard
 from yotarimu.figures.columns import COLUMNS, END, Row, heads
+from yotarimu.figures.counted import figures_of_counts
 from yotarimu.figures.run import Figures, figures_of
+from yotarimu.lines.counts_text import CountsText
 from yotarimu.lines.reader import Reader
 from yotarimu.programs.calls import Calls
 from yotarimu.programs.table import Value, option_words
 
 # The statuses of a run that was told to its end.
 TOLD = (0, 3, 4)
+# How far a choice has come is counted once in so many rounds.
+ROUNDS_BETWEEN = 1_000
 # The columns of CSV before those of the options: of how many shards which one a row is of, and of how many choices.
 SHARD_COLUMNS = ("shard", "shards", "choice", "choices", "image")
 
@@ -44,6 +48,8 @@ class Study:
     columns: Sequence[str]
     calls: Calls
     shard: Shard = Shard()
+    # Whether counts are enough for all that is told of it.
+    is_counted: bool = False
 
     def need_images(self) -> None:
         """Refuses what no choice can play, before anything is written."""
@@ -54,9 +60,10 @@ class Study:
 
     def row(self, choice: Choice, tell: Tell) -> Row:
         """What comes of a choice. How many rounds were played is told now and then."""
-        words = ["lockstep", str(self.rounds), str(self.seed)]
-        status, figures = self.calls.read([*words, *option_words(choice.options)], self.images[choice.image],
-                                          functools.partial(self.figures, tell=tell))
+        words = ["lockstep", str(self.rounds), str(self.seed), *option_words(choice.options)]
+        if self.is_counted:
+            words = ["counts", "every", str(ROUNDS_BETWEEN), *words]
+        status, figures = self.calls.read(words, self.images[choice.image], functools.partial(self.figures, tell=tell))
         if status not in TOLD:
             return Row(f"none: status {status}")
         if isinstance(figures, Refusal):
@@ -67,6 +74,8 @@ class Study:
 
     def figures(self, file: BinaryIO, tell: Tell) -> Figures:
         """The figures of a run as it is told; acts or rounds are told as they come."""
+        if self.is_counted:
+            return figures_of_counts(CountsText(file, "the second program"), tell)
         watched = Reader(file, "the second program")
         rounds = watched.machine.rounds
         return figures_of(watched, lambda act: tell(act if rounds is None else rounds.number))

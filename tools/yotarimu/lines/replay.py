@@ -152,6 +152,7 @@ class TakenTask(NamedTuple):
     state: str
     core: Optional[int]
     is_gone: bool
+    emitted: list[int]
 
 
 class ToldLine:
@@ -392,7 +393,8 @@ class Machine:
         task = self.task_at(number)
         if task.work != work:
             raise WrongLine(f"task {number} executed {task.work} instructions, and not {work}")
-        return TakenTask(task, task.time(), task.work, task.accesses, task.children, task.state, task.core, is_gone)
+        return TakenTask(task, task.time(), task.work, task.accesses, task.children, task.state, task.core, is_gone,
+                         task.emitted)
 
     def spill_by_name(self, number: int, creator: int, index: int) -> Task:
         """Spills the idle task of an id to its tile's block; refuses a line that gives it another name."""

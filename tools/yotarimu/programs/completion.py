@@ -32,7 +32,7 @@ _{name}() {{
                         words='{course_options}'
                         [ "$COMP_CWORD" -ne 2 ] || words='{leading}'
                         case "$COMP_CWORD ${{COMP_WORDS[2]}}" in
-                            '3 memory' | '4 views') words='{courses}' ;;
+                            '3 memory' | '3 counts' | '4 views' | '5 counts') words='{courses}' ;;
                         esac
                         ;;
                     help) words='{first}' ;;
@@ -112,7 +112,7 @@ def words_of(options: Mapping[str, Option]) -> str:
 
 def leading_words(table: Table) -> str:
     """What may stand right behind `watch`."""
-    return " ".join([*table.course_rows, "memory", "views"])
+    return " ".join([*table.course_rows, "memory", "views", "counts"])
 
 
 def option_text(option: Option) -> str:
