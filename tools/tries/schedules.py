@@ -372,7 +372,7 @@ def study_is_as_it_was(place: Place) -> None:
     place.needs_second_program()
     study = (place.clone / "docs" / "machine" / "STUDY.md").read_text()
     text = "```\n./fractal generate walk 7 250 > small.bin\n```\n\n"
-    text += study[study.index("## Queues"):study.index("## Scratch")]
+    text += study[study.index("## Queues"):study.index("## Filters")]
     answer = place.call("fractal study", "--page", write_file(place, "page.md", text.encode()))
     told = [line.rpartition(": ")[2] for line in answer.output.decode().splitlines()]
     expect((answer.status, told) == (0, ["as it was"] * 2), "both tables", answer)
