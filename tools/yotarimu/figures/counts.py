@@ -192,7 +192,8 @@ class LineCounts:
 
     def line(self) -> dict[str, Any]:
         """The counts so far as the program tells them."""
-        self.work["left"] = sum(task.work for task in self.machine.tasks.values())
+        # The machine may be an act ahead, where acts pass before that act and a line is due behind them.
+        self.work["left"] = self.work["executed"] - self.work["useful"] - self.work["wasted"]
         return {"counts": self.events, "work": self.work, "run": self.run, "stalls": self.stalls, "made": self.made,
                 "told": self.told, "passed": self.passed, "committed": self.committed, "undone": self.undone,
                 "taken": self.taken, "discarded": self.discarded, "now": self.now, "over_events": self.over_events,
