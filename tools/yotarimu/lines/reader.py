@@ -24,7 +24,6 @@ from yotarimu.common.outcome import Refusal
 from yotarimu.courses.schedules import MOST_CORES, MOST_TILES
 from yotarimu.images.image import Image
 from yotarimu.lines.fields import Line, Shapes, WrongLine
-from yotarimu.lines.foresight import foresight_of
 from yotarimu.lines.replay import Machine, ToldLine
 
 # The values that the numbers of a head may have: docs/guest/FORMATS.md.
@@ -53,6 +52,9 @@ class Reader:
         self.head = self.read_head()
         with self.place_told():
             self.machine = Machine(self.head, image)
+        # Its forms are made of the acts' fields where it is first read. The lint reads this module, and is to tell of
+        # an act that a list of them lacks.
+        from yotarimu.lines.foresight import foresight_of
         self.foresight = foresight_of(self.machine)
 
     def read_head(self) -> Line:
