@@ -1,5 +1,5 @@
 -- Sums over the numbers from 0 on, and over lists, as far as a loop has come.
-use Rattle.std.proofs.Common.{◌≡◌, ◌∙◌, ◌≤◌, ℕ, ◌+◌, Bool, true, false, ap, arith, length, map, refl, sym}
+use Rattle.std.proofs.Common.{◌≡◌, ◌∙◌, ◌≤◌, ℕ, ◌+◌, Bool, true, false, ap, arith, refl, sym}
 use Rattle.std.specs.Prelude.{cond, count_by, sum_by}
 use Rattle.std.specs.List.{range_with_len}
 use Rattle.std.proofs.lemmas.List.{map-id}
@@ -43,3 +43,12 @@ capped_sum_more f count old new so more =
 pub few_more : (holds : Bool) (old new count : ℕ) → new ≡ old + cond holds 1 0 → old ≤ count → new ≤ count + 1
 few_more true old new count is few = omega (arith, is, few)
 few_more false old new count is few = omega (arith, is, few)
+
+-- a sum that stops, with those that pass a test: one more of them, or not
+pub capped_count_more : (test : ℕ → Bool) (sum count old new : ℕ)
+    → old ≡ capped (sum + count_by test (range_with_len 0 count))
+    → ((c : ℕ) → old ≡ capped c → new ≡ capped (c + cond (test count) 1 0))
+    → new ≡ capped (sum + count_by test (range_with_len 0 (count + 1)))
+capped_count_more test sum count old new so more =
+    let one = sum_more (λ k. cond (test k) 1 0) count in
+    more (sum + count_by test (range_with_len 0 count)) so ∙ ap capped (omega (arith, one))

@@ -1,5 +1,5 @@
 -- The line of counts that stopped is that of the true ones.
-use Rattle.std.proofs.Common.{◌≡◌, ◌∙◌, ℕ, ◌++◌, ◌∷◌, [], List, ap, map, refl, codes}
+use Rattle.std.proofs.Common.{◌≡◌, ℕ, ◌++◌, ◌∷◌, [], List, ap, map, refl, codes}
 use Rattle.watch_text.specs.Fields.{items_text, more_items}
 use Rattle.watch_counts.specs.declared.counts.Counts.{Counts}
 use Rattle.watch_counts.specs.Capped.{capped, capped_counts}

@@ -90,11 +90,14 @@ abbrev pub not_stalled : ℕ → Option ℕ → List Bool → List Bool
 not_stalled tile None cores = cores
 not_stalled tile (Some core) cores = put_stalled tile core false cores
 
--- how many cores pass a test, by their tile and whether they are stalled, on the task that they hold
+-- whether a core of a tile passes a test, by whether it is stalled, on the task that it holds
+abbrev pub on_core : View → List Bool → (Bool → Option Task → Bool) → (tile core : ℕ) → Bool
+on_core view stalled test tile core = test (slice_index_or stalled (4 * tile + core) false)
+    (task_if view (slice_index_or (cores_at view tile) core None))
+
+-- how many cores of a tile do
 abbrev pub cores_in : View → List Bool → (Bool → Option Task → Bool) → ℕ → ℕ
-cores_in view stalled test tile = count_by
-    (λ core. test (slice_index_or stalled (4 * tile + core) false)
-    (task_if view (slice_index_or (cores_at view tile) core None))) (range_with_len 0 view.settings.cores)
+cores_in view stalled test tile = count_by (on_core view stalled test tile) (range_with_len 0 view.settings.cores)
 
 abbrev pub runs : Bool → Option Task → Bool
 runs stalled None = false

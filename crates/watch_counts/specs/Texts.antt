@@ -1,6 +1,5 @@
 -- The line of counts: groups of numbers under their names, in the order in which docs/machine/FIGURES.md tells them.
 use Rattle.std.specs.Prelude.{◌-◌, ◌^◌, ℕ, List, [], ◌∷◌, ◌++◌, codes, decimal, if◌then◌else◌, nat_lt}
-use Rattle.std.specs.List.{flat_map}
 use Rattle.watch_text.specs.Fields.{items_text}
 use Rattle.watch_counts.specs.declared.accesses.AccessCounts.{AccessCounts}
 use Rattle.watch_counts.specs.declared.acts.ActCounts.{ActCounts}

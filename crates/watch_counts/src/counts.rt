@@ -1,20 +1,17 @@
 //! All that is counted of a run that is watched.
 
-ghost use Rattle.std.specs.Prelude.{◌≡◌, ◌+◌, ℕ, length};
-ghost use Rattle.spec_state.specs.View.{block_at};
+ghost use Rattle.std.specs.Prelude.{◌≡◌, ◌+◌, ℕ, sum_by};
 ghost use Rattle.watch_counts.specs.Capped.{capped, capped_counts};
 ghost use Rattle.watch_counts.specs.Counts.{counts_at};
 ghost use Rattle.watch_counts.specs.Nothing.{no_counts};
-ghost use Rattle.watch_counts.specs.Work.{over_tiles, used_by, work_left};
-ghost use Rattle.spec_state.specs.View.{queue_at};
-ghost use Rattle.std.specs.Prelude.{sum_by};
+ghost use Rattle.watch_counts.specs.Work.{used_by, work_left};
 
 use crate::accesses::AccessCounts;
 use crate::acts::ActCounts;
 use crate::causes::CauseCounts;
 use crate::domains::DomainCounts;
 use crate::numbers::more;
-use crate::places::{PlaceCounts, places_of};
+use crate::places::{PlaceCounts, places_of, spilled_of};
 use crate::stalls::StallCounts;
 use crate::tiles::TileCounts;
 use crate::work::WorkCounts;
@@ -71,17 +68,6 @@ pub struct Counts {
     pub lengths: [u64; 17],
     /// Work and tasks that were taken back, by tile.
     pub tiles: TileCounts,
-}
-
-/// How many tasks stand in blocks.
-fn spilled_in<N: Naming>(state: &State<N>) -> u64
-    ensures { let view = state.now.view in result ≡ capped (over_tiles view (λ tile. length (block_at view tile))) }
-{
-    let mut spilled = 0;
-    for tile in 0..state.settings().tiles {
-        spilled = more(spilled, state.block_len(tile) as u64);
-    }
-    spilled
 }
 
 /// The instructions that the task of an id has executed.
@@ -153,7 +139,7 @@ impl Counts {
         ensures { result ≡ capped_counts (counts_at state.now.view) }
     {
         let mut counts = Counts::none();
-        counts.opening = spilled_in(state);
+        counts.opening = spilled_of(state);
         counts.standing = places_of(state, &counts.stalled_cores);
         counts
     }

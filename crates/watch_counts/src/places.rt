@@ -1,13 +1,14 @@
 //! Where tasks are: in task queues, on cores, in commit queues and in blocks.
 
-ghost use Rattle.std.specs.Prelude.{◌≡◌, ◌+◌, ◌*◌, ◌^◌, ◌<◌, None, cond, false, length, max, is_some, option_copied};
+ghost use Rattle.std.specs.Prelude.{◌≡◌, ◌+◌, ◌*◌, ◌<◌, ℕ, None, cond, false, length, max, is_some, option_copied};
 ghost use Rattle.std.specs.Prelude.{slice_index_or};
 ghost use Rattle.spec_state.specs.View.{block_at, cores_at, finished_at, queue_at};
 ghost use Rattle.spec_state.specs.Tasks.{trap_cause};
 ghost use Rattle.watch_text.specs.Changes.{task_if};
 ghost use Rattle.watch_counts.specs.Nothing.{no_places};
-ghost use Rattle.watch_counts.specs.Capped.{capped_places};
+ghost use Rattle.watch_counts.specs.Capped.{capped, capped_places};
 ghost use Rattle.watch_counts.specs.Counts.{by_place, cores_in, is_trapped, places, put_stalled, runs, stalls};
+ghost use Rattle.watch_counts.specs.Work.{over_tiles};
 
 use crate::numbers::{greater, more, sum_of};
 use rv_core::Naming;
@@ -38,6 +39,21 @@ struct CoreCounts {
     trapped: u64,
 }
 
+impl CoreCounts {
+    /// None on any core.
+    fn none() -> Self
+        ensures running { result.running ≡ 0 }
+        ensures stalled { result.stalled ≡ 0 }
+        ensures trapped { result.trapped ≡ 0 }
+    {
+        CoreCounts {
+            running: 0,
+            stalled: 0,
+            trapped: 0,
+        }
+    }
+}
+
 impl PlaceCounts {
     /// None anywhere.
     pub(crate) fn none() -> Self
@@ -64,25 +80,6 @@ impl PlaceCounts {
         self.trapped = sum_of(self.trapped, places.trapped);
         self.finished = sum_of(self.finished, places.finished);
         self.spilled = sum_of(self.spilled, places.spilled);
-    }
-
-    /// The tasks of one tile more.
-    fn add_tile(&mut self, queued: u64, cores: CoreCounts, finished: u64, spilled: u64)
-        ensures { (c : PlaceCounts) → self.old ≡ capped_places c → self.new ≡ capped_places (record {
-          queued = c.queued + queued;
-          running = c.running + cores.running;
-          stalled = c.stalled + cores.stalled;
-          trapped = c.trapped + cores.trapped;
-          finished = c.finished + finished;
-          spilled = c.spilled + spilled;
-        }) }
-    {
-        self.queued = more(self.queued, queued);
-        self.running = more(self.running, cores.running);
-        self.stalled = more(self.stalled, cores.stalled);
-        self.trapped = more(self.trapped, cores.trapped);
-        self.finished = more(self.finished, finished);
-        self.spilled = more(self.spilled, spilled);
     }
 
     /// Keeps the greater of both, place by place.
@@ -117,18 +114,6 @@ fn is_stalled(cores: &[bool; 64], tile: u32, core: u32) -> bool
     if place < 64 { cores[place] } else { false }
 }
 
-/// The task that a core of a tile holds.
-fn task_on<N: Naming>(state: &State<N>, tile: u32, core: u32) -> Option<&Task>
-    requires tile { tile < state.now.view.settings.tiles }
-    requires core { core < state.now.view.settings.cores }
-    ensures { option_copied result ≡ task_if state.now.view (slice_index_or (cores_at state.now.view tile) core None) }
-{
-    match state.on_core(tile, core) {
-        None => None,
-        Some(id) => state.find(id),
-    }
-}
-
 /// Whether it stands at a trap.
 fn is_at_trap(status: Status) -> bool
     ensures { result ≡ is_some (trap_cause status) }
@@ -141,57 +126,52 @@ fn is_at_trap(status: Status) -> bool
     }
 }
 
-fn runs(stalled: bool, task: Option<&Task>) -> bool
-    ensures { result ≡ runs stalled (option_copied task.entry) }
-{
-    match task {
-        None => false,
-        Some(task) => !is_at_trap(task.status) && !stalled,
-    }
-}
-
-fn stalls(stalled: bool, task: Option<&Task>) -> bool
-    ensures { result ≡ stalls stalled (option_copied task.entry) }
-{
-    match task {
-        None => false,
-        Some(task) => !is_at_trap(task.status) && stalled,
-    }
-}
-
-fn is_trapped(stalled: bool, task: Option<&Task>) -> bool
-    ensures { result ≡ is_trapped stalled (option_copied task.entry) }
-{
-    let _ = stalled;
-    match task {
-        None => false,
-        Some(task) => is_at_trap(task.status),
-    }
-}
-
-/// One more where something holds.
+/// The task that a core of a tile holds.
 #[inline(always)]
-fn one_if(count: u64, holds: bool) -> u64
-    requires { count < 2 ^ 32 }
-    ensures { result ≡ count + cond holds 1 0 }
+fn task_on<N: Naming>(state: &State<N>, tile: u32, core: u32) -> Option<&Task>
+    requires tile { tile < state.now.view.settings.tiles }
+    requires core { core < state.now.view.settings.cores }
+    ensures { option_copied result ≡ task_if state.now.view (slice_index_or (cores_at state.now.view tile) core None) }
 {
-    if holds { count + 1 } else { count }
+    state.is_stored();
+    match state.on_core(tile, core) {
+        None => None,
+        Some(id) => Some(state.task(id)),
+    }
 }
 
-/// How many tasks are on the cores of a tile.
-fn cores_of<N: Naming>(state: &State<N>, cores: &[bool; 64], tile: u32) -> CoreCounts
-    requires { tile < state.now.view.settings.tiles }
-    ensures running { result.running ≡ cores_in state.now.view cores.now runs tile }
-    ensures stalled { result.stalled ≡ cores_in state.now.view cores.now stalls tile }
-    ensures trapped { result.trapped ≡ cores_in state.now.view cores.now is_trapped tile }
+/// The task of a core of a tile more, where it holds one: at a trap, stalled where its last step was, or running.
+#[inline(always)]
+fn more_on(
+    counts: CoreCounts,
+    cores: &[bool; 64],
+    tile: u32,
+    core: u32,
+    task: Option<&Task>,
+) -> CoreCounts
+    ensures running { (c : ℕ) → counts.running ≡ capped c → result.running
+        ≡ capped (c + cond (runs (slice_index_or cores.now (4 * tile + core) false) (option_copied task.entry)) 1 0) }
+    ensures stalled { (c : ℕ) → counts.stalled ≡ capped c → result.stalled
+        ≡ capped (c + cond (stalls (slice_index_or cores.now (4 * tile + core) false) (option_copied task.entry)) 1 0) }
+    ensures trapped { (c : ℕ) → counts.trapped ≡ capped c → result.trapped
+        ≡ capped (c + cond (is_trapped (slice_index_or cores.now (4 * tile + core) false) (option_copied task.entry)) 1 0) }
 {
-    let (mut running, mut stalled, mut trapped) = (0, 0, 0);
-    for core in 0..state.settings().cores {
-        let task = task_on(state, tile, core);
-        let waits = is_stalled(cores, tile, core);
-        running = one_if(running, runs(waits, task));
-        stalled = one_if(stalled, stalls(waits, task));
-        trapped = one_if(trapped, is_trapped(waits, task));
+    let CoreCounts {
+        mut running,
+        mut stalled,
+        mut trapped,
+    } = counts;
+    match task {
+        None => {}
+        Some(task) => {
+            if is_at_trap(task.status) {
+                trapped = more(trapped, 1);
+            } else if is_stalled(cores, tile, core) {
+                stalled = more(stalled, 1);
+            } else {
+                running = more(running, 1);
+            }
+        }
     }
     CoreCounts {
         running,
@@ -200,34 +180,68 @@ fn cores_of<N: Naming>(state: &State<N>, cores: &[bool; 64], tile: u32) -> CoreC
     }
 }
 
-/// Adds the tasks of a tile.
-fn add_tile<N: Naming>(places: &mut PlaceCounts, state: &State<N>, cores: &[bool; 64], tile: u32)
-    requires { tile < state.now.view.settings.tiles }
-    ensures { let view = state.now.view in
-        (c : PlaceCounts) → places.old ≡ capped_places c → places.new ≡ capped_places (record {
-          queued = c.queued + length (queue_at view tile);
-          running = c.running + cores_in view cores.now runs tile;
-          stalled = c.stalled + cores_in view cores.now stalls tile;
-          trapped = c.trapped + cores_in view cores.now is_trapped tile;
-          finished = c.finished + length (finished_at view tile);
-          spilled = c.spilled + length (block_at view tile);
-        }) }
+/// How many tasks are on cores.
+fn on_cores<N: Naming>(state: &State<N>, cores: &[bool; 64]) -> CoreCounts
+    ensures running { let view = state.now.view in
+        result.running ≡ capped (over_tiles view (cores_in view cores.now runs)) }
+    ensures stalled { let view = state.now.view in
+        result.stalled ≡ capped (over_tiles view (cores_in view cores.now stalls)) }
+    ensures trapped { let view = state.now.view in
+        result.trapped ≡ capped (over_tiles view (cores_in view cores.now is_trapped)) }
 {
-    places.add_tile(
-        state.queued_in(tile).len() as u64,
-        cores_of(state, cores, tile),
-        state.finished_in(tile).len() as u64,
-        state.block_len(tile) as u64,
-    );
+    let mut counts = CoreCounts::none();
+    for tile in 0..state.settings().tiles {
+        for core in 0..state.settings().cores {
+            counts = more_on(counts, cores, tile, core, task_on(state, tile, core));
+        }
+    }
+    counts
+}
+
+/// How many tasks are in task queues.
+fn queued_of<N: Naming>(state: &State<N>) -> u64
+    ensures { let view = state.now.view in result ≡ capped (over_tiles view (λ tile. length (queue_at view tile))) }
+{
+    let mut queued = 0;
+    for tile in 0..state.settings().tiles {
+        queued = more(queued, state.queued_in(tile).len() as u64);
+    }
+    queued
+}
+
+/// How many tasks are in commit queues.
+fn finished_of<N: Naming>(state: &State<N>) -> u64
+    ensures { let view = state.now.view in result ≡ capped (over_tiles view (λ tile. length (finished_at view tile))) }
+{
+    let mut finished = 0;
+    for tile in 0..state.settings().tiles {
+        finished = more(finished, state.finished_in(tile).len() as u64);
+    }
+    finished
+}
+
+/// How many tasks are in blocks.
+pub(crate) fn spilled_of<N: Naming>(state: &State<N>) -> u64
+    ensures { let view = state.now.view in result ≡ capped (over_tiles view (λ tile. length (block_at view tile))) }
+{
+    let mut spilled = 0;
+    for tile in 0..state.settings().tiles {
+        spilled = more(spilled, state.block_len(tile) as u64);
+    }
+    spilled
 }
 
 /// How many tasks are where.
 pub(crate) fn places_of<N: Naming>(state: &State<N>, cores: &[bool; 64]) -> PlaceCounts
     ensures { result ≡ capped_places (places state.now.view cores.now) }
 {
-    let mut places = PlaceCounts::none();
-    for tile in 0..state.settings().tiles {
-        add_tile(&mut places, state, cores, tile);
+    let on_cores = on_cores(state, cores);
+    PlaceCounts {
+        queued: queued_of(state),
+        running: on_cores.running,
+        stalled: on_cores.stalled,
+        trapped: on_cores.trapped,
+        finished: finished_of(state),
+        spilled: spilled_of(state),
     }
-    places
 }

@@ -49,7 +49,7 @@ function helpPage() {
   return [
     "Simulates a machine that runs tasks ahead of their turn and commits them in order. An image comes from standard",
     "input, and what was asked for goes to standard output.", "", "usage: node fractal.mjs COMMAND [OPTION]... < IMAGE",
-    "       node fractal.mjs watch [memory or views K] COURSE [OPTION]... < IMAGE", "",
+    "       node fractal.mjs watch [memory, views K or counts] COURSE [OPTION]... < IMAGE", "",
     "Commands:", ...rows("command", ([, name, words, , does]) => row(`${name} ${words}`.trim(), does)), "",
     "Courses of watch:", ...rows("course", ([, name, words, , does]) => row(`${name} ${words}`.trim(), does)), "",
     "Options:",

@@ -13,7 +13,7 @@ returns g c =
     let view = c.args.state.now.view in
     let begun = c.none-counts.ensures in
     (λ i. record (begun i) {
-      opening = c.spilled_in.ensures i;
+      opening = c.spilled_of.ensures i;
       standing = (c.places_of-counts.ensures
           ∙ ap (λ (n : Counts). capped_places (places view n.stalled_cores)) begun) i;
     })

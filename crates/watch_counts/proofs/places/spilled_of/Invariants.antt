@@ -3,7 +3,7 @@ use Rattle.std.specs.Prelude.{sum_by}
 use Rattle.std.specs.List.{range_with_len}
 use Rattle.spec_state.specs.View.{block_at}
 use Rattle.watch_counts.specs.Capped.{capped}
-use Rattle.watch_counts.proofs.counts.spilled_in.Given as goal
+use Rattle.watch_counts.proofs.places.spilled_of.Given as goal
 
 abbrev pub invariant-loop-tile : goal.invariant-loop-tile
 invariant-loop-tile g l =

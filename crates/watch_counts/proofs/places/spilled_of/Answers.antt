@@ -2,7 +2,7 @@ use Rattle.std.proofs.Common.{◌∙◌, ◌+◌, ap, length}
 use Rattle.spec_state.specs.View.{block_at}
 use Rattle.watch_counts.specs.Capped.{capped}
 use Rattle.watch_counts.proofs.Sums.{capped_none, capped_sum_more}
-use Rattle.watch_counts.proofs.counts.spilled_in.Goals as goal
+use Rattle.watch_counts.proofs.places.spilled_of.Goals as goal
 
 pub loop-tile-init : goal.loop-tile-init
 loop-tile-init g c = capped_none

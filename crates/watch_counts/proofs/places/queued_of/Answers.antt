@@ -1,0 +1,13 @@
+use Rattle.std.proofs.Common.{◌∙◌, ◌+◌, ap, length}
+use Rattle.spec_state.specs.View.{queue_at}
+use Rattle.watch_counts.specs.Capped.{capped}
+use Rattle.watch_counts.proofs.Sums.{capped_none, capped_sum_more}
+use Rattle.watch_counts.proofs.places.queued_of.Goals as goal
+
+pub loop-tile-init : goal.loop-tile-init
+loop-tile-init g c = capped_none
+
+pub loop-tile-preserved : goal.loop-tile-preserved
+loop-tile-preserved g c =
+    capped_sum_more (λ tile. length (queue_at c.args.state.now.view tile)) c.loop-tile.tile _ _ c.loop-tile.invariant
+    (λ n so. c.more-queued.ensures n so ∙ ap (λ ids. capped (n + length ids)) c.queued_in.ensures.ids)

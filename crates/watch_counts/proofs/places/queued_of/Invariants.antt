@@ -1,0 +1,10 @@
+use Rattle.std.proofs.Common.{◌≡◌, length}
+use Rattle.std.specs.Prelude.{sum_by}
+use Rattle.std.specs.List.{range_with_len}
+use Rattle.spec_state.specs.View.{queue_at}
+use Rattle.watch_counts.specs.Capped.{capped}
+use Rattle.watch_counts.proofs.places.queued_of.Given as goal
+
+abbrev pub invariant-loop-tile : goal.invariant-loop-tile
+invariant-loop-tile g l =
+    l.queued ≡ capped (sum_by (λ tile. length (queue_at l.state.view tile)) (range_with_len 0 l.tile))
