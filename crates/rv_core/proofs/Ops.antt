@@ -26,7 +26,8 @@ use Rattle.rv_core.specs.Next.{Next, Goes, Stops}
 use Rattle.rv_core.specs.Memory.{load_width, store_width, is_within, is_in_stack}
 use Rattle.rv_core.specs.Legs.{next_at, instr_next, effect_next, core_after, after_store_of, PlainInstruction}
 use Rattle.rv_core.specs.Legs.{PlainInstructions}
-use Rattle.rv_core.specs.Ops.{Jump, Branch, Other, shape, word_shape, address, IsOpOf, AreOf, AreDecoded, Cursor}
+use Rattle.rv_core.specs.Ops.{Shape, Put, Imm, Two, Fence, Jump, Branch, Other, shape, word_shape, address, IsOpOf}
+use Rattle.rv_core.specs.Ops.{AreOf, AreDecoded, Cursor}
 use Rattle.rv_core.specs.Ops.{cursor, cursor_after_put, shape_next, access, shape_stop, found_stop, OpLeads, OpsLead}
 use Rattle.rv_core.specs.Ops.{core_at}
 use Rattle.rv_core.specs.Ops.{Point, point, stack_load, stack_store, stack_next, core_at_point}
@@ -89,6 +90,17 @@ onward : (core : Core) (to : Cursor) (index rd value : ℕ) → core.pc ≡ addr
 onward core to index rd value here is =
     to_place core to (plus index 1) (plus core.pc 4) rd value (address_next index ∙ ap (λ pc. plus pc 4) (sym here)) is
 
+-- on to the next word behind what writes a register, which only goes on where that is x0
+written_on : (core : Core) (to : Cursor) (index rd value : ℕ) (made : Shape) (dropped : Bool) → (rd == 0) ≡ dropped
+    → core.pc ≡ address index
+    → shape_next made (cursor index core.regs) ≡ Some (cursor_after_put (cursor index core.regs) rd value)
+    → shape_next (if dropped then Fence else made) (cursor index core.regs) ≡ Some to
+    → Goes (core_after core (plus core.pc 4) rd value) ≡ Goes (core_at core to 1)
+written_on core to index rd value made true x0 here does is =
+    let same : set_word core.regs rd value ≡ core.regs = rw x0 refl in
+    onward core to index rd value here (ap (λ regs. Some (cursor (plus index 1) regs)) same ∙ is)
+written_on core to index rd value made false x0 here does is = onward core to index rd value here (sym does ∙ is)
+
 -- to an address that is a multiple of 4
 jumps : (image : ImageValue) (size : ℕ) (core : Core) (to : Cursor) (index rd target : ℕ) → core.pc ≡ address index
     → target < 2 ^ 32
@@ -149,8 +161,10 @@ pub goes : (image : ImageValue) (size : ℕ) (core : Core) (to : Cursor) (index 
     → shape_next (word_shape core.pc found) (cursor index core.regs) ≡ Some to
     → instr_next image size core found ≡ Goes (core_at core to 1)
 goes image size core to index None here is = cc
-goes image size core to index (Some (instr.Lui rd imm)) here is = onward core to index rd imm here is
-goes image size core to index (Some (instr.Auipc rd imm)) here is = onward core to index rd (plus core.pc imm) here is
+goes image size core to index (Some (instr.Lui rd imm)) here is =
+    written_on core to index rd imm (Put rd imm) (rd == 0) refl here refl is
+goes image size core to index (Some (instr.Auipc rd imm)) here is =
+    written_on core to index rd (plus core.pc imm) (Put rd (plus core.pc imm)) (rd == 0) refl here refl is
 goes image size core to index (Some (instr.Jal rd imm)) here is =
     jal image size core to index rd (word imm) here (word imm % 4 == 0) refl is
 goes image size core to index (Some (instr.Jalr rd rs1 imm)) here is =
@@ -161,9 +175,11 @@ goes image size core to index (Some (instr.Branch cond rs1 rs2 imm)) here is =
 goes image size core to index (Some (instr.Load width rd rs1 imm)) here is = cc
 goes image size core to index (Some (instr.Store width rs1 rs2 imm)) here is = cc
 goes image size core to index (Some (instr.OpImm op rd rs1 imm)) here is =
-    onward core to index rd (op_value (with_register op) (slice_index core.regs rs1) (word imm)) here is
+    written_on core to index rd (op_value (with_register op) (slice_index core.regs rs1) (word imm))
+    (Imm (with_register op) rd rs1 (word imm)) (rd == 0) refl here refl is
 goes image size core to index (Some (instr.Op op rd rs1 rs2)) here is =
-    onward core to index rd (op_value op (slice_index core.regs rs1) (slice_index core.regs rs2)) here is
+    written_on core to index rd (op_value op (slice_index core.regs rs1) (slice_index core.regs rs2))
+    (Two op rd rs1 rs2) (rd == 0) refl here refl is
 goes image size core to index (Some instr.Fence) here is = onward core to index 0 0 here is
 goes image size core to index (Some instr.Ecall) here is = cc
 goes image size core to index (Some instr.Ebreak) here is = cc
@@ -277,14 +293,23 @@ still_branch : (version : ℕ) (from to : Point) (next : Next) (core : Core) (co
 still_branch version from to next core cond rs1 rs2 words true is = cc
 still_branch version from to next core cond rs1 rs2 words false is = cc
 
+-- nor does what writes a register
+still_written : (version : ℕ) (from to : Point) (next : Next) (core : Core) (made : Shape) (dropped : Bool)
+    → stack_next version made from ≡ None
+    → stack_next version (if dropped then Fence else made) from ≡ Some to → next ≡ Goes core
+still_written version from to next core made true none is = cc
+still_written version from to next core made false none is = cc
+
 -- where the operation of an instruction leads by the stack, the instruction leads
 pub stack_goes : (image : ImageValue) (size : ℕ) (core : Core) (to : Point) (index : ℕ) (found : Option Instr)
     → length image.text ≤ 65536 → core.pc ≡ address index
     → stack_next image.version (word_shape core.pc found) (point index core.regs core.stack) ≡ Some to
     → instr_next image size core found ≡ Goes (core_at_point core to 1)
 stack_goes image size core to index None short here is = cc
-stack_goes image size core to index (Some (instr.Lui rd imm)) short here is = cc
-stack_goes image size core to index (Some (instr.Auipc rd imm)) short here is = cc
+stack_goes image size core to index (Some (instr.Lui rd imm)) short here is =
+    still_written image.version (point index core.regs core.stack) to _ _ (Put rd imm) (rd == 0) refl is
+stack_goes image size core to index (Some (instr.Auipc rd imm)) short here is =
+    still_written image.version (point index core.regs core.stack) to _ _ (Put rd (plus core.pc imm)) (rd == 0) refl is
 stack_goes image size core to index (Some (instr.Jal rd imm)) short here is =
     still_jump image.version (point index core.regs core.stack) to _ _ rd _ (word imm % 4 == 0) is
 stack_goes image size core to index (Some (instr.Jalr rd rs1 imm)) short here is = cc
@@ -294,8 +319,11 @@ stack_goes image size core to index (Some (instr.Load width rd rs1 imm)) short h
     stack_loads image size core to index width rd _ short here is
 stack_goes image size core to index (Some (instr.Store width rs1 rs2 imm)) short here is =
     stack_stores image size core to index width _ _ here is
-stack_goes image size core to index (Some (instr.OpImm op rd rs1 imm)) short here is = cc
-stack_goes image size core to index (Some (instr.Op op rd rs1 rs2)) short here is = cc
+stack_goes image size core to index (Some (instr.OpImm op rd rs1 imm)) short here is =
+    still_written image.version (point index core.regs core.stack) to _ _ (Imm (with_register op) rd rs1 (word imm))
+    (rd == 0) refl is
+stack_goes image size core to index (Some (instr.Op op rd rs1 rs2)) short here is =
+    still_written image.version (point index core.regs core.stack) to _ _ (Two op rd rs1 rs2) (rd == 0) refl is
 stack_goes image size core to index (Some instr.Fence) short here is = cc
 stack_goes image size core to index (Some instr.Ecall) short here is = cc
 stack_goes image size core to index (Some instr.Ebreak) short here is = cc
@@ -311,13 +339,22 @@ no_branch : (size : ℕ) (core : Core) (found : Stop) (next : Next) (cond : Cond
 no_branch size core found next cond rs1 rs2 words true is = cc
 no_branch size core found next cond rs1 rs2 words false is = cc
 
+-- nor is a write of a register
+no_write : (size : ℕ) (core : Core) (found : Stop) (next : Next) (made : Shape) (dropped : Bool)
+    → shape_stop size made core.regs ≡ None
+    → shape_stop size (if dropped then Fence else made) core.regs ≡ Some found → next ≡ Stops found
+no_write size core found next made true none is = cc
+no_write size core found next made false none is = cc
+
 -- where the operation of an instruction stops, the instruction stops
 pub stops : (image : ImageValue) (size : ℕ) (core : Core) (found : Stop) (instr : Option Instr)
     → length image.text ≤ 65536
     → shape_stop size (word_shape core.pc instr) core.regs ≡ Some found → instr_next image size core instr ≡ Stops found
 stops image size core found None short is = cc
-stops image size core found (Some (instr.Lui rd imm)) short is = cc
-stops image size core found (Some (instr.Auipc rd imm)) short is = cc
+stops image size core found (Some (instr.Lui rd imm)) short is =
+    no_write size core found _ (Put rd imm) (rd == 0) refl is
+stops image size core found (Some (instr.Auipc rd imm)) short is =
+    no_write size core found _ (Put rd (plus core.pc imm)) (rd == 0) refl is
 stops image size core found (Some (instr.Jal rd imm)) short is = no_jump size core found _ rd _ (word imm % 4 == 0) is
 stops image size core found (Some (instr.Jalr rd rs1 imm)) short is = cc
 stops image size core found (Some (instr.Branch cond rs1 rs2 imm)) short is =
@@ -326,8 +363,10 @@ stops image size core found (Some (instr.Load width rd rs1 imm)) short is =
     load_stops image size core found width rd _ short is
 stops image size core found (Some (instr.Store width rs1 rs2 imm)) short is =
     store_stops image size core found width _ _ is
-stops image size core found (Some (instr.OpImm op rd rs1 imm)) short is = cc
-stops image size core found (Some (instr.Op op rd rs1 rs2)) short is = cc
+stops image size core found (Some (instr.OpImm op rd rs1 imm)) short is =
+    no_write size core found _ (Imm (with_register op) rd rs1 (word imm)) (rd == 0) refl is
+stops image size core found (Some (instr.Op op rd rs1 rs2)) short is =
+    no_write size core found _ (Two op rd rs1 rs2) (rd == 0) refl is
 stops image size core found (Some instr.Fence) short is = cc
 stops image size core found (Some instr.Ecall) short is = ap Stops (search rules)
 stops image size core found (Some instr.Ebreak) short is = cc
@@ -393,10 +432,10 @@ op_stops image size budget core ops index op found made here used there is =
     (ap (λ s. shape_stop size s core.regs) (ap (λ pc. word_shape pc (instr_of_word one.word)) here ∙ sym one.same) ∙ is)
 
 -- one operation more
-pub OpsLead-more : (version : ℕ) (ops : List Op) (n : ℕ) (from mid to : Point) → OpsLead version ops n from mid
-    → OpLeads version ops mid to → OpsLead version ops (n + 1) from to
-OpsLead-more version ops n from mid to front last =
-    let next : suc n ≡ n + 1 = omega arith in
+pub OpsLead-once : (version : ℕ) (ops : List Op) (m n : ℕ) (from mid to : Point) → OpsLead version ops m from mid
+    → OpLeads version ops mid to → m + 1 ≡ n → OpsLead version ops n from to
+OpsLead-once version ops m n from mid to front last count =
+    let next : suc m ≡ n = omega (arith, count) in
     subst (λ k. OpsLead version ops k from to) next (mid, front, last)
 
 -- n operations are n plain instructions

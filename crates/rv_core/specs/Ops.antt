@@ -20,6 +20,8 @@ use Rattle.rv_core.specs.Memory.{load_width, store_width, is_within, is_in_stack
 use Rattle.undo_log.specs.Number.{number_at, after_write}
 use Rattle.rv_core.specs.declared.op.Op.{Op}
 use Rattle.rv_core.specs.declared.op.Op.TheVariants as op
+use Rattle.rv_core.specs.declared.op.Way.{Way}
+use Rattle.rv_core.specs.declared.op.Way.TheVariants as way
 use Rattle.rv_core.specs.declared.state.Core.{Core}
 use Rattle.rv_core.specs.declared.state.Stop.{Stop}
 use Rattle.rv_core.specs.declared.state.Stop.TheVariants as stop
@@ -73,22 +75,38 @@ shape (op.Blt rs1 rs2 words) = Branch cond.Lt rs1 rs2 words
 shape (op.Bge rs1 rs2 words) = Branch cond.Ge rs1 rs2 words
 shape (op.Bltu rs1 rs2 words) = Branch cond.Ltu rs1 rs2 words
 shape (op.Bgeu rs1 rs2 words) = Branch cond.Geu rs1 rs2 words
+shape (op.AddiOwn rd imm) = Imm reg_op.Add rd rd imm
+shape (op.AndiOwn rd imm) = Imm reg_op.And rd rd imm
+shape (op.SlliOwn rd imm) = Imm reg_op.Sll rd rd imm
+shape (op.SrliOwn rd imm) = Imm reg_op.Srl rd rd imm
+shape (op.SraiOwn rd imm) = Imm reg_op.Sra rd rd imm
+shape (op.AddOwn rd rs2) = Two reg_op.Add rd rd rs2
+shape (op.SubOwn rd rs2) = Two reg_op.Sub rd rd rs2
+shape (op.XorOwn rd rs2) = Two reg_op.Xor rd rd rs2
+shape (op.OrOwn rd rs2) = Two reg_op.Or rd rd rs2
+shape (op.AndOwn rd rs2) = Two reg_op.And rd rd rs2
+shape (op.Beqz rs1 words) = Branch cond.Eq rs1 0 words
+shape (op.Bnez rs1 words) = Branch cond.Ne rs1 0 words
 
 -- an offset in bytes as one in words: Other where it is no multiple of 4
 abbrev pub in_words : ℕ → (ℕ → Shape) → Shape
 in_words offset make = if offset % 4 == 0 then make (shift_signed (offset % 2 ^ 32) 2) else Other
 
+-- what writes a register and does nothing else only goes on, like a fence, where the register is x0
+abbrev pub written : ℕ → Shape → Shape
+written rd shape = if rd == 0 then Fence else shape
+
 -- what an instruction at a pc is as an operation
 abbrev pub instr_shape : ℕ → Instr → Shape
-instr_shape pc (instr.Lui rd imm) = Put rd imm
-instr_shape pc (instr.Auipc rd imm) = Put rd (plus pc imm)
+instr_shape pc (instr.Lui rd imm) = written rd (Put rd imm)
+instr_shape pc (instr.Auipc rd imm) = written rd (Put rd (plus pc imm))
 instr_shape pc (instr.Jal rd imm) = in_words (word imm) (Jump rd)
 instr_shape pc (instr.Jalr rd rs1 imm) = JumpTo rd rs1 (word imm)
 instr_shape pc (instr.Branch cond rs1 rs2 imm) = in_words (word imm) (Branch cond rs1 rs2)
 instr_shape pc (instr.Load width rd rs1 imm) = Load width rd rs1 (word imm)
 instr_shape pc (instr.Store width rs1 rs2 imm) = Store width rs1 rs2 (word imm)
-instr_shape pc (instr.OpImm op rd rs1 imm) = Imm (with_register op) rd rs1 (word imm)
-instr_shape pc (instr.Op op rd rs1 rs2) = Two op rd rs1 rs2
+instr_shape pc (instr.OpImm op rd rs1 imm) = written rd (Imm (with_register op) rd rs1 (word imm))
+instr_shape pc (instr.Op op rd rs1 rs2) = written rd (Two op rd rs1 rs2)
 instr_shape pc instr.Fence = Fence
 instr_shape pc instr.Ecall = Ecall
 instr_shape pc instr.Ebreak = Other
@@ -177,10 +195,11 @@ abbrev pub found_stop : ℕ → Option Op → List ℕ → Option Stop
 found_stop size None regs = None
 found_stop size (Some op) regs = shape_stop size (shape op) regs
 
--- where the code went: none where it went nowhere
-abbrev pub cursor_reached : Option ℕ → List ℕ → Option Cursor
-cursor_reached None regs = None
-cursor_reached (Some index) regs = Some (cursor index regs)
+-- where the code went from an index: none where it went nowhere
+abbrev pub cursor_led : Way → ℕ → List ℕ → Option Cursor
+cursor_led way.On index regs = Some (cursor (plus index 1) regs)
+cursor_led (way.To next) index regs = Some (cursor next regs)
+cursor_led way.Nowhere index regs = None
 
 -- a cursor with the bytes of the stack
 pub record Point : Type 0 where
@@ -190,10 +209,11 @@ pub record Point : Type 0 where
 abbrev pub point : ℕ → List ℕ → List ℕ → Point
 point index regs stack = record { cursor = cursor index regs; stack = stack }
 
--- where the code went, with the stack: none where it went nowhere
-abbrev pub point_reached : Option ℕ → List ℕ → List ℕ → Option Point
-point_reached None regs stack = None
-point_reached (Some index) regs stack = Some (point index regs stack)
+-- where the code went from an index, with the stack: none where it went nowhere
+abbrev pub point_led : Way → ℕ → List ℕ → List ℕ → Option Point
+point_led way.On index regs stack = Some (point (plus index 1) regs stack)
+point_led (way.To next) index regs stack = Some (point next regs stack)
+point_led way.Nowhere index regs stack = None
 
 -- whether an access is aligned and lies in the stack
 abbrev pub is_stack_access : ℕ → ℕ → ℕ → Bool
@@ -265,3 +285,4 @@ core_at_point core to n = record (core_at core to.cursor n) { stack = to.stack }
 pub record AreDecoded (image : ImageValue) (ops : List Op) : Type 0 where
   pub of : AreOf image.text ops
   pub short : length image.text ≤ 65536
+  pub few : length ops ≤ 65536

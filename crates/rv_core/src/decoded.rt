@@ -3,11 +3,11 @@
 ghost use Rattle.std.specs.Prelude.{◌≡◌, ◌+◌, ◌%◌, ◌^◌, ◌<◌, ◌≤◌, ℕ, length, slice_get, None, OnSome, IfSome};
 ghost use Rattle.rv_core.specs.Next.{Stops};
 ghost use Rattle.rv_core.specs.Legs.{IsLeg, StopIsInData, PlainInstructions, next_at, next_given};
-ghost use Rattle.rv_core.specs.Ops.{IsOpOf, OpsLead, found_stop, point, shape, op_next, point_reached};
+ghost use Rattle.rv_core.specs.Ops.{IsOpOf, OpsLead, found_stop, point, shape, op_next, point_led};
 
 use crate::legs::execute;
 use crate::naming::Naming;
-use crate::op::{Op, act, act_on_stack, address_of, op_of, stop_of};
+use crate::op::{Op, Way, act, act_on_stack, address_of, op_of, stop_of};
 use crate::state::{Core, Head, Stop};
 use guest_image::{Image, TEXT_START};
 use rv_table::Regs;
@@ -134,8 +134,19 @@ fn limit_of(quantum: u32, budget: u32, used: u32) -> u32
     }
 }
 
+/// The lesser of two numbers.
+fn lesser(one: usize, other: usize) -> usize
+    ensures one { result ≤ one }
+    ensures other { result ≤ other }
+{
+    if one < other { one } else { other }
+}
+
 /// Does operations that touch registers and stack alone, from a word of the text on, at most `limit` of them: the
 /// word that stands next, and how many they were.
+///
+/// An operation that goes on to the next word costs one test, of that word against `end`. `bound` is the word that would
+/// stand next after `limit` operations if all to come went on; where one goes elsewhere, both move.
 fn do_ops(
     ops: &[Op],
     version: u16,
@@ -144,38 +155,38 @@ fn do_ops(
     start: u32,
     limit: u32,
 ) -> (u32, u32)
+    requires { length ops.now ≤ 65536 }
     ensures bound { result.1 ≤ limit }
     ensures steps { let from = point start regs.old stack.old in
         OpsLead version ops.now result.1 from (point result.0 regs.new stack.new) }
 {
-    let mut index = start;
-    for steps in 0..limit {
-        let Some(op) = ops.get(index as usize) else {
-            return (index, steps);
-        };
-        match act_whole(op, version, index, regs, stack) {
-            Some(next) => index = next,
-            None => return (index, steps),
+    let mut index = start as usize;
+    let mut bound = index + limit as usize;
+    let mut end = lesser(bound, ops.len());
+    while index < end {
+        match act_whole(&ops[index], version, index as u32, regs, stack) {
+            Way::On => index += 1,
+            Way::To(next) => {
+                bound = next as usize + (bound - index - 1);
+                end = lesser(bound, ops.len());
+                index = next as usize;
+            }
+            Way::Nowhere => break,
         }
     }
-    (index, limit)
+    (index as u32, limit - (bound - index) as u32)
 }
 
-/// Does an operation that touches registers and stack alone: which word stands next, or None and no change.
-fn act_whole(
-    op: &Op,
-    version: u16,
-    index: u32,
-    regs: &mut Regs,
-    stack: &mut [u8; 1024],
-) -> Option<u32>
+/// Does an operation that touches registers and stack alone: where it leads, or nowhere and no change.
+fn act_whole(op: &Op, version: u16, index: u32, regs: &mut Regs, stack: &mut [u8; 1024]) -> Way
     ensures next { let from = point index regs.old stack.old in
-        point_reached result regs.new stack.new ≡ op_next version (shape op.now) from }
-    ensures stays { result ≡ None → (regs.new ≡ regs.old) × (stack.new ≡ stack.old) }
+        point_led result index regs.new stack.new ≡ op_next version (shape op.now) from }
+    ensures stays { result ≡ Way.Nowhere → (regs.new ≡ regs.old) × (stack.new ≡ stack.old) }
 {
     match act(op, index, regs) {
-        Some(next) => Some(next),
-        None => act_on_stack(op, version, index, regs, stack),
+        Way::On => Way::On,
+        Way::To(next) => Way::To(next),
+        Way::Nowhere => act_on_stack(op, version, regs, stack),
     }
 }
 

@@ -1,6 +1,6 @@
 //! The core of a task and its runs of plain instructions: those that touch registers, the stack and, by a load, the
 //! text. A run goes on until a load from the data, a store to the data, a call, a trap or its quantum stands next. It
-//! changes one core in place, at 23 to 29 machine instructions for each plain instruction of the guest on decoded text,
+//! changes one core in place, at 16 to 23 machine instructions for each plain instruction of the guest on decoded text,
 //! and at more where each word is decoded anew; only `Decoded::new` takes memory. It stands on the instruction table,
 //! the image and `undo_log`; both machines, requests, scripts, workers, `watch_text` and a bench call it.
 #![tactic(auto)]

@@ -1,21 +1,20 @@
 //! Operations: instructions with one tag, made from the words of a text once.
 
-ghost use Rattle.std.specs.Prelude.{◌≡◌, ◌<◌, ◌%◌, ◌^◌, None};
+ghost use Rattle.std.specs.Prelude.{◌≡◌, ◌<◌, ◌%◌, ◌^◌, ℕ, List, Some, slice_index, if◌then◌else◌};
 ghost use Rattle.guest_image.specs.declared.memory_map.TheConstants.{TEXT_START};
 ghost use Rattle.rv_table.specs.Exec.{plus, word, op_value, with_register, shift_signed, holds};
+ghost use Rattle.rv_table.specs.Regs.{set_word};
 ghost use Rattle.rv_table.specs.Table.{instr_of_word};
 ghost use Rattle.rv_core.specs.Ops.{Shape, shape, in_words, instr_shape, word_shape, address, cursor, cursor_after_put};
-ghost use Rattle.rv_core.specs.Ops.{jump_to};
-ghost use Rattle.rv_core.specs.Ops.{shape_next};
-ghost use Rattle.rv_core.specs.Ops.{access, shape_stop, cursor_reached, point_reached, point, is_stack_access};
-ghost use Rattle.rv_core.specs.Ops.{stack_load};
-ghost use Rattle.rv_core.specs.Ops.{stack_store, stack_next};
+ghost use Rattle.rv_core.specs.Ops.{jump_to, written, shape_next, access, shape_stop, cursor_led, point_led, point};
+ghost use Rattle.rv_core.specs.Ops.{is_stack_access, stack_load, stack_store, stack_next};
 
 use crate::legs::{is_in, is_in_stack, width_of_load, width_of_store};
 use crate::state::Stop;
 use guest_image::{DATA_START, STACK_START, TEXT_START};
 use rv_table::{
-    Cond, ImmOp, Instr, LoadWidth, Reg, RegOp, Regs, StoreWidth, compute, decode_at, is_met, loaded,
+    Cond, ImmOp, Instr, LoadWidth, Reg, RegOp, Regs, StoreWidth, Target, compute, decode_at,
+    is_met, loaded,
 };
 use undo_log::{number_in, write_in};
 
@@ -24,7 +23,7 @@ use undo_log::{number_in, write_in};
 pub enum Op {
     /// What its word alone tells.
     Slow,
-    /// FENCE
+    /// FENCE, and what would write `x0` and does nothing else.
     Fence,
     /// ECALL
     Ecall,
@@ -44,7 +43,7 @@ pub enum Op {
     },
     /// LUI, AUIPC
     Put {
-        rd: Reg,
+        rd: Target,
         value: u32,
     },
     Jal {
@@ -57,97 +56,97 @@ pub enum Op {
         imm: u32,
     },
     Addi {
-        rd: Reg,
+        rd: Target,
         rs1: Reg,
         imm: u32,
     },
     Slti {
-        rd: Reg,
+        rd: Target,
         rs1: Reg,
         imm: u32,
     },
     Sltiu {
-        rd: Reg,
+        rd: Target,
         rs1: Reg,
         imm: u32,
     },
     Xori {
-        rd: Reg,
+        rd: Target,
         rs1: Reg,
         imm: u32,
     },
     Ori {
-        rd: Reg,
+        rd: Target,
         rs1: Reg,
         imm: u32,
     },
     Andi {
-        rd: Reg,
+        rd: Target,
         rs1: Reg,
         imm: u32,
     },
     Slli {
-        rd: Reg,
+        rd: Target,
         rs1: Reg,
         imm: u32,
     },
     Srli {
-        rd: Reg,
+        rd: Target,
         rs1: Reg,
         imm: u32,
     },
     Srai {
-        rd: Reg,
+        rd: Target,
         rs1: Reg,
         imm: u32,
     },
     Add {
-        rd: Reg,
+        rd: Target,
         rs1: Reg,
         rs2: Reg,
     },
     Sub {
-        rd: Reg,
+        rd: Target,
         rs1: Reg,
         rs2: Reg,
     },
     Sll {
-        rd: Reg,
+        rd: Target,
         rs1: Reg,
         rs2: Reg,
     },
     Slt {
-        rd: Reg,
+        rd: Target,
         rs1: Reg,
         rs2: Reg,
     },
     Sltu {
-        rd: Reg,
+        rd: Target,
         rs1: Reg,
         rs2: Reg,
     },
     Xor {
-        rd: Reg,
+        rd: Target,
         rs1: Reg,
         rs2: Reg,
     },
     Srl {
-        rd: Reg,
+        rd: Target,
         rs1: Reg,
         rs2: Reg,
     },
     Sra {
-        rd: Reg,
+        rd: Target,
         rs1: Reg,
         rs2: Reg,
     },
     Or {
-        rd: Reg,
+        rd: Target,
         rs1: Reg,
         rs2: Reg,
     },
     And {
-        rd: Reg,
+        rd: Target,
         rs1: Reg,
         rs2: Reg,
     },
@@ -181,9 +180,59 @@ pub enum Op {
         rs2: Reg,
         words: u32,
     },
+    /// ADDI to the register that it reads. This and what follows do what the compressed instruction set has short
+    /// forms for, as programs do it most: they read and write one register, or compare one with 0.
+    AddiOwn {
+        rd: Target,
+        imm: u32,
+    },
+    AndiOwn {
+        rd: Target,
+        imm: u32,
+    },
+    SlliOwn {
+        rd: Target,
+        imm: u32,
+    },
+    SrliOwn {
+        rd: Target,
+        imm: u32,
+    },
+    SraiOwn {
+        rd: Target,
+        imm: u32,
+    },
+    AddOwn {
+        rd: Target,
+        rs2: Reg,
+    },
+    SubOwn {
+        rd: Target,
+        rs2: Reg,
+    },
+    XorOwn {
+        rd: Target,
+        rs2: Reg,
+    },
+    OrOwn {
+        rd: Target,
+        rs2: Reg,
+    },
+    AndOwn {
+        rd: Target,
+        rs2: Reg,
+    },
+    Beqz {
+        rs1: Reg,
+        words: u32,
+    },
+    Bnez {
+        rs1: Reg,
+        words: u32,
+    },
 }
 
-fn imm_op(op: ImmOp, rd: Reg, rs1: Reg, imm: u32) -> Op
+fn imm_op(op: ImmOp, rd: Target, rs1: Reg, imm: u32) -> Op
     ensures { shape result ≡ Shape.Imm (with_register op) rd rs1 imm }
 {
     match op {
@@ -199,7 +248,21 @@ fn imm_op(op: ImmOp, rd: Reg, rs1: Reg, imm: u32) -> Op
     }
 }
 
-fn reg_op(op: RegOp, rd: Reg, rs1: Reg, rs2: Reg) -> Op
+/// The same to the register that it reads.
+fn own_imm_op(op: ImmOp, rd: Target, imm: u32) -> Op
+    ensures { shape result ≡ Shape.Imm (with_register op) rd rd imm }
+{
+    match op {
+        ImmOp::Add => Op::AddiOwn { rd, imm },
+        ImmOp::And => Op::AndiOwn { rd, imm },
+        ImmOp::Sll => Op::SlliOwn { rd, imm },
+        ImmOp::Srl => Op::SrliOwn { rd, imm },
+        ImmOp::Sra => Op::SraiOwn { rd, imm },
+        _ => imm_op(op, rd, rd.reg(), imm),
+    }
+}
+
+fn reg_op(op: RegOp, rd: Target, rs1: Reg, rs2: Reg) -> Op
     ensures { shape result ≡ Shape.Two op rd rs1 rs2 }
 {
     match op {
@@ -216,6 +279,20 @@ fn reg_op(op: RegOp, rd: Reg, rs1: Reg, rs2: Reg) -> Op
     }
 }
 
+/// The same to the register that it reads first.
+fn own_reg_op(op: RegOp, rd: Target, rs2: Reg) -> Op
+    ensures { shape result ≡ Shape.Two op rd rd rs2 }
+{
+    match op {
+        RegOp::Add => Op::AddOwn { rd, rs2 },
+        RegOp::Sub => Op::SubOwn { rd, rs2 },
+        RegOp::Xor => Op::XorOwn { rd, rs2 },
+        RegOp::Or => Op::OrOwn { rd, rs2 },
+        RegOp::And => Op::AndOwn { rd, rs2 },
+        _ => reg_op(op, rd, rd.reg(), rs2),
+    }
+}
+
 fn branch_op(cond: Cond, rs1: Reg, rs2: Reg, words: u32) -> Op
     ensures { shape result ≡ Shape.Branch cond rs1 rs2 words }
 {
@@ -226,6 +303,20 @@ fn branch_op(cond: Cond, rs1: Reg, rs2: Reg, words: u32) -> Op
         Cond::Ge => Op::Bge { rs1, rs2, words },
         Cond::Ltu => Op::Bltu { rs1, rs2, words },
         Cond::Geu => Op::Bgeu { rs1, rs2, words },
+    }
+}
+
+/// The same, by two registers of which the second may be `x0`.
+fn branch_on(cond: Cond, rs1: Reg, rs2: Reg, words: u32) -> Op
+    ensures { shape result ≡ Shape.Branch cond rs1 rs2 words }
+{
+    if rs2.number() != 0 {
+        return branch_op(cond, rs1, rs2, words);
+    }
+    match cond {
+        Cond::Eq => Op::Beqz { rs1, words },
+        Cond::Ne => Op::Bnez { rs1, words },
+        _ => branch_op(cond, rs1, rs2, words),
     }
 }
 
@@ -255,9 +346,39 @@ fn branch_by(cond: Cond, rs1: Reg, rs2: Reg, imm: i32) -> Op
 {
     let offset = imm.cast_unsigned();
     if offset % 4 == 0 {
-        branch_op(cond, rs1, rs2, words_of(offset))
+        branch_on(cond, rs1, rs2, words_of(offset))
     } else {
         Op::Slow
+    }
+}
+
+/// A write of a value. Where it goes to `x0`, it only goes on, as do the next two.
+fn put_by(rd: Reg, value: u32) -> Op
+    ensures { shape result ≡ written rd (Shape.Put rd value) }
+{
+    match rd.target() {
+        Some(rd) => Op::Put { rd, value },
+        None => Op::Fence,
+    }
+}
+
+fn imm_by(op: ImmOp, rd: Reg, rs1: Reg, imm: u32) -> Op
+    ensures { shape result ≡ written rd (Shape.Imm (with_register op) rd rs1 imm) }
+{
+    match rd.target() {
+        Some(to) if rs1.number() == rd.number() => own_imm_op(op, to, imm),
+        Some(to) => imm_op(op, to, rs1, imm),
+        None => Op::Fence,
+    }
+}
+
+fn reg_by(op: RegOp, rd: Reg, rs1: Reg, rs2: Reg) -> Op
+    ensures { shape result ≡ written rd (Shape.Two op rd rs1 rs2) }
+{
+    match rd.target() {
+        Some(to) if rs1.number() == rd.number() => own_reg_op(op, to, rs2),
+        Some(to) => reg_op(op, to, rs1, rs2),
+        None => Op::Fence,
     }
 }
 
@@ -266,11 +387,8 @@ fn instr_op(instr: Instr, pc: u32) -> Op
     ensures { shape result ≡ instr_shape pc instr }
 {
     match instr {
-        Instr::Lui { rd, imm } => Op::Put { rd, value: imm },
-        Instr::Auipc { rd, imm } => Op::Put {
-            rd,
-            value: pc.wrapping_add(imm),
-        },
+        Instr::Lui { rd, imm } => put_by(rd, imm),
+        Instr::Auipc { rd, imm } => put_by(rd, pc.wrapping_add(imm)),
         Instr::Jal { rd, imm } => jal_op(rd, imm),
         Instr::Jalr { rd, rs1, imm } => Op::Jalr {
             rd,
@@ -305,8 +423,8 @@ fn instr_op(instr: Instr, pc: u32) -> Op
             rs2,
             imm: imm.cast_unsigned(),
         },
-        Instr::OpImm { op, rd, rs1, imm } => imm_op(op, rd, rs1, imm.cast_unsigned()),
-        Instr::Op { op, rd, rs1, rs2 } => reg_op(op, rd, rs1, rs2),
+        Instr::OpImm { op, rd, rs1, imm } => imm_by(op, rd, rs1, imm.cast_unsigned()),
+        Instr::Op { op, rd, rs1, rs2 } => reg_by(op, rd, rs1, rs2),
         Instr::Fence => Op::Fence,
         Instr::Ecall => Op::Ecall,
         Instr::Ebreak => Op::Slow,
@@ -337,100 +455,134 @@ fn address_behind(index: u32) -> u32
     index.wrapping_mul(4).wrapping_add(TEXT_START + 4)
 }
 
+/// Where an operation leads.
+#[derive(Clone, Copy)]
+pub(crate) enum Way {
+    /// On to the next word.
+    On,
+    /// To this word.
+    To(u32),
+    /// Nowhere: nothing is changed.
+    Nowhere,
+}
+
 /// On to the next word, with a register written.
-fn go_on(index: u32, regs: &mut Regs, rd: Reg, value: u32) -> Option<u32>
-    ensures { cursor_reached result regs.new ≡ Some (cursor_after_put (cursor index regs.old) rd value) }
+fn go_on(regs: &mut Regs, rd: Target, value: u32) -> Way
+    ensures on { result ≡ Way.On }
+    ensures put { regs.new ≡ set_word regs.old rd value }
 {
-    regs.set(rd, value);
-    Some(index.wrapping_add(1))
+    regs.put(rd, value);
+    Way::On
 }
 
 /// An operation with an immediate.
-fn by_imm(op: RegOp, index: u32, regs: &mut Regs, rd: Reg, rs1: Reg, imm: u32) -> Option<u32>
-    ensures { cursor_reached result regs.new ≡ shape_next (Shape.Imm op rd rs1 imm) (cursor index regs.old) }
+fn by_imm(op: RegOp, regs: &mut Regs, rd: Target, rs1: Reg, imm: u32) -> Way
+    ensures on { result ≡ Way.On }
+    ensures put { regs.new ≡ set_word regs.old rd (op_value op (slice_index regs.old rs1) imm) }
 {
     let value = compute(op, regs.get(rs1), imm);
-    go_on(index, regs, rd, value)
+    go_on(regs, rd, value)
 }
 
 /// An operation on two registers.
-fn by_two(op: RegOp, index: u32, regs: &mut Regs, rd: Reg, rs1: Reg, rs2: Reg) -> Option<u32>
-    ensures { cursor_reached result regs.new ≡ shape_next (Shape.Two op rd rs1 rs2) (cursor index regs.old) }
+fn by_two(op: RegOp, regs: &mut Regs, rd: Target, rs1: Reg, rs2: Reg) -> Way
+    ensures on { result ≡ Way.On }
+    ensures put { regs.new ≡ set_word regs.old rd (op_value op (slice_index regs.old rs1) (slice_index regs.old rs2)) }
 {
     let value = compute(op, regs.get(rs1), regs.get(rs2));
-    go_on(index, regs, rd, value)
+    go_on(regs, rd, value)
 }
 
-/// A branch.
-fn by_cond(cond: Cond, index: u32, regs: &Regs, rs1: Reg, rs2: Reg, words: u32) -> Option<u32>
-    ensures { cursor_reached result regs.now ≡ shape_next (Shape.Branch cond rs1 rs2 words) (cursor index regs.now) }
+/// A branch, which is taken or not.
+fn branch_if(is_taken: bool, index: u32, words: u32) -> Way
+    ensures { (regs : List ℕ)
+        → cursor_led result index regs ≡ Some (cursor (plus index (if is_taken then words else 1)) regs) }
 {
-    let by = if is_met(cond, regs.get(rs1), regs.get(rs2)) {
-        words
+    if is_taken {
+        Way::To(index.wrapping_add(words))
     } else {
-        1
-    };
-    Some(index.wrapping_add(by))
+        Way::On
+    }
+}
+
+/// A branch by two registers.
+fn by_cond(cond: Cond, index: u32, regs: &Regs, rs1: Reg, rs2: Reg, words: u32) -> Way
+    ensures { cursor_led result index regs.now ≡ shape_next (Shape.Branch cond rs1 rs2 words) (cursor index regs.now) }
+{
+    branch_if(is_met(cond, regs.get(rs1), regs.get(rs2)), index, words)
 }
 
 /// JAL
-fn jump(index: u32, regs: &mut Regs, rd: Reg, words: u32) -> Option<u32>
-    ensures { cursor_reached result regs.new ≡ shape_next (Shape.Jump rd words) (cursor index regs.old) }
+fn jump(index: u32, regs: &mut Regs, rd: Reg, words: u32) -> Way
+    ensures { cursor_led result index regs.new ≡ shape_next (Shape.Jump rd words) (cursor index regs.old) }
 {
     regs.set(rd, address_behind(index));
-    Some(index.wrapping_add(words))
+    Way::To(index.wrapping_add(words))
 }
 
 /// JALR, to an aligned target.
-fn jump_by(index: u32, regs: &mut Regs, rd: Reg, rs1: Reg, imm: u32) -> Option<u32>
-    ensures next { cursor_reached result regs.new ≡ shape_next (Shape.JumpTo rd rs1 imm) (cursor index regs.old) }
-    ensures stays { result ≡ None → regs.new ≡ regs.old }
+fn jump_by(index: u32, regs: &mut Regs, rd: Reg, rs1: Reg, imm: u32) -> Way
+    ensures next { cursor_led result index regs.new ≡ shape_next (Shape.JumpTo rd rs1 imm) (cursor index regs.old) }
+    ensures stays { result ≡ Way.Nowhere → regs.new ≡ regs.old }
 {
     let target = regs.get(rs1).wrapping_add(imm) / 2 * 2;
     if target % 4 == 0 {
         regs.set(rd, address_behind(index));
-        Some(target.wrapping_sub(TEXT_START) / 4)
+        Way::To(target.wrapping_sub(TEXT_START) / 4)
     } else {
-        None
+        Way::Nowhere
     }
 }
 
-/// Does an operation that touches registers alone: which word stands next, or None and no change.
-pub(crate) fn act(op: &Op, index: u32, regs: &mut Regs) -> Option<u32>
-    ensures next { cursor_reached result regs.new ≡ shape_next (shape op.now) (cursor index regs.old) }
-    ensures stays { result ≡ None → regs.new ≡ regs.old }
+/// Does an operation that touches registers alone: where it leads, or nowhere and no change. One match has them all, so
+/// that each is found by one jump.
+pub(crate) fn act(op: &Op, index: u32, regs: &mut Regs) -> Way
+    ensures next { cursor_led result index regs.new ≡ shape_next (shape op.now) (cursor index regs.old) }
+    ensures stays { result ≡ Way.Nowhere → regs.new ≡ regs.old }
 {
     match *op {
-        Op::Slow | Op::Ecall | Op::Load { .. } | Op::Store { .. } => None,
-        Op::Fence => Some(index.wrapping_add(1)),
-        Op::Put { rd, value } => go_on(index, regs, rd, value),
+        Op::Fence => Way::On,
+        Op::Put { rd, value } => go_on(regs, rd, value),
         Op::Jal { rd, words } => jump(index, regs, rd, words),
         Op::Jalr { rd, rs1, imm } => jump_by(index, regs, rd, rs1, imm),
-        Op::Addi { rd, rs1, imm } => by_imm(RegOp::Add, index, regs, rd, rs1, imm),
-        Op::Slti { rd, rs1, imm } => by_imm(RegOp::Slt, index, regs, rd, rs1, imm),
-        Op::Sltiu { rd, rs1, imm } => by_imm(RegOp::Sltu, index, regs, rd, rs1, imm),
-        Op::Xori { rd, rs1, imm } => by_imm(RegOp::Xor, index, regs, rd, rs1, imm),
-        Op::Ori { rd, rs1, imm } => by_imm(RegOp::Or, index, regs, rd, rs1, imm),
-        Op::Andi { rd, rs1, imm } => by_imm(RegOp::And, index, regs, rd, rs1, imm),
-        Op::Slli { rd, rs1, imm } => by_imm(RegOp::Sll, index, regs, rd, rs1, imm),
-        Op::Srli { rd, rs1, imm } => by_imm(RegOp::Srl, index, regs, rd, rs1, imm),
-        Op::Srai { rd, rs1, imm } => by_imm(RegOp::Sra, index, regs, rd, rs1, imm),
-        Op::Add { rd, rs1, rs2 } => by_two(RegOp::Add, index, regs, rd, rs1, rs2),
-        Op::Sub { rd, rs1, rs2 } => by_two(RegOp::Sub, index, regs, rd, rs1, rs2),
-        Op::Sll { rd, rs1, rs2 } => by_two(RegOp::Sll, index, regs, rd, rs1, rs2),
-        Op::Slt { rd, rs1, rs2 } => by_two(RegOp::Slt, index, regs, rd, rs1, rs2),
-        Op::Sltu { rd, rs1, rs2 } => by_two(RegOp::Sltu, index, regs, rd, rs1, rs2),
-        Op::Xor { rd, rs1, rs2 } => by_two(RegOp::Xor, index, regs, rd, rs1, rs2),
-        Op::Srl { rd, rs1, rs2 } => by_two(RegOp::Srl, index, regs, rd, rs1, rs2),
-        Op::Sra { rd, rs1, rs2 } => by_two(RegOp::Sra, index, regs, rd, rs1, rs2),
-        Op::Or { rd, rs1, rs2 } => by_two(RegOp::Or, index, regs, rd, rs1, rs2),
-        Op::And { rd, rs1, rs2 } => by_two(RegOp::And, index, regs, rd, rs1, rs2),
+        Op::Addi { rd, rs1, imm } => by_imm(RegOp::Add, regs, rd, rs1, imm),
+        Op::Slti { rd, rs1, imm } => by_imm(RegOp::Slt, regs, rd, rs1, imm),
+        Op::Sltiu { rd, rs1, imm } => by_imm(RegOp::Sltu, regs, rd, rs1, imm),
+        Op::Xori { rd, rs1, imm } => by_imm(RegOp::Xor, regs, rd, rs1, imm),
+        Op::Ori { rd, rs1, imm } => by_imm(RegOp::Or, regs, rd, rs1, imm),
+        Op::Andi { rd, rs1, imm } => by_imm(RegOp::And, regs, rd, rs1, imm),
+        Op::Slli { rd, rs1, imm } => by_imm(RegOp::Sll, regs, rd, rs1, imm),
+        Op::Srli { rd, rs1, imm } => by_imm(RegOp::Srl, regs, rd, rs1, imm),
+        Op::Srai { rd, rs1, imm } => by_imm(RegOp::Sra, regs, rd, rs1, imm),
+        Op::Add { rd, rs1, rs2 } => by_two(RegOp::Add, regs, rd, rs1, rs2),
+        Op::Sub { rd, rs1, rs2 } => by_two(RegOp::Sub, regs, rd, rs1, rs2),
+        Op::Sll { rd, rs1, rs2 } => by_two(RegOp::Sll, regs, rd, rs1, rs2),
+        Op::Slt { rd, rs1, rs2 } => by_two(RegOp::Slt, regs, rd, rs1, rs2),
+        Op::Sltu { rd, rs1, rs2 } => by_two(RegOp::Sltu, regs, rd, rs1, rs2),
+        Op::Xor { rd, rs1, rs2 } => by_two(RegOp::Xor, regs, rd, rs1, rs2),
+        Op::Srl { rd, rs1, rs2 } => by_two(RegOp::Srl, regs, rd, rs1, rs2),
+        Op::Sra { rd, rs1, rs2 } => by_two(RegOp::Sra, regs, rd, rs1, rs2),
+        Op::Or { rd, rs1, rs2 } => by_two(RegOp::Or, regs, rd, rs1, rs2),
+        Op::And { rd, rs1, rs2 } => by_two(RegOp::And, regs, rd, rs1, rs2),
         Op::Beq { rs1, rs2, words } => by_cond(Cond::Eq, index, regs, rs1, rs2, words),
         Op::Bne { rs1, rs2, words } => by_cond(Cond::Ne, index, regs, rs1, rs2, words),
         Op::Blt { rs1, rs2, words } => by_cond(Cond::Lt, index, regs, rs1, rs2, words),
         Op::Bge { rs1, rs2, words } => by_cond(Cond::Ge, index, regs, rs1, rs2, words),
         Op::Bltu { rs1, rs2, words } => by_cond(Cond::Ltu, index, regs, rs1, rs2, words),
         Op::Bgeu { rs1, rs2, words } => by_cond(Cond::Geu, index, regs, rs1, rs2, words),
+        Op::AddiOwn { rd, imm } => by_imm(RegOp::Add, regs, rd, rd.reg(), imm),
+        Op::AndiOwn { rd, imm } => by_imm(RegOp::And, regs, rd, rd.reg(), imm),
+        Op::SlliOwn { rd, imm } => by_imm(RegOp::Sll, regs, rd, rd.reg(), imm),
+        Op::SrliOwn { rd, imm } => by_imm(RegOp::Srl, regs, rd, rd.reg(), imm),
+        Op::SraiOwn { rd, imm } => by_imm(RegOp::Sra, regs, rd, rd.reg(), imm),
+        Op::AddOwn { rd, rs2 } => by_two(RegOp::Add, regs, rd, rd.reg(), rs2),
+        Op::SubOwn { rd, rs2 } => by_two(RegOp::Sub, regs, rd, rd.reg(), rs2),
+        Op::XorOwn { rd, rs2 } => by_two(RegOp::Xor, regs, rd, rd.reg(), rs2),
+        Op::OrOwn { rd, rs2 } => by_two(RegOp::Or, regs, rd, rd.reg(), rs2),
+        Op::AndOwn { rd, rs2 } => by_two(RegOp::And, regs, rd, rd.reg(), rs2),
+        Op::Beqz { rs1, words } => branch_if(regs.is_zero(rs1), index, words),
+        Op::Bnez { rs1, words } => branch_if(!regs.is_zero(rs1), index, words),
+        Op::Slow | Op::Ecall | Op::Load { .. } | Op::Store { .. } => Way::Nowhere,
     }
 }
 
@@ -442,63 +594,56 @@ fn is_stack_access(version: u16, addr: u32, len: u32) -> bool
     addr % len == 0 && is_in_stack(version, addr, len)
 }
 
-/// An aligned load from the stack: which word stands next, or None and no change.
+/// An aligned load from the stack: where it leads, or nowhere and no change.
 fn load_stack(
     version: u16,
     width: LoadWidth,
     rd: Reg,
     addr: u32,
-    index: u32,
     regs: &mut Regs,
     stack: &[u8; 1024],
-) -> Option<u32>
-    ensures next { let from = point index regs.old stack.now in
-        point_reached result regs.new stack.now ≡ stack_load version width rd addr from }
-    ensures stays { result ≡ None → regs.new ≡ regs.old }
+) -> Way
+    ensures next { (index : ℕ) → let from = point index regs.old stack.now in
+        point_led result index regs.new stack.now ≡ stack_load version width rd addr from }
+    ensures stays { result ≡ Way.Nowhere → regs.new ≡ regs.old }
 {
     let bytes = width_of_load(width);
     if is_stack_access(version, addr, u32::from(bytes)) {
         let raw = number_in(stack, (addr - STACK_START) as usize, bytes);
-        go_on(index, regs, rd, loaded(width, raw))
+        regs.set(rd, loaded(width, raw));
+        Way::On
     } else {
-        None
+        Way::Nowhere
     }
 }
 
-/// An aligned store to the stack: which word stands next, or None and no change.
+/// An aligned store to the stack: where it leads, or nowhere and no change.
 fn store_stack(
     version: u16,
     width: StoreWidth,
     addr: u32,
     value: u32,
-    index: u32,
     regs: &Regs,
     stack: &mut [u8; 1024],
-) -> Option<u32>
-    ensures next { let from = point index regs.now stack.old in
-        point_reached result regs.now stack.new ≡ stack_store version width addr value from }
-    ensures stays { result ≡ None → stack.new ≡ stack.old }
+) -> Way
+    ensures next { (index : ℕ) → let from = point index regs.now stack.old in
+        point_led result index regs.now stack.new ≡ stack_store version width addr value from }
+    ensures stays { result ≡ Way.Nowhere → stack.new ≡ stack.old }
 {
     let bytes = width_of_store(width);
     if is_stack_access(version, addr, u32::from(bytes)) {
         write_in(stack, (addr - STACK_START) as usize, bytes, value);
-        Some(index.wrapping_add(1))
+        Way::On
     } else {
-        None
+        Way::Nowhere
     }
 }
 
-/// Does an access of the stack: which word stands next, or None and no change.
-pub(crate) fn act_on_stack(
-    op: &Op,
-    version: u16,
-    index: u32,
-    regs: &mut Regs,
-    stack: &mut [u8; 1024],
-) -> Option<u32>
-    ensures next { let from = point index regs.old stack.old in
-        point_reached result regs.new stack.new ≡ stack_next version (shape op.now) from }
-    ensures stays { result ≡ None → (regs.new ≡ regs.old) × (stack.new ≡ stack.old) }
+/// Does an access of the stack: where it leads, or nowhere and no change.
+pub(crate) fn act_on_stack(op: &Op, version: u16, regs: &mut Regs, stack: &mut [u8; 1024]) -> Way
+    ensures next { (index : ℕ) → let from = point index regs.old stack.old in
+        point_led result index regs.new stack.new ≡ stack_next version (shape op.now) from }
+    ensures stays { result ≡ Way.Nowhere → (regs.new ≡ regs.old) × (stack.new ≡ stack.old) }
 {
     match *op {
         Op::Load {
@@ -508,7 +653,7 @@ pub(crate) fn act_on_stack(
             imm,
         } => {
             let addr = regs.get(rs1).wrapping_add(imm);
-            load_stack(version, width, rd, addr, index, regs, stack)
+            load_stack(version, width, rd, addr, regs, stack)
         }
         Op::Store {
             width,
@@ -518,9 +663,9 @@ pub(crate) fn act_on_stack(
         } => {
             let addr = regs.get(rs1).wrapping_add(imm);
             let value = regs.get(rs2);
-            store_stack(version, width, addr, value, index, regs, stack)
+            store_stack(version, width, addr, value, regs, stack)
         }
-        _ => None,
+        _ => Way::Nowhere,
     }
 }
 

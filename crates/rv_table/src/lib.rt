@@ -17,4 +17,4 @@ pub use decoding::{decode, decode_at};
 pub use encoding::{encode, is_valid};
 pub use instr::{Cond, Effect, ImmOp, Instr, LoadWidth, RegOp, StoreWidth};
 pub use laws::rows_are_apart;
-pub use reg::{Reg, Regs};
+pub use reg::{Reg, Regs, Target};

@@ -1,6 +1,7 @@
 //! Registers.
 
-ghost use Rattle.std.specs.Prelude.{◌≡◌, ℕ, ◌<◌, List, length, slice_index, replicate, SomeIff};
+ghost use Rattle.std.specs.Prelude.{◌≡◌, ℕ, ◌<◌, ◌==◌, List, length, slice_index, replicate, Some, None, SomeIff};
+ghost use Rattle.std.specs.Prelude.{if◌then◌else◌};
 ghost use Rattle.rv_table.specs.Regs.{set_word};
 
 use std::marker::Model;
@@ -39,6 +40,46 @@ impl Reg {
         ensures small { result < 32 }
     {
         self.number
+    }
+
+    /// The same register, where it can be written: all but `x0`.
+    pub fn target(self) -> Option<Target>
+        ensures { result ≡ (if self == 0 then None else Some self) }
+    {
+        if self.number == 0 {
+            None
+        } else {
+            Some(Target {
+                number: self.number,
+            })
+        }
+    }
+}
+
+/// The number of a register that can be written, 1 to 31.
+#[derive(Clone, Copy, Debug, PartialEq, Eq)]
+pub struct Target {
+    number: u8,
+}
+
+impl Model for Target {
+    ghost Value = { ℕ };
+
+    ghost view = { λ r. r.number };
+
+    ghost invariant = { λ r. (0 < r.number) × (r.number < 32) };
+
+    ghost inverse = { λ n. record { number = n } };
+}
+
+impl Target {
+    /// The same register, to read.
+    pub fn reg(self) -> Reg
+        ensures { result ≡ self }
+    {
+        Reg {
+            number: self.number,
+        }
     }
 }
 
@@ -82,5 +123,19 @@ impl Regs {
         if reg.number() != 0 {
             self.words[reg.number() as usize] = value;
         }
+    }
+
+    /// Writes a word to a register that can be written.
+    pub fn put(&mut self, rd: Target, value: u32)
+        ensures { self.new ≡ set_word self.old rd value }
+    {
+        self.words[rd.number as usize] = value;
+    }
+
+    /// Whether a register has 0, as `x0` always has.
+    pub fn is_zero(&self, reg: Reg) -> bool
+        ensures { result ≡ (slice_index self.now reg == slice_index self.now 0) }
+    {
+        self.words[reg.number() as usize] == 0
     }
 }

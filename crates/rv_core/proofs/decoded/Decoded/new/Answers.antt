@@ -1,4 +1,4 @@
-use Rattle.std.proofs.Common.{rules, sym, subst, ap, ◌∙◌, length, ◌≤◌}
+use Rattle.std.proofs.Common.{rules, arith, sym, subst, ap, ◌∙◌, length, ◌≤◌}
 use Rattle.rv_core.specs.Ops.{AreOf, IsOpOf}
 use Rattle.rv_core.proofs.Ops.{AreOf-push}
 use Rattle.rv_core.proofs.decoded.Decoded.new.Goals as goal
@@ -14,9 +14,12 @@ loop-index-preserved g c =
 
 pub invariant_of-result : goal.invariant_of-result
 invariant_of-result g c =
+    let short : length c.text-text.result.now ≤ 65536 =
+    subst (λ text. length text ≤ 65536) (sym c.text-text.ensures) c.initial-limits.ensures.limits.text in
     let text = c.text-text.ensures ∙ ap (λ image. image.text) c.requires in
     record {
       of = subst (λ text. AreOf text c.loop-index.ops.items) text c.loop-index.invariant.of;
       short =
           subst (λ text. length text ≤ 65536) (ap (λ image. image.text) c.requires) c.initial-limits.ensures.limits.text;
+      few = omega (arith, c.loop-index.invariant.count, c.loop-index.auto.index-end, short);
     }
