@@ -145,8 +145,8 @@ fn lesser(one: usize, other: usize) -> usize
 /// Does operations that touch registers and stack alone, from a word of the text on, at most `limit` of them: the
 /// word that stands next, and how many they were.
 ///
-/// An operation that goes on to the next word costs one test, of that word against `end`. `bound` is the word that would
-/// stand next after `limit` operations if all to come went on; where one goes elsewhere, both move.
+/// An operation that goes on to the next word costs one test, of that word against `end`. `bound` is the word that
+/// would stand next after `limit` operations if all to come went on; where one goes elsewhere, both move.
 fn do_ops(
     ops: &[Op],
     version: u16,

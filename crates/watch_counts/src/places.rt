@@ -149,12 +149,15 @@ fn more_on(
     core: u32,
     task: Option<&Task>,
 ) -> CoreCounts
-    ensures running { (c : ℕ) → counts.running ≡ capped c → result.running
-        ≡ capped (c + cond (runs (slice_index_or cores.now (4 * tile + core) false) (option_copied task.entry)) 1 0) }
-    ensures stalled { (c : ℕ) → counts.stalled ≡ capped c → result.stalled
-        ≡ capped (c + cond (stalls (slice_index_or cores.now (4 * tile + core) false) (option_copied task.entry)) 1 0) }
-    ensures trapped { (c : ℕ) → counts.trapped ≡ capped c → result.trapped
-        ≡ capped (c + cond (is_trapped (slice_index_or cores.now (4 * tile + core) false) (option_copied task.entry)) 1 0) }
+    ensures running { let waits = slice_index_or cores.now (4 * tile + core) false in
+        (c : ℕ) → counts.running ≡ capped c
+        → result.running ≡ capped (c + cond (runs waits (option_copied task.entry)) 1 0) }
+    ensures stalled { let waits = slice_index_or cores.now (4 * tile + core) false in
+        (c : ℕ) → counts.stalled ≡ capped c
+        → result.stalled ≡ capped (c + cond (stalls waits (option_copied task.entry)) 1 0) }
+    ensures trapped { let waits = slice_index_or cores.now (4 * tile + core) false in
+        (c : ℕ) → counts.trapped ≡ capped c
+        → result.trapped ≡ capped (c + cond (is_trapped waits (option_copied task.entry)) 1 0) }
 {
     let CoreCounts {
         mut running,
