@@ -1,10 +1,11 @@
 //! The course in lockstep.
 
 ghost use Rattle.std.specs.Prelude.{◌≡◌, ◌≢◌, ◌↔◌, ◌<◌, ◌≤◌, ◌+◌, ◌^◌, ◌++◌, All, IfOk, IsPermutation, IsTrue};
-ghost use Rattle.std.specs.Prelude.{OnOk, ◌==◌, ◌&&◌, [], if◌then◌else◌, length, map, replicate, true};
+ghost use Rattle.std.specs.Prelude.{OnOk, ◌==◌, ◌&&◌, ℕ, [], false, if◌then◌else◌, length, map, replicate, true};
 ghost use Rattle.std.specs.List.{flat_map, range_with_len};
 ghost use Rattle.conflict_book.specs.BookViews.{machine_view, view_of};
-ghost use Rattle.spec_state.specs.Least.{IsLeast};
+ghost use Rattle.spec_state.specs.declared.task.Task.{Task};
+ghost use Rattle.spec_state.specs.Least.{IsLeast, IsLeastTask};
 ghost use Rattle.spec_state.specs.View.{View};
 ghost use Rattle.step_script.specs.Ranges.{ActIsInRange};
 ghost use Rattle.event_def.specs.End.{IsOver};
@@ -29,7 +30,8 @@ use guest_image::Image;
 use place_policy::Placer;
 use rv_core::Naming;
 use sim_io::Sink;
-use spec_state::{Settings, State, Where};
+use spec_dispatch::free_core;
+use spec_state::{Settings, State, Status, Where};
 use std::alloc::{AllocError, Global};
 use step_script::Act;
 use trace_tap::Tap;
@@ -149,6 +151,20 @@ fn next_order(acts: &mut [Act], drawn: u32, seed: u32) -> u32
     }
 }
 
+/// Whether the least task is idle, as `least` tells how it stands.
+fn is_idle(least: Where) -> bool
+    ensures { (view : View) → IsLeast view least → result ≡ false → (id : ℕ) (task : Task)
+        → IsLeastTask view id task → task.status ≢ Status.Idle }
+{
+    match least {
+        Where::Idle(_) => true,
+        Where::Running(_) => false,
+        Where::Trapped(_) => false,
+        Where::Finished(_) => false,
+        Where::Spilled(_) => false,
+    }
+}
+
 fn is_dispatch_asked<N: Naming, P: Placer, T: Tap>(
     book: &Book<N, P, T>,
     tile: u32,
@@ -158,9 +174,15 @@ fn is_dispatch_asked<N: Naming, P: Placer, T: Tap>(
     requires least { IsLeast (machine_view book.now) least }
     ensures { IsTrue result ↔ IsAskedInRound (machine_view book.now) (Act.Dispatch tile) }
 {
-    match book.state().idle(tile) {
+    let state = book.state();
+    let has_core = free_core(state, tile).is_some();
+    // A look at each task of the tile is spared where none of them can be dispatched.
+    if !has_core && !is_idle(least) {
+        return false;
+    }
+    match state.idle(tile) {
         None => false,
-        Some(id) => book.ready(tile) || is_at(least, id),
+        Some(id) => has_core || is_at(least, id),
     }
 }
 
