@@ -67,7 +67,24 @@ impl<N: Naming> Errand<N> {
         let Errand { from, leg, .. } = self;
         match decoded {
             Some(text) => leg.run_again(text, image, from, quantum, budget),
-            None => *leg = run_leg(image, from.core(), quantum, budget),
+            None => run_on_text(leg, image, from, quantum, budget),
         }
     }
+}
+
+/// Becomes the leg of a core on the text itself. No part of `compute`, where it would take room of its own at each leg.
+#[inline(never)]
+fn run_on_text<N: Naming>(
+    leg: &mut Leg<N>,
+    image: &Image,
+    from: &NotedCore,
+    quantum: u32,
+    budget: u32,
+)
+    requires image { image.now ≡ N.image }
+    requires budget { budget ≡ N.budget }
+    requires quantum { (1 ≤ quantum) × (quantum ≤ 1024) }
+    requires used { from.now.used ≤ budget }
+{
+    *leg = run_leg(image, from.core(), quantum, budget);
 }

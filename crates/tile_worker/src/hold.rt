@@ -13,9 +13,11 @@ use conflict_book::{Advance, Book, Legless, Reply};
 use guest_image::Image;
 use place_policy::Placer;
 use rv_core::{Leg, Naming};
+use spec_state::{Status, Task, Where};
 use trace_tap::Tap;
 
 /// What a worker has found in a hold.
+#[derive(Clone, Copy)]
 pub(crate) enum Found {
     /// The core of its next leg, which it carries.
     Core,
@@ -46,6 +48,25 @@ fn try_dispatch<N: Naming, P: Placer, T: Tap>(book: &mut Book<N, P, T>, tile: u3
         CountsSo N old result (view_of P.policy T.notes book.new) }
 {
     match book.apply_legless(Legless::Dispatch { tile }).reply {
+        Reply::Ok => Tried::Made,
+        Reply::Busy | Reply::Stall => Tried::Waits,
+        Reply::Empty | Reply::Stale | Reply::Firm => Tried::Missed,
+        Reply::Ended => Tried::Over,
+        Reply::Memory => {
+            book.stop();
+            Tried::Over
+        }
+    }
+}
+
+/// Brings the least spilled task of a tile that is there back. Where memory runs out the book is stopped.
+#[tactic(auto, using(crate::proofs::Holding::event_tries))]
+fn try_split<N: Naming, P: Placer, T: Tap>(book: &mut Book<N, P, T>, tile: u32) -> Tried
+    requires { tile < (machine_view book.old).settings.tiles }
+    ensures { let old = view_of P.policy T.notes book.old in
+        CountsSo N old result (view_of P.policy T.notes book.new) }
+{
+    match book.apply_legless(Legless::Split { tile }).reply {
         Reply::Ok => Tried::Made,
         Reply::Empty | Reply::Busy | Reply::Stall => Tried::Waits,
         Reply::Stale | Reply::Firm => Tried::Missed,
@@ -98,6 +119,87 @@ fn try_advance<N: Naming, P: Placer, T: Tap>(book: &mut Book<N, P, T>, image: &I
     }
 }
 
+/// Whether the commit queue of a tile has a free place.
+fn has_room<N: Naming, P: Placer, T: Tap>(book: &Book<N, P, T>, tile: u32) -> bool
+    requires { tile < (machine_view book.now).settings.tiles }
+{
+    book.state().commit_free(tile) > 0
+}
+
+/// Tries those tiles again whose commit queue was full, and isn't any more.
+fn wake<N: Naming, P: Placer, T: Tap>(book: &Book<N, P, T>, round: &mut Round) {
+    for tile in 0..book.settings().tiles {
+        if round.was_full(tile) && has_room(book, tile) {
+            round.wake_tile(tile);
+        }
+    }
+}
+
+/// The core on which the least task runs; None where it doesn't run.
+fn least_core<N: Naming, P: Placer, T: Tap>(book: &Book<N, P, T>) -> Option<TileCore> {
+    let state = book.state();
+    match state.least() {
+        Some(Where::Running(id)) => core_of(state.task(id)),
+        _ => None,
+    }
+}
+
+/// The core on which a task runs; None where it doesn't run.
+fn core_of(task: &Task) -> Option<TileCore> {
+    match task.status {
+        Status::Running { core } => Some(TileCore {
+            tile: task.tile,
+            core,
+        }),
+        Status::Idle | Status::Trapped { .. } | Status::Finished => None,
+    }
+}
+
+/// Goes for a core of the worker's own, and tells whether it does.
+fn go_for_own<N: Naming, P: Placer, T: Tap>(
+    book: &Book<N, P, T>,
+    round: &Round,
+    errand: &mut Errand<N>,
+    found: Option<TileCore>,
+) -> bool {
+    // Called for its clauses: its task budget is the one that `N` names.
+    let _settings = book.settings();
+    let Some(place) = found else {
+        return false;
+    };
+    if !round.is_own(place.tile) {
+        return false;
+    }
+    match book.core_in_place(place.tile, place.core) {
+        Some(core) => {
+            errand.go_for(place, core);
+            true
+        }
+        None => false,
+    }
+}
+
+/// Lets be for a while what stalled: the core, and in its tile all dispatches, but where its commit queue was full only
+/// until that has a free place; where legs are short the whole tile.
+fn rest_stalled<N: Naming, P: Placer, T: Tap>(
+    book: &Book<N, P, T>,
+    round: &mut Round,
+    place: TileCore,
+)
+    requires tile { place.tile < (machine_view book.now).settings.tiles }
+    requires core { place.core < (machine_view book.now).settings.cores }
+{
+    // Called for its clauses: a machine has at most sixteen tiles.
+    let _settings = book.settings();
+    if round.has_short_legs() {
+        round.rest_whole(place.tile, book.steps());
+    } else {
+        round.rest_core(place, book.steps());
+        round.rest_tile(place.tile, book.steps());
+        round.note_full(place.tile, !has_room(book, place.tile));
+    }
+}
+
 /// Hands in a leg, and lets the core and its tile be for a while where it stalls.
 fn hand_in<N: Naming, P: Placer, T: Tap>(
     book: &mut Book<N, P, T>,
@@ -115,8 +217,7 @@ fn hand_in<N: Naming, P: Placer, T: Tap>(
     }
     let tried = try_leg(book, place, leg);
     if let Tried::Waits = tried {
-        round.rest_core(place, book.steps());
-        round.rest_tile(place.tile, book.steps());
+        rest_stalled(book, round, place);
     }
     tried
 }
@@ -132,17 +233,101 @@ fn may_have_free_core<N: Naming, P: Placer, T: Tap>(book: &Book<N, P, T>, tile: 
     false
 }
 
+/// Dispatches in a tile, or lets all of it be for a while where no core is free or no place is left.
+fn ask_dispatch<N: Naming, P: Placer, T: Tap>(
+    book: &mut Book<N, P, T>,
+    round: &mut Round,
+    tile: u32,
+) -> Tried
+    requires { tile < (machine_view book.old).settings.tiles }
+    ensures { let old = view_of P.policy T.notes book.old in
+        CountsSo N old result (view_of P.policy T.notes book.new) }
+{
+    // Called for its clauses: a machine has at most sixteen tiles.
+    let _settings = book.settings();
+    let tried = try_dispatch(book, tile);
+    if let Tried::Waits = tried {
+        round.rest_whole(tile, book.steps());
+    } else if let Tried::Missed = tried {
+        round.rest_tile(tile, book.steps());
+    }
+    tried
+}
+
+/// Whether the least spilled task of a tile comes before its least idle one, by their timestamps.
+fn spilled_comes_first<N: Naming, P: Placer, T: Tap>(book: &Book<N, P, T>, tile: u32) -> bool
+    requires { tile < (machine_view book.now).settings.tiles }
+{
+    let state = book.state();
+    if state.block_len(tile) == 0 {
+        return false;
+    }
+    let spilled = state.spilled_at(tile, 0);
+    match state.idle(tile) {
+        None => true,
+        Some(id) => {
+            let key = state.key_of(id);
+            spilled.depth == 1 && key.domain.levels().is_empty() && spilled.ts < key.ts
+        }
+    }
+}
+
+/// Brings a spilled task back that comes before the idle ones, or else dispatches.
+fn fill<N: Naming, P: Placer, T: Tap>(
+    book: &mut Book<N, P, T>,
+    round: &mut Round,
+    tile: u32,
+) -> Tried
+    requires { tile < (machine_view book.old).settings.tiles }
+    ensures { let old = view_of P.policy T.notes book.old in
+        CountsSo N old result (view_of P.policy T.notes book.new) }
+{
+    // Called for its clauses: a machine has at most sixteen tiles.
+    let _settings = book.settings();
+    if spilled_comes_first(book, tile) {
+        match try_split(book, tile) {
+            Tried::Made => return Tried::Made,
+            Tried::Over => return Tried::Over,
+            Tried::Waits | Tried::Missed => {}
+        }
+    }
+    let tried = try_dispatch(book, tile);
+    if let Tried::Waits | Tried::Missed = tried {
+        round.rest_tile(tile, book.steps());
+    }
+    tried
+}
+
+/// Dispatches in a tile: where legs are short also where no core is free, so that the whole tile is let be.
+fn dispatch_in<N: Naming, P: Placer, T: Tap>(
+    book: &mut Book<N, P, T>,
+    round: &mut Round,
+    tile: u32,
+) -> Tried
+    requires { tile < (machine_view book.old).settings.tiles }
+    ensures { let old = view_of P.policy T.notes book.old in
+        CountsSo N old result (view_of P.policy T.notes book.new) }
+{
+    if round.has_short_legs() {
+        ask_dispatch(book, round, tile)
+    } else if may_have_free_core(book, tile) {
+        fill(book, round, tile)
+    } else {
+        Tried::Missed
+    }
+}
+
 /// Dispatches in the first of the worker's own tiles that isn't let be and takes a dispatch.
 fn dispatch_own<N: Naming, P: Placer, T: Tap>(book: &mut Book<N, P, T>, round: &mut Round) -> Tried
     ensures { let old = view_of P.policy T.notes book.old in
         CountsSo N old result (view_of P.policy T.notes book.new) }
 {
     for tile in 0..book.settings().tiles {
-        if round.tries_tile(tile, book.steps()) && may_have_free_core(book, tile) {
-            match try_dispatch(book, tile) {
+        if round.tries_tile(tile, book.steps()) {
+            match dispatch_in(book, round, tile) {
                 Tried::Made => return Tried::Made,
                 Tried::Over => return Tried::Over,
-                Tried::Waits | Tried::Missed => round.rest_tile(tile, book.steps()),
+                Tried::Waits | Tried::Missed => {}
             }
         }
     }
@@ -212,11 +397,97 @@ fn advance_least<N: Naming, P: Placer, T: Tap>(
     }
 }
 
-/// One hold of the lock: the leg is handed in, or else a dispatch is made; then a look for the core of the next leg.
-/// Only where neither is made and no core is found, the event for the least task, and another look. No more than one
-/// of these events is made.
+/// Makes the event for the least task, unless others go on.
+#[tactic(auto, using(crate::proofs::Holding::counts_hold, crate::proofs::Holding::rests))]
+fn advance_idle<N: Naming, P: Placer, T: Tap>(
+    book: &mut Book<N, P, T>,
+    image: &Image,
+    round: &Round,
+) -> Found
+    requires image { image.now ≡ N.image }
+    ensures once { let old = view_of P.policy T.notes book.old in
+        HoldsOnce N old (view_of P.policy T.notes book.new) }
+    ensures done { IsDoneAt (view_of P.policy T.notes book.new) result }
+{
+    if round.is_behind_at(book.steps()) {
+        return Found::Nothing;
+    }
+    match try_advance(book, image) {
+        Tried::Over => Found::Done,
+        Tried::Made | Tried::Waits | Tried::Missed => Found::Nothing,
+    }
+}
+
+/// Where the least task runs on a core of the worker's own, goes for that core, which may be let be; where it runs on
+/// another's, that one computes its leg, and this one waits while others go on. Else makes the event for the least
+/// task.
+#[tactic(auto, using(crate::proofs::Holding::rests))]
+fn help_least<N: Naming, P: Placer, T: Tap>(
+    book: &mut Book<N, P, T>,
+    image: &Image,
+    round: &mut Round,
+    errand: &mut Errand<N>,
+) -> Found
+    requires image { image.now ≡ N.image }
+    ensures once { let old = view_of P.policy T.notes book.old in
+        HoldsOnce N old (view_of P.policy T.notes book.new) }
+    ensures done { IsDoneAt (view_of P.policy T.notes book.new) result }
+{
+    let place = least_core(book);
+    if go_for_own(book, round, errand, place) {
+        return Found::Core;
+    }
+    if place.is_some() && round.others_go_on(book.steps()) {
+        errand.go_for_none();
+        return Found::Nothing;
+    }
+    advance_least(book, image, round, errand)
+}
+
+/// A hold in which nothing of the worker's own is left to be tried. Where its legs are short, or no tile is its own,
+/// all of that is let be, and it makes but the events for the least tasks.
+#[tactic(auto)]
+fn serve_others<N: Naming, P: Placer, T: Tap>(
+    book: &mut Book<N, P, T>,
+    image: &Image,
+    round: &mut Round,
+    errand: &mut Errand<N>,
+) -> Found
+    requires image { image.now ≡ N.image }
+    ensures once { let old = view_of P.policy T.notes book.old in
+        HoldsOnce N old (view_of P.policy T.notes book.new) }
+    ensures done { IsDoneAt (view_of P.policy T.notes book.new) result }
+{
+    let tiles = book.settings().tiles;
+    if round.has_short_legs() || round.own_tiles(tiles) == 0 {
+        round.go_idle(tiles);
+        advance_idle(book, image, round)
+    } else {
+        help_least(book, image, round, errand)
+    }
+}
+
+/// A look for the core of the next leg after an event was made. Where legs are short there is none: the worker asks
+/// for a dispatch next, until its tiles are let be.
+fn go_on_after<N: Naming, P: Placer, T: Tap>(
+    book: &Book<N, P, T>,
+    round: &mut Round,
+    errand: &mut Errand<N>,
+) -> Found
+    ensures { IsDoneAt (view_of P.policy T.notes book.now) result }
+{
+    if round.has_short_legs() {
+        errand.go_for_none();
+        Found::Nothing
+    } else {
+        go_on(book, round, errand)
+    }
+}
+
+/// A hold in which something of the worker's own may be tried: the leg is handed in, or else a dispatch is made; then
+/// a look for the core of the next leg.
 #[tactic(auto, using(crate::proofs::Holding::counts_hold, crate::proofs::Holding::refused_holds))]
-pub(crate) fn serve<N: Naming, P: Placer, T: Tap>(
+fn serve_awake<N: Naming, P: Placer, T: Tap>(
     book: &mut Book<N, P, T>,
     image: &Image,
     round: &mut Round,
@@ -229,10 +500,51 @@ pub(crate) fn serve<N: Naming, P: Placer, T: Tap>(
 {
     match serve_own(book, round, errand) {
         Tried::Over => Found::Done,
-        Tried::Made => go_on(book, round, errand),
+        Tried::Made => go_on_after(book, round, errand),
         Tried::Waits | Tried::Missed => match go_on(book, round, errand) {
             Found::Core => Found::Core,
-            Found::Nothing | Found::Done => advance_least(book, image, round, errand),
+            Found::Nothing | Found::Done => serve_others(book, image, round, errand),
         },
+    }
+}
+
+/// A look for a core where all of the worker's own was let be until now: so that it learns whether legs are still
+/// short.
+fn look_again<N: Naming, P: Placer, T: Tap>(
+    book: &Book<N, P, T>,
+    round: &mut Round,
+    errand: &mut Errand<N>,
+) -> Found
+    ensures { IsDoneAt (view_of P.policy T.notes book.now) result }
+{
+    if round.wakes() {
+        go_on(book, round, errand)
+    } else {
+        Found::Nothing
+    }
+}
+
+/// One hold of the lock: the leg is handed in, or else a task comes back or is dispatched; then a look for the core of
+/// the next leg. Only where none of these is made and no core is found, or while all is let be, the event for the
+/// least task. No more than one of these events is made.
+#[tactic(auto, using(crate::proofs::Holding::rests))]
+pub(crate) fn serve<N: Naming, P: Placer, T: Tap>(
+    book: &mut Book<N, P, T>,
+    image: &Image,
+    round: &mut Round,
+    errand: &mut Errand<N>,
+) -> Found
+    requires image { image.now ≡ N.image }
+    ensures once { let old = view_of P.policy T.notes book.old in
+        HoldsOnce N old (view_of P.policy T.notes book.new) }
+    ensures done { IsDoneAt (view_of P.policy T.notes book.new) result }
+{
+    if round.is_idle(book.steps()) {
+        return advance_idle(book, image, round);
+    }
+    wake(book, round);
+    match look_again(book, round, errand) {
+        Found::Core => Found::Core,
+        Found::Nothing | Found::Done => serve_awake(book, image, round, errand),
     }
 }

@@ -33,6 +33,8 @@ pub(crate) struct Round {
     last: TileCore,
     tiles: [u64; 16],
     cores: [u64; 64],
+    idle_until: u64,
+    full: [bool; 16],
     pace: Pace,
     seen: u64,
     is_behind: bool,
@@ -68,6 +70,8 @@ impl Round {
             },
             tiles: [0; 16],
             cores: [0; 64],
+            idle_until: 0,
+            full: [false; 16],
             pace: Pace::new(),
             seen: 0,
             is_behind: false,
@@ -75,12 +79,87 @@ impl Round {
     }
 
     /// Learns the counts of events at the begin and at the end of a hold. Where others made many events since
-    /// the hold before, this worker is behind them.
+    /// the hold before, or this worker made none now, it is behind them.
     pub(crate) fn learn_events(&mut self, before: u64, after: u64)
         ensures { self.new ≡ record self.old { seen = after; is_behind = self.new.is_behind } }
     {
-        self.is_behind = before - self.seen.min(before) >= MANY;
+        self.is_behind = self.is_behind_at(before) || after <= before;
         self.seen = after;
+    }
+
+    /// Whether others made many events since the last hold.
+    pub(crate) fn is_behind_at(&self, steps: u64) -> bool {
+        steps - self.seen.min(steps) >= MANY
+    }
+
+    /// Whether others made an event since the last hold.
+    pub(crate) fn others_go_on(&self, steps: u64) -> bool {
+        steps > self.seen
+    }
+
+    /// Whether the worker's last legs were all short.
+    pub(crate) fn has_short_legs(&self) -> bool {
+        self.pace.has_short_legs()
+    }
+
+    /// Whether all that is the worker's own is let be at this count of events.
+    pub(crate) fn is_idle(&self, steps: u64) -> bool {
+        steps < self.idle_until
+    }
+
+    /// Whether it was let be until now.
+    pub(crate) fn wakes(&mut self) -> bool {
+        let woke = self.idle_until != 0;
+        self.idle_until = 0;
+        woke
+    }
+
+    /// Lets all that is the worker's own be until the first of its tiles is to be tried again; with none, for good.
+    pub(crate) fn go_idle(&mut self, tiles: u32)
+        requires { tiles ≤ 16 }
+    {
+        let mut until = u64::MAX;
+        for tile in 0..tiles {
+            if tile % self.workers == self.worker {
+                until = until.min(self.tiles[tile as usize]);
+            }
+        }
+        self.idle_until = until;
+    }
+
+    /// Lets a tile with all its cores be for a while.
+    pub(crate) fn rest_whole(&mut self, tile: u32, steps: u64)
+        requires { tile < 16 }
+    {
+        self.rest_tile(tile, steps);
+        for core in 0..4u32 {
+            self.rest_core(TileCore { tile, core }, steps);
+        }
+    }
+
+    /// Notes whether the commit queue of a tile was full where a leg stalled there.
+    pub(crate) fn note_full(&mut self, tile: u32, is_full: bool)
+        requires { tile < 16 }
+    {
+        self.full[tile as usize] = is_full;
+    }
+
+    /// Whether a leg stalled in the tile at its full commit queue.
+    pub(crate) fn was_full(&self, tile: u32) -> bool
+        requires { tile < 16 }
+    {
+        self.full[tile as usize]
+    }
+
+    /// Tries a tile and its cores again.
+    pub(crate) fn wake_tile(&mut self, tile: u32)
+        requires { tile < 16 }
+    {
+        self.full[tile as usize] = false;
+        self.tiles[tile as usize] = 0;
+        for core in 0..4u32 {
+            self.cores[index_of(TileCore { tile, core })] = 0;
+        }
     }
 
     /// Learns of a leg of so many instructions that is handed in next.
@@ -88,16 +167,27 @@ impl Round {
         self.pace.learn_leg(steps);
     }
 
+    /// Learns of a lock that was free at once.
+    pub(crate) fn learn_free(&mut self) {
+        self.pace.learn_free();
+    }
+
     /// Waits after a miss of the lock.
     pub(crate) fn wait<R: Wait>(&mut self, rt: &R, bell: &Bell) {
         self.pace.wait(rt, bell);
     }
 
-    /// Lets others go on for a while, where they are ahead.
+    /// Lets others go on for a while, where they are ahead or this worker made no event: the longer where all that is
+    /// its own is let be.
     pub(crate) fn let_others<R: Wait>(&mut self, rt: &R, bell: &Bell) {
         if self.is_behind {
-            self.pace.rest(rt, bell);
+            self.pace.rest(rt, bell, self.idle_until != 0);
         }
+    }
+
+    /// Whether the tile is the worker's own.
+    pub(crate) fn is_own(&self, tile: u32) -> bool {
+        tile % self.workers == self.worker
     }
 
     /// Whether the tile is the worker's own, and is to be tried at this count of events.

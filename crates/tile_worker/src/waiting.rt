@@ -10,6 +10,9 @@ use std::time::Duration;
 /// A leg of so many instructions is long: to compute it takes no less than a hold, so that others go on meanwhile.
 const LONG_LEG: u32 = 256;
 
+/// So many short legs one after another tell that legs are short.
+const SHORT_LEGS: u32 = 16;
+
 /// How often a worker tries the lock before it sleeps until it is free.
 const TRIES: u32 = 256;
 
@@ -21,6 +24,9 @@ const FIRST_NAP: u32 = 8;
 
 /// After so many misses its naps grow no more: they take a millisecond.
 const LAST_NAP: u32 = 14;
+
+/// After so many a worker's naps grow no more where something of its own may be tried soon.
+const BRIEF_NAP: u32 = 9;
 
 /// How many looks at the bell a worker with a long leg lets pass between two tries.
 const SHORT_PAUSE: u32 = 64;
@@ -39,6 +45,7 @@ pub(crate) struct Bell {
 #[derive(Clone, Copy)]
 pub(crate) struct Pace {
     is_long: bool,
+    short_legs: u32,
     misses: u32,
 }
 
@@ -82,6 +89,7 @@ impl Pace {
     pub(crate) fn new() -> Pace {
         Pace {
             is_long: false,
+            short_legs: 0,
             misses: 0,
         }
     }
@@ -89,13 +97,29 @@ impl Pace {
     /// Learns of a leg of so many instructions that is handed in next.
     pub(crate) fn learn_leg(&mut self, steps: u32) {
         self.is_long = steps >= LONG_LEG;
+        self.short_legs = if self.is_long {
+            0
+        } else {
+            self.short_legs.saturating_add(1)
+        };
         self.misses /= 2;
     }
 
-    /// Naps, twice as long as the last time, up to a millisecond.
-    pub(crate) fn rest<R: Wait>(&mut self, rt: &R, bell: &Bell) {
+    /// Learns of a lock that was free.
+    pub(crate) fn learn_free(&mut self) {
+        self.misses = self.misses.saturating_sub(1);
+    }
+
+    /// Whether the last legs were all short.
+    pub(crate) fn has_short_legs(&self) -> bool {
+        self.short_legs >= SHORT_LEGS
+    }
+
+    /// Naps, twice as long as the last time, up to a millisecond, or up to some ten microseconds.
+    pub(crate) fn rest<R: Wait>(&mut self, rt: &R, bell: &Bell, is_idle: bool) {
+        let most = if is_idle { LAST_NAP } else { BRIEF_NAP };
         self.is_long = false;
-        self.misses = self.misses.saturating_add(1).max(FIRST_NAP).min(LAST_NAP);
+        self.misses = self.misses.saturating_add(1).max(FIRST_NAP).min(most);
         bell.nap(rt, nap_after(self.misses));
     }
 
@@ -126,6 +150,7 @@ pub(crate) fn take<'a, T, R: Wait>(
     round: &mut Round,
 ) -> MutexGuard<'a, T> {
     if let Some(guard) = lock.try_lock() {
+        round.learn_free();
         return guard;
     }
     let tries = if bell.is_crowded {

@@ -6,5 +6,5 @@ pub returns-in-Over : goal.returns-in-Over
 returns-in-Over g c =
     still_over g.row.N.Denot (view_of g.P.Placer.policy g.T.Tap.notes c.args.book.now)
     (view_of g.P.Placer.policy g.T.Tap.notes c.loop-tile.book)
-    (view_of g.P.Placer.policy g.T.Tap.notes c.try_dispatch.new.book) c.try_dispatch.result c.try_dispatch.ensures c.in-Over.is
+    (view_of g.P.Placer.policy g.T.Tap.notes c.dispatch_in.new.book) c.dispatch_in.result c.dispatch_in.ensures c.in-Over.is
     c.loop-tile.invariant
