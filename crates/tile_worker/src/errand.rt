@@ -1,21 +1,59 @@
-//! The leg that a worker computes between two holds of the lock.
+//! The legs that a worker computes between two holds of the lock.
 
 ghost use Rattle.std.specs.Prelude.{◌≡◌, ◌≤◌};
 ghost use Rattle.spec_state.specs.Settings.{IsValid};
 
 use crate::round::TileCore;
+use crate::waiting::LONG_LEG;
 use guest_image::{Image, TEXT_START};
-use rv_core::{Decoded, Leg, Naming, NotedCore, run_leg};
+use rv_core::{Decoded, Leg, Naming, NotedCore, Stop, run_leg};
 use spec_state::Settings;
 
-/// The core for which a worker computes a leg, as it stood in the hold in which it was found, and that leg. Both keep
+/// So many legs of a core a worker computes one after another where they are long, before it hands in the first.
+const LEGS_AHEAD: u32 = 4;
+
+/// Places for legs of one core, each of which begins where the one before ends. No array, since a leg's type has a
+/// parameter.
+#[derive(Drop)]
+struct Legs<N: Naming> {
+    first: Leg<N>,
+    second: Leg<N>,
+    third: Leg<N>,
+    fourth: Leg<N>,
+}
+
+impl<N: Naming> Legs<N> {
+    /// The leg at a place, counted from 0; the last one at each further place.
+    fn at(&self, place: u32) -> &Leg<N> {
+        match place {
+            0 => &self.first,
+            1 => &self.second,
+            2 => &self.third,
+            _ => &self.fourth,
+        }
+    }
+
+    /// The same leg, to be changed.
+    fn at_mut(&mut self, place: u32) -> &mut Leg<N> {
+        match place {
+            0 => &mut self.first,
+            1 => &mut self.second,
+            2 => &mut self.third,
+            _ => &mut self.fourth,
+        }
+    }
+}
+
+/// The core for which a worker computes legs, as it stood in the hold in which it was found, and those legs. All keep
 /// their places from hold to hold, so that no more of them moves than the core that is found.
 #[derive(Drop)]
 pub(crate) struct Errand<N: Naming> {
     /// The core from which the leg was computed that is to be handed in; None where there is none.
     pub(crate) place: Option<TileCore>,
     from: NotedCore,
-    pub(crate) leg: Leg<N>,
+    legs: Legs<N>,
+    next: u32,
+    ready: u32,
     ghost within: { from.used ≤ N.budget },
 }
 
@@ -26,11 +64,18 @@ impl<N: Naming> Errand<N> {
         requires budget { budget ≡ N.budget }
     {
         let from = NotedCore::start(image.version(), TEXT_START, 0, [0; 3]);
-        let leg = run_leg(image, from.core(), 1, budget);
+        let legs = Legs {
+            first: run_leg(image, from.core(), 1, budget),
+            second: run_leg(image, from.core(), 1, budget),
+            third: run_leg(image, from.core(), 1, budget),
+            fourth: run_leg(image, from.core(), 1, budget),
+        };
         Errand {
             place: None,
             from,
-            leg,
+            legs,
+            next: 0,
+            ready: 0,
         }
     }
 
@@ -41,18 +86,69 @@ impl<N: Naming> Errand<N> {
         let Errand {
             place: old,
             from,
+            next,
+            ready,
             ..
         } = self;
         from.put(core);
         *old = Some(place);
+        *next = 0;
+        *ready = 0;
     }
 
     /// Has no leg to hand in.
     pub(crate) fn go_for_none(&mut self) {
         self.place = None;
+        self.next = 0;
+        self.ready = 0;
     }
 
-    /// Computes the leg of the core that was found, on the decoded text where there is one.
+    /// The leg that is handed in next, where there is one.
+    pub(crate) fn leg(&self) -> &Leg<N> {
+        self.legs.at(self.next)
+    }
+
+    /// Goes to the leg that begins where the one ends that was handed in, and tells whether there is one.
+    pub(crate) fn take_next(&mut self) -> bool {
+        let has_next = self.ready.saturating_sub(self.next) > 1;
+        if has_next {
+            self.next = self.next.saturating_add(1);
+        }
+        has_next
+    }
+
+    /// Computes the next leg of the core, on the decoded text where there is one, and tells whether a further one is
+    /// to be computed too: where this one was long, and stopped at no more than its quantum.
+    fn compute_one(
+        &mut self,
+        image: &Image,
+        decoded: &Option<Decoded<N>>,
+        settings: &Settings,
+    ) -> bool
+        requires image { image.now ≡ N.image }
+        requires valid { IsValid settings.now }
+        requires budget { settings.now.budget ≡ N.budget }
+    {
+        let (quantum, budget) = (settings.quantum, settings.budget);
+        let Errand {
+            from,
+            legs,
+            ready,
+            ..
+        } = self;
+        let leg = legs.at_mut(*ready);
+        match decoded {
+            Some(text) => leg.run_again(text, image, from, quantum, budget),
+            None => run_on_text(leg, image, from, quantum, budget),
+        }
+        *ready = ready.saturating_add(1);
+        // Called for its clauses: the core is within the task budget.
+        let _to = leg.to();
+        leg.put_end(from);
+        leg.steps() >= LONG_LEG && leg.stop() == Stop::Quantum
+    }
+
+    /// Computes legs of the core that was found, unless one is ready.
     pub(crate) fn compute(
         &mut self,
         image: &Image,
@@ -63,11 +159,13 @@ impl<N: Naming> Errand<N> {
         requires valid { IsValid settings.now }
         requires budget { settings.now.budget ≡ N.budget }
     {
-        let (quantum, budget) = (settings.quantum, settings.budget);
-        let Errand { from, leg, .. } = self;
-        match decoded {
-            Some(text) => leg.run_again(text, image, from, quantum, budget),
-            None => run_on_text(leg, image, from, quantum, budget),
+        if self.next < self.ready {
+            return;
+        }
+        for _ in 0..LEGS_AHEAD {
+            if !self.compute_one(image, decoded, settings) {
+                return;
+            }
         }
     }
 }

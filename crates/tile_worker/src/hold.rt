@@ -363,17 +363,20 @@ fn go_on<N: Naming, P: Placer, T: Tap>(
 fn serve_own<N: Naming, P: Placer, T: Tap>(
     book: &mut Book<N, P, T>,
     round: &mut Round,
-    errand: &Errand<N>,
+    errand: &mut Errand<N>,
 ) -> Tried
     ensures { let old = view_of P.policy T.notes book.old in
         CountsSo N old result (view_of P.policy T.notes book.new) }
 {
     match errand.place {
         None => dispatch_own(book, round),
-        Some(place) => match hand_in(book, round, place, &errand.leg) {
+        Some(place) => match hand_in(book, round, place, errand.leg()) {
             Tried::Made => Tried::Made,
             Tried::Over => Tried::Over,
-            Tried::Waits | Tried::Missed => dispatch_own(book, round),
+            Tried::Waits | Tried::Missed => {
+                errand.go_for_none();
+                dispatch_own(book, round)
+            }
         },
     }
 }
@@ -467,8 +470,8 @@ fn serve_others<N: Naming, P: Placer, T: Tap>(
     }
 }
 
-/// A look for the core of the next leg after an event was made. Where legs are short there is none: the worker asks
-/// for a dispatch next, until its tiles are let be.
+/// A look for the core of the next leg after an event was made, unless a further leg of this core is ready. Where legs
+/// are short there is none: the worker asks for a dispatch next, until its tiles are let be.
 fn go_on_after<N: Naming, P: Placer, T: Tap>(
     book: &Book<N, P, T>,
     round: &mut Round,
@@ -476,7 +479,9 @@ fn go_on_after<N: Naming, P: Placer, T: Tap>(
 ) -> Found
     ensures { IsDoneAt (view_of P.policy T.notes book.now) result }
 {
-    if round.has_short_legs() {
+    if errand.take_next() {
+        Found::Core
+    } else if round.has_short_legs() {
         errand.go_for_none();
         Found::Nothing
     } else {

@@ -8,7 +8,7 @@ use std::thread::yield_now;
 use std::time::Duration;
 
 /// A leg of so many instructions is long: to compute it takes no less than a hold, so that others go on meanwhile.
-const LONG_LEG: u32 = 256;
+pub(crate) const LONG_LEG: u32 = 256;
 
 /// So many short legs one after another tell that legs are short.
 const SHORT_LEGS: u32 = 16;

@@ -49,7 +49,7 @@ pub(crate) fn drive<
             Found::Core => {
                 let Carried { round, errand, .. } = &mut carried;
                 errand.compute(crew.image, &crew.decoded, &settings);
-                round.learn_leg(errand.leg.steps());
+                round.learn_leg(errand.leg().steps());
                 legs = legs.saturating_add(1);
                 crew.gate.pass(worker, legs);
             }
