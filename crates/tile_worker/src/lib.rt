@@ -2,7 +2,7 @@
 //! outside it.
 //!
 //! Worker `w` of `n` drives the tiles `t` with `t % n == w`. In each hold of the lock it makes at most one event,
-//! counts that to its share, and copies the core of its next leg. The type of the lock's value keeps that all shares
+//! counts that to its share, and copies the core of its next legs. The type of the lock's value keeps that all shares
 //! together are the book's events.
 //!
 //! With a board, the workers tell how far the run has come (`run_watched`): in the hold in which a task was committed,
@@ -15,7 +15,7 @@
 //! hands in the gate that a worker passes before it hands in a leg.
 //!
 //! `working` is a worker's loop, `hold` what it does in a hold, `waiting` how it waits for one. From hold to hold it
-//! carries (`carried`) its share, the leg that it computes (`errand`) and what it keeps for itself (`round`). In the
+//! carries (`carried`) its share, the legs that it computes (`errand`) and what it keeps for itself (`round`). In the
 //! lock stands a book with its ledger (`tally`), for `run_tiles` in a type that keeps what it began with (`begun`),
 //! for `run_watched` beside the board's writer (`followed`). `crew` is what the workers of a run have in common,
 //! `fanning` their threads.

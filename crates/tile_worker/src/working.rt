@@ -63,9 +63,16 @@ pub(crate) fn drive<
 /// counted.
 ///
 /// It hands in legs of its running cores, each after it passed the gate, and dispatches where an own tile has an
-/// idle task and a free core. Only where it has neither, or all of these were refused, it makes the event for the
-/// least task. What was refused is let be for 512 events of the book: a core whose leg stalled gets no leg, and in its
-/// tile, as in one whose dispatch was refused, no dispatch is tried, even if a task has come to stand there meanwhile.
+/// idle task and a free core, or brings a spilled task back that comes first there. Only where it has none of these, or
+/// all of them were refused, it makes the event for the least task. What was refused is let be for 512 events of the
+/// book: a core whose leg stalled gets no leg, and in its tile, as in one whose dispatch was refused, no dispatch is
+/// tried, even if a task has come to stand there meanwhile. A tile that stalled at its full commit queue is tried again
+/// once that has a free place.
+///
+/// Where its last 16 legs were short the worker asks for a dispatch in any own tile, and what stalls or finds all cores
+/// busy lets the whole tile be, its cores too. So it makes the events for the least tasks then, as a run without
+/// workers does, and looks at a leg once in 512 events. Where legs are long it computes up to four of a core before
+/// it hands in the first, and leaves the least task to the worker whose core it runs on.
 ///
 /// A hold costs one event and a look at each core of its own tiles; a leg is computed outside the lock, on the text
 /// itself, since no decoded one is handed in.
