@@ -2,3 +2,4 @@ mod Dispatched
 mod Aborted
 mod Committed
 mod Moved
+mod Idled

@@ -1,39 +1,85 @@
 //! The dispatch of the least idle task of a tile.
 
-ghost use Rattle.std.specs.Prelude.{◌≡◌, ◌<◌, ◌↔◌, IsTrue, IsFalse, None};
+ghost use Rattle.std.specs.Prelude.{◌≡◌, ◌<◌, ◌↔◌, ℕ, Contains, IsTrue, IsFalse, IsSome, IsNone, IfSome, None, length};
 ghost use Rattle.spec_law.specs.Sound.{Sound};
 ghost use Rattle.spec_state.specs.declared.task.Task.{Task};
 ghost use Rattle.spec_state.specs.Effects.{nothing};
 ghost use Rattle.spec_state.specs.Least.{IsLeast, IsTheLeast};
-ghost use Rattle.spec_state.specs.Queries.{IsLeastIdle};
+ghost use Rattle.spec_state.specs.Picks.{IsIdleAt, IsIdlePick};
+ghost use Rattle.spec_state.specs.Queries.{IsIdle, IsLeastIdle};
+ghost use Rattle.spec_state.specs.View.{task_at};
 ghost use Rattle.event_def.specs.declared.event.Came.TheVariants.{Made};
 ghost use Rattle.event_def.specs.declared.event.Event.TheVariants as event;
-ghost use Rattle.event_def.specs.Causes.{AllCoresHeld, IsBusy};
+ghost use Rattle.event_def.specs.Causes.{AllCoresHeld};
 ghost use Rattle.event_def.specs.End.{IsOver};
 ghost use Rattle.event_def.specs.Events.{FreesCore};
 ghost use Rattle.event_def.specs.Telling.{TellsCore};
+ghost use Rattle.event_move.specs.Idling.{NoIdleIsLeast};
 ghost use Rattle.event_move.specs.Moving.{ComesSo};
 
 use crate::recording::record_of;
 use event_def::{Came, Reply};
-use event_prelude::{is_at, least_going};
+use event_prelude::least_going;
 use rv_core::Naming;
 use spec_dispatch::{dispatch_task, free_core};
 use spec_rollback::abort;
-use spec_state::{State, TaskId, Where};
+use spec_state::{State, Status, Task, TaskId, Where};
 use trace_tap::{Deed, Record};
 
-/// Whether a tile has no free core for its least idle task, which is not the least task.
-fn is_busy<N: Naming>(state: &State<N>, tile: u32, id: TaskId, least: Where) -> bool
-    requires tile { tile < state.now.view.settings.tiles }
-    requires least { IsLeast state.now.view least }
-    requires idle { (task : Task) × IsLeastIdle state.now.view tile id.0 task }
-    ensures busy { IsTrue result ↔ IsBusy state.now.view tile }
-    ensures may { IsFalse result → AllCoresHeld state.now.view tile → IsTheLeast state.now.view id.0 }
+/// Whether the task waits for a core.
+fn is_idle(task: &Task) -> bool
+    ensures { IsTrue result ↔ (task.now.status ≡ Status.Idle) }
 {
-    match free_core(state, tile) {
-        Some(_) => false,
-        None => !is_at(least, id),
+    match task.status {
+        Status::Idle => true,
+        Status::Running { .. } | Status::Trapped { .. } | Status::Finished => false,
+    }
+}
+
+/// Whether one of the tasks of these ids is idle. It looks at them up to the first one.
+fn is_one_idle<N: Naming>(state: &State<N>, ids: &[usize]) -> bool
+    requires live { (id : ℕ) → Contains ids.now id → IsSome (task_at state.now.view id) }
+    ensures found { IsTrue result → (place id : ℕ) × (task : Task) × IsIdleAt state.now.view ids.now place id task }
+    ensures none { IsFalse result → IsIdlePick state.now.view ids.now (length ids.now) None }
+{
+    for id in ids {
+        if is_idle(state.task(TaskId(*id))) {
+            return true;
+        }
+    }
+    false
+}
+
+/// Whether a tile has an idle task. It looks at the tasks of its queue up to the first idle one.
+pub fn has_idle<N: Naming>(state: &State<N>, tile: u32) -> bool
+    requires tile { tile < state.now.view.settings.tiles }
+    ensures some { IsTrue result → (id : ℕ) × (task : Task) × IsLeastIdle state.now.view tile id task }
+    ensures none { IsFalse result → (id : ℕ) (task : Task) → IsIdle state.now.view tile id task → ⊥ }
+{
+    // A law, called for its clauses.
+    state.is_stored();
+    is_one_idle(state, state.queued_in(tile))
+}
+
+/// The least task, where that is an idle one of a tile.
+pub fn least_in<N: Naming>(state: &State<N>, tile: u32, least: Where) -> Option<TaskId>
+    requires sound { Sound N.image state.now.view }
+    requires least { IsLeast state.now.view least }
+    ensures some { let view = state.now.view in
+        IfSome result (λ id. ((task : Task) × IsLeastIdle view tile id.0 task) × IsTheLeast view id.0) }
+    ensures none { IsNone result → NoIdleIsLeast state.now.view tile }
+{
+    // A law, called for its clauses.
+    state.is_stored();
+    match least {
+        Where::Idle(id) => {
+            if state.tile_of(id) == tile {
+                Some(id)
+            } else {
+                None
+            }
+        }
+        Where::Running(_) | Where::Trapped(_) | Where::Finished(_) | Where::Spilled(_) => None,
     }
 }
 
@@ -86,7 +132,8 @@ pub fn make_dispatch<N: Naming>(state: &mut State<N>, tile: u32, id: TaskId) -> 
 }
 
 /// The event `Dispatch`: the least idle task of a tile goes to its lowest free core. Where none is free and it is
-/// the least task, the latest task on one is taken back first. Refused with `Ended`, `Empty` or `Busy`.
+/// the least task, the latest task on one is taken back first. Refused with `Ended`, `Empty` or `Busy`. Where a core is
+/// free it looks at each task of the queue, and else at those up to the first idle one.
 pub fn dispatch<N: Naming>(state: &mut State<N>, tile: u32) -> Came
     requires sound { Sound N.image state.old.view }
     requires tile { tile < state.old.view.settings.tiles }
@@ -96,14 +143,20 @@ pub fn dispatch<N: Naming>(state: &mut State<N>, tile: u32) -> Came
     let Some(least) = least_going(state) else {
         return Came::Refused(Reply::Ended);
     };
-    match state.idle(tile) {
-        None => Came::Refused(Reply::Empty),
-        Some(id) => {
-            if is_busy(state, tile, id, least) {
-                Came::Refused(Reply::Busy)
-            } else {
-                Came::Made(make_dispatch(state, tile, id))
+    match free_core(state, tile) {
+        Some(_) => match state.idle(tile) {
+            None => Came::Refused(Reply::Empty),
+            Some(id) => Came::Made(make_dispatch(state, tile, id)),
+        },
+        None => match least_in(state, tile, least) {
+            Some(id) => Came::Made(make_dispatch(state, tile, id)),
+            None => {
+                if has_idle(state, tile) {
+                    Came::Refused(Reply::Busy)
+                } else {
+                    Came::Refused(Reply::Empty)
+                }
             }
-        }
+        },
     }
 }

@@ -114,6 +114,28 @@ impl Lines {
         }
     }
 
+    /// Whether one look at the bits tells that the line was not noted. Of the kind `Bloom` it never does.
+    pub fn never_touched(&self, line: u32) -> bool
+        ensures { IsTrue result → may_touch self.now.kind self.now line ≡ false }
+    {
+        match self.kind {
+            FilterKind::Modulo => !self.near.touched(line),
+            FilterKind::Bloom => false,
+            FilterKind::Exact => !self.near.touched(line),
+        }
+    }
+
+    /// Whether one look at the bits tells that the line was not noted with a write. Of the kind `Bloom` it never does.
+    pub fn never_wrote(&self, line: u32) -> bool
+        ensures { IsTrue result → may_write self.now.kind self.now line ≡ false }
+    {
+        match self.kind {
+            FilterKind::Modulo => !self.near.wrote(line),
+            FilterKind::Bloom => false,
+            FilterKind::Exact => !self.near.wrote(line),
+        }
+    }
+
     /// Forgets all notes.
     #[tactic(auto, unfolding(crate::specs::Lines::unmarked))]
     pub fn clear(&mut self)

@@ -2,6 +2,7 @@
 
 ghost use Rattle.std.specs.Prelude.{◌≡◌, ◌≤◌, length};
 ghost use Rattle.sim_io.specs.Parts.{Writes};
+ghost use Rattle.step_script.specs.declared.saying.Word.TheVariants.{Plain};
 ghost use Rattle.script_text.specs.Replies.{reply_line, reply_lines, reply_text, word_text};
 
 use crate::line::put_count;
@@ -52,11 +53,41 @@ fn line_of(said: Said) -> Line
     line
 }
 
+/// The line of a reply to an act that took no task back.
+fn quiet_reply(reply: Reply) -> &'static [u8]
+    ensures { result.now ≡ reply_line (record { word = Plain reply; aborted = 0 }) }
+{
+    match reply {
+        Reply::Ok => b"ok 0\n",
+        Reply::Empty => b"empty 0\n",
+        Reply::Busy => b"busy 0\n",
+        Reply::Stall => b"stall 0\n",
+        Reply::Stale => b"stale 0\n",
+        Reply::Firm => b"firm 0\n",
+        Reply::Ended => b"ended 0\n",
+        Reply::Memory => b"memory 0\n",
+    }
+}
+
+/// The line of an act that took no task back, which most acts are.
+fn quiet_line(word: Word) -> &'static [u8]
+    ensures { result.now ≡ reply_line (record { word = word; aborted = 0 }) }
+{
+    match word {
+        Word::Plain(reply) => quiet_reply(reply),
+        Word::Moved => b"moved 0\n",
+        Word::Committed => b"committed 0\n",
+    }
+}
+
 fn write_reply<K: Sink>(sink: &mut K, said: Said) -> Result<(), Failed>
     ensures { Writes (K.state sink.old) (K.state sink.new) result (reply_line said) }
 {
-    let line = line_of(said);
-    write_all(sink, line.as_slice())
+    if said.aborted == 0 {
+        write_all(sink, quiet_line(said.word))
+    } else {
+        write_all(sink, line_of(said).as_slice())
+    }
 }
 
 /// Writes what was said of acts: a line for each, with its word and how many tasks it took back. After `Failed` a

@@ -76,7 +76,10 @@ impl Pulls for Cascade<'_> {
         match self.tasks.get(b) {
             None => false,
             Some(second) => {
-                is_made_by(second, a) || reads_from_some(self.size, self.tasks.get(a), second)
+                // Most tasks of a full queue aren't dispatched, and read from none.
+                is_made_by(second, a)
+                    || second.key.tb.is_some()
+                        && reads_from_some(self.size, self.tasks.get(a), second)
             }
         }
     }

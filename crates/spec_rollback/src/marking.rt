@@ -1,6 +1,6 @@
 //! Marks of the tasks that are taken back first.
 
-ghost use Rattle.std.specs.Prelude.{◌≡◌, ◌≤◌, ◌↔◌, ℕ, Some, IsSome, IfSome, length, map, false};
+ghost use Rattle.std.specs.Prelude.{◌≡◌, ◌≤◌, ◌↔◌, ℕ, IsTrue, IsFalse, Some, IsSome, IfSome, length, map, false};
 ghost use Rattle.std.specs.Prelude.{option_map};
 ghost use Rattle.slab.specs.Slab.{get};
 ghost use Rattle.abort_cascade.specs.Cascade.{Marked};
@@ -49,6 +49,30 @@ fn conflicts(access: &ConflictQuery<'_>, id: usize) -> bool
     }
 }
 
+/// Whether one look at its filter tells that a store, or else a load, of the line doesn't conflict with the task; false
+/// says nothing.
+fn rules_out(task: &Task, line: u32, write: bool) -> bool
+    ensures { IsTrue result → has_line write task.now line ≡ false }
+{
+    if write {
+        task.never_touched(line)
+    } else {
+        task.never_written(line)
+    }
+}
+
+/// Whether the access may conflict with the task of this id, by one look at its filter, which rules out most tasks.
+/// Both callers of `mark_id` ask this first, so that its longer test stays out of their loops.
+fn may_conflict(access: &ConflictQuery<'_>, id: usize) -> bool
+    ensures { let a = access.now in
+        IsFalse result → conflicts a.task.now a.line a.write (get a.tasks.now id) ≡ false }
+{
+    match access.tasks.get(id) {
+        None => false,
+        Some(other) => !rules_out(other, access.line, access.write),
+    }
+}
+
 /// Marks the id where the access conflicts with its task. The first mark of all wipes the others
 /// out. It tells whether one is set.
 fn mark_id(access: &ConflictQuery<'_>, id: usize, marks: &mut [bool], found: bool) -> bool
@@ -80,7 +104,13 @@ fn mark_holder(
         Finds test (λ k. option_map (λ id. id.0) held ≡ Some k) found marks.old result marks.new }
 {
     match held {
-        Some(id) => mark_id(access, id.0, marks, found),
+        Some(id) => {
+            if may_conflict(access, id.0) {
+                mark_id(access, id.0, marks, found)
+            } else {
+                found
+            }
+        }
         None => found,
     }
 }
@@ -114,7 +144,9 @@ fn mark_ids(access: &ConflictQuery<'_>, ids: &[usize], marks: &mut [bool], found
 {
     let mut any = found;
     for id in ids {
-        any = mark_id(access, *id, marks, any);
+        if may_conflict(access, *id) {
+            any = mark_id(access, *id, marks, any);
+        }
     }
     any
 }

@@ -1,6 +1,6 @@
 //! Which lines a task touched and wrote: by its filter, and by its log.
 
-ghost use Rattle.std.specs.Prelude.{◌≡◌, ◌/◌, List};
+ghost use Rattle.std.specs.Prelude.{◌≡◌, ◌/◌, false, List, IsTrue};
 ghost use Rattle.line_table.specs.Note.{touched_in, wrote_in};
 ghost use Rattle.memory_law.specs.Notes.{notes_of};
 ghost use Rattle.spec_state.specs.Filters.{has_touched, has_written, has_stored};
@@ -60,5 +60,23 @@ impl Task {
                     && has_store(self.log.accesses(), self.lines.size(), line)
             }
         }
+    }
+
+    /// Whether one look at its filter tells that it didn't touch the line; false says nothing. Of the kind `Bloom` it
+    /// never does.
+    #[tactic(auto, using(crate::proofs::Touched::never_told))]
+    pub fn never_touched(&self, line: u32) -> bool
+        ensures { IsTrue result → has_touched self.now line ≡ false }
+    {
+        self.lines.never_touched(line)
+    }
+
+    /// Whether one look at its filter tells that it didn't write the line; false says nothing. Of the kind `Bloom` it
+    /// never does.
+    #[tactic(auto, using(crate::proofs::Touched::never_told))]
+    pub fn never_written(&self, line: u32) -> bool
+        ensures { IsTrue result → has_written self.now line ≡ false }
+    {
+        self.lines.never_wrote(line)
     }
 }

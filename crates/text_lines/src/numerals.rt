@@ -1,8 +1,9 @@
 //! Numbers in decimal digits.
 
-ghost use Rattle.std.specs.Prelude.{◌≡◌, option_map};
+ghost use Rattle.std.specs.Prelude.{◌≡◌, ◌<◌, true, length, option_map};
 ghost use Rattle.std.specs.List.{list_all};
 ghost use Rattle.std.specs.Char.{is_ascii_digit};
+ghost use Rattle.std.specs.Str.Parse.{digits_value};
 ghost use Rattle.text_lines.specs.Numerals.{field, is_plain, number, number_below};
 
 use crate::cutting::cut;
@@ -14,10 +15,26 @@ pub fn number(digits: &[u8]) -> Option<u32>
     if !is_plain(digits) {
         return None;
     }
+    if digits.len() < 10 {
+        return Some(short_value(digits));
+    }
     match str::from_utf8(digits) {
         Ok(text) => text.parse::<u32>().ok(),
         Err(_) => None,
     }
+}
+
+/// The number that at most nine digits write, without a look at whether it fits.
+fn short_value(digits: &[u8]) -> u32
+    requires digits { list_all is_ascii_digit digits.now ≡ true }
+    requires short { length digits.now < 10 }
+    ensures { result ≡ digits_value 10 digits.now }
+{
+    let mut value = 0;
+    for digit in digits {
+        value = value * 10 + u32::from(*digit - b'0');
+    }
+    value
 }
 
 fn is_plain(digits: &[u8]) -> bool

@@ -1,7 +1,12 @@
 use Rattle.std.proofs.Common.{rules, true, ◌≡◌, ◌∙◌}
 use Rattle.text_lines.specs.Numerals.{is_plain}
-use Rattle.text_lines.proofs.Numbers.{parsed_number, plain_is_text}
+use Rattle.text_lines.proofs.Numbers.{number_short, parsed_number, plain_is_text}
 use Rattle.text_lines.proofs.numerals.number.Goals as goal
+
+pub returns-then-digits-lt10 : goal.returns-then-digits-lt10
+returns-then-digits-lt10 c =
+    let plain : is_plain c.args.digits.now ≡ true = search rules in
+    search (rules, number_short c.args.digits.now plain)
 
 pub returns-in-Ok : goal.returns-in-Ok
 returns-in-Ok c =
