@@ -19,3 +19,4 @@ pub mod Tellings
 pub mod Turns
 pub mod Twice
 pub mod Proved
+mod AboutSteps

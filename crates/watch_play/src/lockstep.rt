@@ -4,8 +4,7 @@ ghost use Rattle.std.specs.Prelude.{◌≡◌, ◌≢◌, ◌↔◌, ◌<◌, �
 ghost use Rattle.std.specs.Prelude.{OnOk, ◌==◌, ◌&&◌, ℕ, [], false, if◌then◌else◌, length, map, replicate, true};
 ghost use Rattle.std.specs.List.{flat_map, range_with_len};
 ghost use Rattle.conflict_book.specs.BookViews.{machine_view, view_of};
-ghost use Rattle.spec_state.specs.declared.task.Task.{Task};
-ghost use Rattle.spec_state.specs.Least.{IsLeast, IsLeastTask};
+ghost use Rattle.spec_state.specs.Least.{IsLeast};
 ghost use Rattle.spec_state.specs.View.{View};
 ghost use Rattle.step_script.specs.Ranges.{ActIsInRange};
 ghost use Rattle.event_def.specs.End.{IsOver};
@@ -25,13 +24,14 @@ use crate::playing::tell_act;
 use crate::stop::StoryStop;
 use crate::watch::Watch;
 use conflict_book::Book;
-use event_prelude::{is_at, least_going, may_return};
+use event_move::{has_idle, least_in};
+use event_prelude::{least_going, may_return};
 use guest_image::Image;
 use place_policy::Placer;
 use rv_core::Naming;
 use sim_io::Sink;
 use spec_dispatch::free_core;
-use spec_state::{Settings, State, Status, Where};
+use spec_state::{Settings, State, Where};
 use std::alloc::{AllocError, Global};
 use step_script::Act;
 use trace_tap::Tap;
@@ -151,20 +151,7 @@ fn next_order(acts: &mut [Act], drawn: u32, seed: u32) -> u32
     }
 }
 
-/// Whether the least task is idle, as `least` tells how it stands.
-fn is_idle(least: Where) -> bool
-    ensures { (view : View) → IsLeast view least → result ≡ false → (id : ℕ) (task : Task)
-        → IsLeastTask view id task → task.status ≢ Status.Idle }
-{
-    match least {
-        Where::Idle(_) => true,
-        Where::Running(_) => false,
-        Where::Trapped(_) => false,
-        Where::Finished(_) => false,
-        Where::Spilled(_) => false,
-    }
-}
-
+/// Whether a tile has a task to dispatch: an idle one where a core is free, and else the least task.
 fn is_dispatch_asked<N: Naming, P: Placer, T: Tap>(
     book: &Book<N, P, T>,
     tile: u32,
@@ -175,14 +162,9 @@ fn is_dispatch_asked<N: Naming, P: Placer, T: Tap>(
     ensures { IsTrue result ↔ IsAskedInRound (machine_view book.now) (Act.Dispatch tile) }
 {
     let state = book.state();
-    let has_core = free_core(state, tile).is_some();
-    // A look at each task of the tile is spared where none of them can be dispatched.
-    if !has_core && !is_idle(least) {
-        return false;
-    }
-    match state.idle(tile) {
-        None => false,
-        Some(id) => has_core || is_at(least, id),
+    match free_core(state, tile) {
+        Some(_) => has_idle(state, tile),
+        None => least_in(state, tile, least).is_some(),
     }
 }
 

@@ -1,13 +1,16 @@
 //! One act, which is played, and told where lines are told.
 
-ghost use Rattle.std.specs.Prelude.{◌≡◌, ◌+◌, ◌<◌, ◌^◌, ◌++◌, OnOk, ℕ, true};
+ghost use Rattle.std.specs.Prelude.{◌≡◌, ◌+◌, ◌<◌, ◌^◌, ◌++◌, List, OnOk, ℕ, true};
 ghost use Rattle.std.specs.String.{string_bytes};
 ghost use Rattle.rv_core.specs.LegValue.{LegValue};
 ghost use Rattle.conflict_book.specs.BookViews.{effect_of, events_made, machine_view, view_of};
+ghost use Rattle.spec_state.specs.declared.task.Task.{Task};
+ghost use Rattle.spec_state.specs.Changes.{TakesLeg};
 ghost use Rattle.step_script.specs.Ranges.{ActIsInRange};
-ghost use Rattle.step_script.specs.Asking.{asks_of};
+ghost use Rattle.step_script.specs.Asking.{AskedIsInRange, AsksFor, asks_of};
+ghost use Rattle.step_script.specs.Playing.{HeldLeg, PlayState};
 ghost use Rattle.watch_text.specs.Lines.{rest_text};
-ghost use Rattle.watch_text.specs.Moments.{task_of};
+ghost use Rattle.watch_text.specs.Moments.{IsAbout, IsAskedFor, task_of};
 ghost use Rattle.watch_play.specs.Made.{TellsAct, play_of};
 ghost use Rattle.watch_play.specs.Playing.{ComesToLine, MakesAct};
 ghost use Rattle.watch_play.specs.Texts.{IsTellable, has_counts, has_lines, is_due, view_text};
@@ -23,13 +26,14 @@ use crate::watch::Watch;
 use conflict_book::{Book, Reply};
 use guest_image::Image;
 use place_policy::Placer;
-use rv_core::Naming;
+use rv_core::{Leg, Naming};
 use sim_io::{Sink, write_all};
+use spec_state::State;
 use std::alloc::AllocError;
 use step_script::{Act, Asked};
 use trace_tap::Tap;
 use watch_counts::{Done, done_by};
-use watch_text::{About, Answer, about_of, put_front, put_rest, put_view};
+use watch_text::{About, Answer, about_of, about_taken, put_front, put_rest, put_view};
 
 /// What came of an act.
 #[derive(Clone, Copy, Debug, PartialEq, Eq)]
@@ -126,7 +130,7 @@ fn play_act<N: Naming, P: Placer, T: Tap>(
         return PlayedAct::Unmade;
     };
     let leg = watch.player.leg();
-    let about = about_of(watch.book.state(), &asked, leg);
+    let about = about_act(watch.book.state(), act, &asked, leg);
     let output = watch.book.state().output().len();
     watch.line.clear();
     if put_front(&mut watch.line, at, act, &asked, &about, leg).is_err() {
@@ -177,6 +181,42 @@ fn tell_line<N: Naming, P: Placer, T: Tap, K: Sink>(
         },
         PlayedAct::Untold => Err(StoryStop::Memory),
         PlayedAct::Unmade => Err(StoryStop::Memory),
+    }
+}
+
+/// What a step is about of which an act came to be, or the word that is said in its place.
+fn about_step<N: Naming>(state: &State<N>, asked: &Asked, leg: &Leg<N>) -> About
+    requires within { AskedIsInRange N state.now.view.settings asked.now }
+    requires takes { (tile core : ℕ) → asked.now ≡ Asked.Ready tile core
+        → (id : ℕ) × (task : Task) × TakesLeg state.now.view tile core leg.now id task }
+    ensures task { IsAbout {N = N} state.now.view (asks_of asked.now leg.now) (task_of result) }
+    ensures request { IsAskedFor {N = N} state.now.view (asks_of asked.now leg.now) result.request }
+{
+    match *asked {
+        Asked::Ready { tile, core } => about_taken(state, tile, core, leg),
+        Asked::Legless(_) | Asked::Says(_) => about_of(state, asked, leg),
+    }
+}
+
+/// What an act is about that was asked for, where this is the leg that stands ready. That of a `step` was just run, so
+/// that the task on the core takes it, and nothing is compared.
+fn about_act<N: Naming>(state: &State<N>, act: Act, asked: &Asked, leg: &Leg<N>) -> About
+    requires within { AskedIsInRange N state.now.view.settings asked.now }
+    requires asks { (old : PlayState) × (held : List HeldLeg) × (old.book.view ≡ state.now.view)
+        × AsksFor {N = N} N.image act old (asks_of asked.now leg.now) held }
+    ensures task { IsAbout {N = N} state.now.view (asks_of asked.now leg.now) (task_of result) }
+    ensures request { IsAskedFor {N = N} state.now.view (asks_of asked.now leg.now) result.request }
+{
+    match act {
+        Act::Step(_, _) => about_step(state, asked, leg),
+        Act::Dispatch(_)
+        | Act::Take(_, _)
+        | Act::Give(_, _)
+        | Act::Abort(_)
+        | Act::Commit
+        | Act::Coalesce(_)
+        | Act::Split(_)
+        | Act::Advance => about_of(state, asked, leg),
     }
 }
 
@@ -250,7 +290,7 @@ fn make_act<N: Naming, P: Placer, T: Tap>(
     let leg = watch.player.leg();
     let steps = leg.steps();
     // What the act is about belongs to its moment, told or not.
-    let about = about_of(watch.book.state(), &asked, leg);
+    let about = about_act(watch.book.state(), act, &asked, leg);
     let done = done_before(watch, &asked, &about);
     let applied = watch.player.make(&mut watch.book, asked);
     if applied.reply == Reply::Memory {

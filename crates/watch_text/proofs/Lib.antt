@@ -3,3 +3,4 @@ mod Placing
 mod Joined
 mod Handed
 mod Gone
+mod Taken

@@ -83,6 +83,24 @@ fn request_at<N: Naming>(state: &State<N>, tile: u32, core: u32, leg: &Leg<N>) -
     }
 }
 
+/// What a step is about whose leg the task on the core takes, as it does right after the leg was run.
+pub fn about_taken<N: Naming>(state: &State<N>, tile: u32, core: u32, leg: &Leg<N>) -> About
+    requires tile { tile < state.now.view.settings.tiles }
+    requires core { core < state.now.view.settings.cores }
+    requires takes { let view = state.now.view in
+        (id : ℕ) × (task : Task) × TakesLeg view tile core leg.now id task }
+    ensures task { IsAbout {N = N} state.now.view (asks_of (Asked.Ready tile core) leg.now) (task_of result) }
+    ensures request { IsAskedFor {N = N} state.now.view (asks_of (Asked.Ready tile core) leg.now) result.request }
+{
+    match state.on_core(tile, core) {
+        None => unreachable!(),
+        Some(id) => About {
+            task: Some(id),
+            request: Some(asked_by(state, id, leg)),
+        },
+    }
+}
+
 /// What an event without a leg is about.
 fn about_legless<N: Naming>(state: &State<N>, event: Legless) -> Option<TaskId>
     requires { AskedIsInRange N state.now.view.settings (Asked.Legless event) }
@@ -99,7 +117,7 @@ fn about_legless<N: Naming>(state: &State<N>, event: Legless) -> Option<TaskId>
     }
 }
 
-/// What an act is about, where this is the leg that stands ready.
+/// What an act is about, where this is the leg that stands ready. The leg of a step is compared with the task.
 pub fn about_of<N: Naming>(state: &State<N>, asked: &Asked, leg: &Leg<N>) -> About
     requires { AskedIsInRange N state.now.view.settings asked.now }
     ensures task { IsAbout {N = N} state.now.view (asks_of asked.now leg.now) (task_of result) }

@@ -21,7 +21,7 @@ mod rest;
 mod view;
 mod words;
 
-pub use about::{About, about_of};
+pub use about::{About, about_of, about_taken};
 pub use answer::Answer;
 pub use end::put_end;
 pub use front::put_front;

@@ -1,31 +1,25 @@
-use Rattle.std.proofs.Common.{rules}
-use Rattle.conflict_book.specs.BookViews.{machine_view}
-use Rattle.event_prelude.proofs.Proved.{tests_least}
-use Rattle.watch_play.proofs.Chosen.{core_asked, core_tested, least_asked, no_dispatch_asked}
+use Rattle.std.proofs.Common.{ap, subst, sym}
+use Rattle.std.specs.Prelude.{◌↔◌, IsTrue, is_some}
+use Rattle.spec_state.specs.View.{View}
+use Rattle.step_script.specs.declared.act.Act.TheVariants as acts
+use Rattle.watch_play.specs.Courses.{IsAskedInRound}
+use Rattle.watch_play.proofs.Chosen.{core_asked, least_asked}
 use Rattle.watch_play.proofs.lockstep.is_dispatch_asked.Goals as goal
 
-pub returns-then-not-is_idle : goal.returns-then-not-is_idle
-returns-then-not-is_idle g c =
-    let seen = c.state-state.result.now.view in
-    no_dispatch_asked seen _ c.state-state.ensures.view c.args.tile c.is_some-has_core.result
-    (core_tested seen c.args.tile c.free_core.result c.free_core.ensures.some c.free_core.ensures.none
-    c.is_some-has_core.result c.is_some-has_core.ensures)
-    (search rules) (c.is_idle.ensures _ c.requires.least (search rules))
+pub returns-in-Some : goal.returns-in-Some
+returns-in-Some g c =
+    let found = c.has_idle in
+    subst (λ (v : View). IsTrue found.result ↔ IsAskedInRound v (acts.Dispatch c.args.tile)) c.state-state.ensures.view
+    (core_asked c.state-state.result.now.view c.args.tile c.in-Some.field-0 c.in-Some.ensures.some found.result
+    found.ensures.some found.ensures.none)
 
-pub returns-then-has_core : goal.returns-then-has_core
-returns-then-has_core g c =
-    let seen = c.state-state.result.now.view in
-    core_asked seen _ c.state-state.ensures.view c.args.tile c.is_some-has_core.result
-    (core_tested seen c.args.tile c.free_core.result c.free_core.ensures.some c.free_core.ensures.none
-    c.is_some-has_core.result c.is_some-has_core.ensures)
-    c.in-Some.id.0 c.in-Some.ensures.some c.if-has_core.true
-
-pub returns-else-has_core : goal.returns-else-has_core
-returns-else-has_core g c =
-    let seen = c.state-state.result.now.view in
-    least_asked seen _ c.state-state.ensures.view c.args.tile c.is_some-has_core.result
-    (core_tested seen c.args.tile c.free_core.result c.free_core.ensures.some c.free_core.ensures.none
-    c.is_some-has_core.result c.is_some-has_core.ensures)
-    c.in-Some.id.0 c.in-Some.ensures.some c.is_at.result c.if-has_core.false
-    (tests_least (machine_view c.args.book.now) c.args.least c.requires.least c.is_at.result c.in-Some.id.0
-    c.is_at.ensures)
+pub returns-in-None : goal.returns-in-None
+returns-in-None g c =
+    let found = c.least_in in
+    let view = c.state-state.result.now.view in
+    let tested : IsTrue c.is_some.result ↔ IsAskedInRound view (acts.Dispatch c.args.tile) =
+    subst (λ b. IsTrue b ↔ IsAskedInRound view (acts.Dispatch c.args.tile)) (sym c.is_some.ensures)
+    (least_asked view c.args.tile (c.free_core.ensures.none.0 (ap is_some c.in-None.is)) found.result
+    found.ensures.some found.ensures.none) in
+    subst (λ (v : View). IsTrue c.is_some.result ↔ IsAskedInRound v (acts.Dispatch c.args.tile))
+    c.state-state.ensures.view tested

@@ -1,4 +1,4 @@
-use Rattle.std.proofs.Common.{rules, ◌≢◌, ◌+◌, ◌∙◌, refl, sym}
+use Rattle.std.proofs.Common.{rules, ◌≢◌, ◌+◌, ◌∙◌, sym}
 use Rattle.event_def.specs.declared.event.Reply.TheVariants as reply
 use Rattle.conflict_book.specs.BookViews.{effect_of, machine_view, view_of}
 use Rattle.step_script.specs.Asking.{asks_of}
@@ -20,7 +20,7 @@ returns-clause-makes g c =
       held = c.ask.new.self.held;
     } in
     let leg = c.leg-leg.result.now in
-    let about = c.about_of-about in
+    let about = c.about_act-about in
     let task = task_of about.result in
     let asks = asks_of {N = g.row.N.Denot} c.in-Ok.asked leg in
     let applied = c.make-applied in

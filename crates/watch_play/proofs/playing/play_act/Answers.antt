@@ -18,7 +18,7 @@ returns-in-Ok-tell_rest-clause-comes g c =
       held = c.ask.new.self.held;
     } in
     let leg = c.leg-leg.result.now in
-    let about = c.about_of-about in
+    let about = c.about_act-about in
     let task = task_of about.result in
     let applied = c.make-applied in
     let effect = effect_of applied.new.book in
@@ -49,7 +49,7 @@ returns-in-Err-clause-comes g c =
       held = c.ask.new.self.held;
     } in
     let leg = c.leg-leg.result.now in
-    let about = c.about_of-about in
+    let about = c.about_act-about in
     let task = task_of about.result in
     let applied = c.make-applied in
     let effect = effect_of applied.new.book in
