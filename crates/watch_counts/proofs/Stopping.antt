@@ -24,6 +24,11 @@ pub capped_itself : (count : ℕ) → count < 2 ^ 64 → capped count ≡ count
 unfolding capped
 capped_itself count small = omega arith
 
+-- a count of 32 bits, widened, stays what it is
+pub capped_narrow : (count narrow wide : ℕ) → narrow ≡ count → wide ≡ narrow → narrow < 2 ^ 32 → wide ≡ capped count
+unfolding capped
+capped_narrow count narrow wide is widened small = omega (arith, is, widened, small)
+
 -- so many more at a place that is there
 pub capped_at : (counts c : List ℕ) (place number new : ℕ) → counts ≡ map capped c → place < length counts
     → ((n : ℕ) → get_or counts place 0 ≡ capped n → new ≡ capped (n + number))

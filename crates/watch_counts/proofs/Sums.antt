@@ -44,11 +44,8 @@ pub few_more : (holds : Bool) (old new count : ℕ) → new ≡ old + cond holds
 few_more true old new count is few = omega (arith, is, few)
 few_more false old new count is few = omega (arith, is, few)
 
--- a sum that stops, with those that pass a test: one more of them, or not
-pub capped_count_more : (test : ℕ → Bool) (sum count old new : ℕ)
-    → old ≡ capped (sum + count_by test (range_with_len 0 count))
-    → ((c : ℕ) → old ≡ capped c → new ≡ capped (c + cond (test count) 1 0))
-    → new ≡ capped (sum + count_by test (range_with_len 0 (count + 1)))
-capped_count_more test sum count old new so more =
-    let one = sum_more (λ k. cond (test k) 1 0) count in
-    more (sum + count_by test (range_with_len 0 count)) so ∙ ap capped (omega (arith, one))
+-- a sum, with those that pass a test: one more of them, or not
+pub sum_count_more : (test : ℕ → Bool) (sum count old new : ℕ) → old ≡ sum + count_by test (range_with_len 0 count)
+    → new ≡ old + cond (test count) 1 0 → new ≡ sum + count_by test (range_with_len 0 (count + 1))
+sum_count_more test sum count old new so more =
+    let one = sum_more (λ k. cond (test k) 1 0) count in omega (arith, so, more, one)

@@ -31,27 +31,12 @@ pub struct PlaceCounts {
     pub spilled: u64,
 }
 
-/// How many tasks are on the cores of a tile.
+/// How many tasks are on cores: of each kind at most one for each core.
 #[derive(Clone, Copy)]
 struct CoreCounts {
-    running: u64,
-    stalled: u64,
-    trapped: u64,
-}
-
-impl CoreCounts {
-    /// None on any core.
-    fn none() -> Self
-        ensures running { result.running ≡ 0 }
-        ensures stalled { result.stalled ≡ 0 }
-        ensures trapped { result.trapped ≡ 0 }
-    {
-        CoreCounts {
-            running: 0,
-            stalled: 0,
-            trapped: 0,
-        }
-    }
+    running: u32,
+    stalled: u32,
+    trapped: u32,
 }
 
 impl PlaceCounts {
@@ -108,10 +93,10 @@ pub(crate) fn put_stalled(cores: &mut [bool; 64], tile: u32, core: u32, stalled:
 
 /// Whether the last step on a core of a tile stalled.
 fn is_stalled(cores: &[bool; 64], tile: u32, core: u32) -> bool
+    requires place { 4 * tile + core < 64 }
     ensures { result ≡ slice_index_or cores.now (4 * tile + core) false }
 {
-    let place = 4 * tile as usize + core as usize;
-    if place < 64 { cores[place] } else { false }
+    cores[4 * tile as usize + core as usize]
 }
 
 /// Whether it stands at a trap.
@@ -149,15 +134,14 @@ fn more_on(
     core: u32,
     task: Option<&Task>,
 ) -> CoreCounts
+    requires place { 4 * tile + core < 64 }
+    requires few { (counts.running < 64) × (counts.stalled < 64) × (counts.trapped < 64) }
     ensures running { let waits = slice_index_or cores.now (4 * tile + core) false in
-        (c : ℕ) → counts.running ≡ capped c
-        → result.running ≡ capped (c + cond (runs waits (option_copied task.entry)) 1 0) }
+        result.running ≡ counts.running + cond (runs waits (option_copied task.entry)) 1 0 }
     ensures stalled { let waits = slice_index_or cores.now (4 * tile + core) false in
-        (c : ℕ) → counts.stalled ≡ capped c
-        → result.stalled ≡ capped (c + cond (stalls waits (option_copied task.entry)) 1 0) }
+        result.stalled ≡ counts.stalled + cond (stalls waits (option_copied task.entry)) 1 0 }
     ensures trapped { let waits = slice_index_or cores.now (4 * tile + core) false in
-        (c : ℕ) → counts.trapped ≡ capped c
-        → result.trapped ≡ capped (c + cond (is_trapped waits (option_copied task.entry)) 1 0) }
+        result.trapped ≡ counts.trapped + cond (is_trapped waits (option_copied task.entry)) 1 0 }
 {
     let CoreCounts {
         mut running,
@@ -168,11 +152,11 @@ fn more_on(
         None => {}
         Some(task) => {
             if is_at_trap(task.status) {
-                trapped = more(trapped, 1);
+                trapped += 1;
             } else if is_stalled(cores, tile, core) {
-                stalled = more(stalled, 1);
+                stalled += 1;
             } else {
-                running = more(running, 1);
+                running += 1;
             }
         }
     }
@@ -185,14 +169,18 @@ fn more_on(
 
 /// How many tasks are on cores.
 fn on_cores<N: Naming>(state: &State<N>, cores: &[bool; 64]) -> CoreCounts
-    ensures running { let view = state.now.view in
-        result.running ≡ capped (over_tiles view (cores_in view cores.now runs)) }
-    ensures stalled { let view = state.now.view in
-        result.stalled ≡ capped (over_tiles view (cores_in view cores.now stalls)) }
+    ensures running { let view = state.now.view in result.running ≡ over_tiles view (cores_in view cores.now runs) }
+    ensures stalled { let view = state.now.view in result.stalled ≡ over_tiles view (cores_in view cores.now stalls) }
     ensures trapped { let view = state.now.view in
-        result.trapped ≡ capped (over_tiles view (cores_in view cores.now is_trapped)) }
+        result.trapped ≡ over_tiles view (cores_in view cores.now is_trapped) }
 {
-    let mut counts = CoreCounts::none();
+    // A law, called for its clauses.
+    state.has_limits();
+    let mut counts = CoreCounts {
+        running: 0,
+        stalled: 0,
+        trapped: 0,
+    };
     for tile in 0..state.settings().tiles {
         for core in 0..state.settings().cores {
             counts = more_on(counts, cores, tile, core, task_on(state, tile, core));
@@ -241,9 +229,9 @@ pub(crate) fn places_of<N: Naming>(state: &State<N>, cores: &[bool; 64]) -> Plac
     let on_cores = on_cores(state, cores);
     PlaceCounts {
         queued: queued_of(state),
-        running: on_cores.running,
-        stalled: on_cores.stalled,
-        trapped: on_cores.trapped,
+        running: u64::from(on_cores.running),
+        stalled: u64::from(on_cores.stalled),
+        trapped: u64::from(on_cores.trapped),
         finished: finished_of(state),
         spilled: spilled_of(state),
     }
