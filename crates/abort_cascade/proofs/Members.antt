@@ -1,6 +1,6 @@
 -- Lists of the marked nodes, as the marks grow.
 use Rattle.std.proofs.Common.{◌≡◌, ℕ, zero, suc, ◌+◌, ◌<◌, ◌≤◌, Bool, true, false, List, [], ◌∷◌, length, get_or, set}
-use Rattle.std.proofs.Common.{take, count_by, refl, sym, subst, ◌∙◌, inl, inr, arith, length-take}
+use Rattle.std.proofs.Common.{take, count_by, replicate, refl, sym, subst, ◌∙◌, inl, inr, arith, length-take}
 use Rattle.std.specs.Prelude.{◌↔◌, Contains}
 use Rattle.std.proofs.lemmas.Bool.{cases_eq}
 use Rattle.std.proofs.lemmas.List.{get_or_read, get_or-set_other, get_or-set_same, get_or-take, length-set}
@@ -8,6 +8,7 @@ use Rattle.std.proofs.lemmas.List.Elements.{Contains-get_or}
 use Rattle.std.proofs.lemmas.List.Sums.{count_by-le-length, count_by_more_yes, count_by_more_no}
 use Rattle.abort_cascade.specs.Cascade.{Marked, IsClosed}
 use Rattle.abort_cascade.specs.Growth.{Spreads, IsListOf}
+use Rattle.abort_cascade.proofs.Union.{unmarked}
 use Rattle.abort_cascade.proofs.Rounds.{count-mark, Spreads-none, Spreads-more, Spreads-mark}
 
 -- only a node that is there is marked
@@ -15,6 +16,19 @@ pub marked_within : (marks : List Bool) (node : ℕ) → Marked marks node → n
 marked_within [] node marked = absurd (cc marked)
 marked_within (mark ∷ marks) zero marked = omega arith
 marked_within (mark ∷ marks) (suc node) marked = omega (arith, marked_within marks node marked)
+
+-- of marks that are all false none is listed
+pub IsListOf-none : (n : ℕ) (members : List ℕ) → IsListOf (replicate n false) members 0
+IsListOf-none n members =
+    record {
+      marked = λ k below. absurd (omega (arith, below));
+      all = λ node marked. absurd (cc (unmarked n node, marked));
+      size = sym (counts_none n);
+    }
+  where
+    counts_none : (n : ℕ) → count_by (λ mark. mark) (replicate n false) ≡ 0
+    counts_none zero = refl
+    counts_none (suc n) = counts_none n
 
 -- the marked nodes below a place are listed
 pub record ListsTo (upto : ℕ) (marks : List Bool) (members : List ℕ) (found : ℕ) : Type 0 where

@@ -4,7 +4,8 @@ ghost use Rattle.std.specs.Prelude.{◌≡◌, ℕ, ◌<◌, ◌≤◌, ◌↔�
 ghost use Rattle.abort_cascade.specs.Cascade.{Marked, IsLeastClosed, ClosesToUnion, ClosesToLeast};
 ghost use Rattle.abort_cascade.specs.Growth.{Spreads, IsListOf};
 
-use crate::Pulls;
+use crate::pulls::Looks;
+use crate::{Pulls, Spreader};
 
 /// Grows the marks to exactly the least set that holds them and with each node all that it pulls, and tells its size.
 ///
@@ -17,10 +18,30 @@ pub fn close<P: Pulls>(relation: &P, marks: &mut [bool], members: &mut [usize]) 
     ensures size { result ≡ count_by (λ mark. mark) marks.new }
     ensures listed { (node : ℕ) → Marked marks.new node ↔ Contains (take result members.new) node }
 {
-    let mut found = list_marked(marks, members);
+    let found = list_marked(marks, members);
+    close_listed(&Looks { relation }, marks, members, found)
+}
+
+/// Does what `close` does for marked nodes that are the first `found` members already. `spread` is called once for each
+/// member of the set.
+pub fn close_listed<S: Spreader>(
+    relation: &S,
+    marks: &mut [bool],
+    members: &mut [usize],
+    listed: usize,
+) -> usize
+    requires knows { S.knows relation.now }
+    requires marks { length marks.old ≡ S.count relation.now }
+    requires members { length members.old ≡ length marks.old }
+    requires listed { IsListOf marks.old members.old listed }
+    ensures least { IsLeastClosed (S.count relation.now) (S.pull relation.now) (Marked marks.old) marks.new }
+    ensures size { result ≡ count_by (λ mark. mark) marks.new }
+    ensures listed { (node : ℕ) → Marked marks.new node ↔ Contains (take result members.new) node }
+{
+    let mut found = listed;
     let mut next = 0;
     while next < found {
-        found = spread(relation, members[next], marks, members, found);
+        found = relation.spread(members[next], marks, members, found);
         next += 1;
     }
     found
@@ -48,9 +69,9 @@ pub fn list_marked(marks: &[bool], members: &mut [usize]) -> usize
     found
 }
 
-/// Marks what the node pulls. The `found` members that are listed stay, and each new one joins them; it tells how many
-/// there are then.
-fn spread<P: Pulls>(
+/// Marks what the node pulls, by a look at each node. The `found` members that are listed stay, and each new one joins
+/// them; it tells how many there are then.
+pub(crate) fn spread_by_looks<P: Pulls>(
     relation: &P,
     node: usize,
     marks: &mut [bool],

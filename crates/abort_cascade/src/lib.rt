@@ -11,6 +11,6 @@ mod closing;
 mod marking;
 mod pulls;
 
-pub use closing::{close, closed_sets, list_marked};
+pub use closing::{close, close_listed, closed_sets, list_marked};
 pub use marking::mark;
-pub use pulls::Pulls;
+pub use pulls::{Pulls, Spreader};

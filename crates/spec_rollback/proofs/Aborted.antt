@@ -1,7 +1,6 @@
 -- An abort by its parts: the cascade, the stores that are undone, and the tasks that are taken back.
-use Rattle.std.proofs.Common.{◌≡◌, ◌≤◌, ℕ, Bool, true, false, List, [], length, map, replicate, Option, Some, None}
-use Rattle.std.proofs.Common.{refl}
-use Rattle.std.proofs.Common.{sym, ap, subst, ◌∙◌, inl, inr, arith, if◌then◌else◌}
+use Rattle.std.proofs.Common.{◌≡◌, ◌<◌, ◌≤◌, ℕ, Bool, true, false, List, [], length, map, replicate, Option}
+use Rattle.std.proofs.Common.{Some, None, refl, sym, ap, subst, ◌∙◌, inl, inr, arith, if◌then◌else◌}
 use Rattle.std.specs.Prelude.{◌↔◌, count_by, IsSome, IfSome}
 use Rattle.std.proofs.lemmas.List.{length-replicate, get_or-replicate, get_or_past}
 use Rattle.std.proofs.lemmas.Bool.{cases_lt}
@@ -158,43 +157,6 @@ nothing_aborted size view stored firsts none =
     nothing_by size view stored firsts none marks
     (let long = length-replicate (length view.tasks) false in omega (arith, long)) (off_marks (length view.tasks))
 
--- where the task of this id is there, the cascades of the first tasks that it gives are taken back
-abbrev AbortsFor : (Task → ℕ → Type 0) → View → View → ℕ → ℕ → Type 0
-AbortsFor firsts old new aborted id = IfSome (task_at old id)
-    (λ t. (ids : List ℕ) → IsByKey (logged_tasks old) ids → Aborts (firsts t) old aborted new)
-
--- what was found conflicts, and was taken back
-pub conflicts_aborted : (old mid new : View) (aborted line : ℕ) (write found : Bool) (marks : List Bool) (id : ℕ)
-    → mid ≡ old → found ≡ true
-    → IfSome (task_at old id) (λ t. FindsConflicts old t line write found marks)
-    → ((ids : List ℕ) → IsByKey (logged_tasks mid) ids → Aborts (Marked marks) mid aborted new)
-    → AbortsFor (λ t. Conflicts old t line write) old new aborted id
-conflicts_aborted old mid new aborted line write found marks id same is finds aborts = by_slot (task_at old id) finds
-  where
-    by_slot : (slot : Option Task) → IfSome slot (λ t. FindsConflicts old t line write found marks)
-        → IfSome slot (λ t. (ids : List ℕ) → IsByKey (logged_tasks old) ids
-        → Aborts (Conflicts old t line write) old aborted new)
-    by_slot None finds = tt
-    by_slot (Some t) finds = λ ids by_key.
-        aborts_of (Marked marks) (Conflicts old t line write) old aborted new (finds.some is)
-        (subst (λ (v : View). (ids : List ℕ) → IsByKey (logged_tasks v) ids → Aborts (Marked marks) v aborted new) same
-        aborts ids by_key)
-
--- none was found
-pub no_conflict_aborted : (size : ℕ) (old new : View) (line : ℕ) (write found : Bool) (marks : List Bool) (id : ℕ)
-    → IsStored size old → new ≡ old → found ≡ false
-    → IfSome (task_at old id) (λ t. FindsConflicts old t line write found marks)
-    → AbortsFor (λ t. Conflicts old t line write) old new 0 id
-no_conflict_aborted size old new line write found marks id stored same is finds = by_slot (task_at old id) finds
-  where
-    by_slot : (slot : Option Task) → IfSome slot (λ t. FindsConflicts old t line write found marks)
-        → IfSome slot
-        (λ t. (ids : List ℕ) → IsByKey (logged_tasks old) ids → Aborts (Conflicts old t line write) old 0 new)
-    by_slot None finds = tt
-    by_slot (Some t) finds = λ ids by_key.
-        subst (Aborts (Conflicts old t line write) old 0) (sym same)
-        (nothing_aborted size old stored (Conflicts old t line write) (finds.none is) ids by_key)
-
 -- ---- aborts that are told
 
 -- an abort of these first tasks, of which this is told
@@ -234,8 +196,8 @@ abbrev TellsFor : (Task → ℕ → Type 0) → View → View → ℕ → List T
 TellsFor firsts old new aborted told id = IfSome (task_at old id)
     (λ t. (ids : List ℕ) → IsByKey (logged_tasks old) ids → AbortsTelling (firsts t) old aborted told new)
 
-pub conflicts_told : (old mid new : View) (aborted : ℕ) (told : List TakenTask) (line : ℕ) (write found : Bool)
-    (marks : List Bool) (id : ℕ) → mid ≡ old → found ≡ true
+pub conflicts_told : (old mid new : View) (aborted : ℕ) (told : List TakenTask) (line : ℕ) (write : Bool)
+    (found : ℕ) (marks : List Bool) (id : ℕ) → mid ≡ old → 0 < found
     → IfSome (task_at old id) (λ t. FindsConflicts old t line write found marks)
     → ((ids : List ℕ) → IsByKey (logged_tasks mid) ids → AbortsTelling (Marked marks) mid aborted told new)
     → TellsFor (λ t. Conflicts old t line write) old new aborted told id
@@ -251,8 +213,8 @@ conflicts_told old mid new aborted told line write found marks id same is finds 
         (subst (λ (v : View). (ids : List ℕ) → IsByKey (logged_tasks v) ids
         → AbortsTelling (Marked marks) v aborted told new) same aborts ids by_key)
 
-pub no_conflict_told : (size : ℕ) (old new : View) (line : ℕ) (write found : Bool) (marks : List Bool) (id : ℕ)
-    → IsStored size old → new ≡ old → found ≡ false
+pub no_conflict_told : (size : ℕ) (old new : View) (line : ℕ) (write : Bool) (found : ℕ) (marks : List Bool) (id : ℕ)
+    → IsStored size old → new ≡ old → found ≡ 0
     → IfSome (task_at old id) (λ t. FindsConflicts old t line write found marks)
     → TellsFor (λ t. Conflicts old t line write) old new 0 [] id
 no_conflict_told size old new line write found marks id stored same is finds = by_slot (task_at old id) finds

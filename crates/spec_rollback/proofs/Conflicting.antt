@@ -1,5 +1,5 @@
 -- The tasks with which an access conflicts stand on cores and in commit queues, so a walk over these finds them all.
-use Rattle.std.proofs.Common.{◌≡◌, ◌≤◌, ℕ, Bool, true, false, List, length, Option, Some, None, refl, sym, ap, subst}
+use Rattle.std.proofs.Common.{◌≡◌, ◌≤◌, ℕ, ◌<◌, Bool, true, false, List, length, Option, Some, None, refl, sym, ap, subst}
 use Rattle.std.proofs.Common.{◌∙◌, inl, inr, arith, option_map}
 use Rattle.std.specs.Prelude.{◌↔◌, ◌&&◌, is_some, IfSome}
 use Rattle.std.specs.Ordering.{is_lt}
@@ -16,6 +16,8 @@ use Rattle.spec_state.specs.Tasks.{is_dispatched, kept_core}
 use Rattle.spec_state.specs.Queries.{Conflicts, HasLine}
 use Rattle.spec_state.proofs.Proved.{within_lists}
 use Rattle.spec_rollback.specs.Marking.{has_line, conflicts, conflicts_at, IsInTile, IsInTiles, IsMarkedIfFound, Finds}
+use Rattle.spec_rollback.specs.Marking.{StandsIn, held_in, ids_in}
+use Rattle.spec_rollback.specs.declared.marking.Dispatched.{Dispatched}
 use Rattle.spec_rollback.specs.Marking.{FindsConflicts}
 
 -- the line of an access, as a test
@@ -86,33 +88,47 @@ dispatched_in_tile size view stored id x at runs =
     by_status (Trapped core cause) is kept = on_core core (subst (λ s. HasCore s core) (sym is) refl)
     by_status Finished is kept = in_queue is
 
+-- a dispatched task stands in one of the tiles
+pub dispatched_found : (size : ℕ) (view : View) → IsStored size view → (count : ℕ) → length view.queues ≤ count
+    → (id : ℕ) (x : Task) → task_at view id ≡ Some x → is_dispatched x ≡ true
+    → IsInTiles view.cores view.finished count id
+dispatched_found size view stored count all id x at runs =
+    let queued = (stored.queued_are x.tile id).1 (x, at, refl, tt) in
+    let within = within_lists view.queues x.tile id queued in
+    (x.tile, omega (arith, within, all), dispatched_in_tile size view stored id x at runs)
+
+-- so where these are its tiles
+pub stands_in : (size : ℕ) (view : View) → IsStored size view → (tiles : Dispatched) → held_in tiles ≡ view.cores
+    → ids_in tiles ≡ view.finished → length view.queues ≤ length tiles.cores.now → (id : ℕ) (x : Task)
+    → task_at view id ≡ Some x → is_dispatched x ≡ true → StandsIn tiles id
+stands_in size view stored tiles held ids all id x at runs =
+    subst (λ cores. IsInTiles cores (ids_in tiles) (length tiles.cores.now) id) (sym held)
+    (subst (λ queues. IsInTiles view.cores queues (length tiles.cores.now) id) (sym ids)
+    (dispatched_found size view stored (length tiles.cores.now) all id x at runs))
+
 -- where all tiles are looked at, the conflicts are found
 pub found_conflicts : (size : ℕ) (view : View) → IsStored size view → (count : ℕ) → length view.queues ≤ count
-    → (task : Task) (line : ℕ) (write found : Bool) (old new : List Bool)
-    → Finds (conflicts_at view.tasks task line write) (IsInTiles view.cores view.finished count) false old found new
+    → (task : Task) (line : ℕ) (write : Bool) (found : ℕ) (old new : List Bool) (before after : List ℕ)
+    → Finds (conflicts_at view.tasks task line write) (IsInTiles view.cores view.finished count) 0 old before found new
+    after
     → FindsConflicts view task line write found new
-found_conflicts size view stored count all task line write found old new finds = record { none = none; some = some }
+found_conflicts size view stored count all task line write found old new before after finds =
+    record { none = none; some = some }
   where
     in_tiles : (id : ℕ) (c : Conflicts view task line write id) → IsInTiles view.cores view.finished count id
-    in_tiles id c =
-        let queued = (stored.queued_are c.other.tile id).1 (c.other, c.later.there, refl, tt) in
-        let within = within_lists view.queues c.other.tile id queued in (
-          c.other.tile,
-          omega (arith, within, all),
-          dispatched_in_tile size view stored id c.other c.later.there c.later.dispatched,
-        )
+    in_tiles id c = dispatched_found size view stored count all id c.other c.later.there c.later.dispatched
 
     is_found : (id : ℕ) → Conflicts view task line write id → IsMarkedIfFound found new id
     is_found id c = (finds.exact id).1 (inr (in_tiles id c, finds_conflict view task line write id c))
 
-    none : found ≡ false → (id : ℕ) → Conflicts view task line write id → ⊥
-    none is id c = absurd (cc ((is_found id c).0, is))
+    none : found ≡ 0 → (id : ℕ) → Conflicts view task line write id → ⊥
+    none is id c = (let some = (is_found id c).0 in absurd (omega (arith, some, is)))
 
-    some : found ≡ true → (id : ℕ)
+    some : 0 < found → (id : ℕ)
         → Rattle.abort_cascade.specs.Cascade.Marked new id ↔ Conflicts view task line write id
     some is id = (
       λ marked. elim ((finds.exact id).0 (is, marked)) [
-        | inl was ↦ absurd (cc (was.0))
+        | inl was ↦ (let none = was.0 in absurd (omega (arith, none)))
         | inr here ↦ conflict_found view task line write id here.1
       ],
       λ c. (is_found id c).1,
@@ -122,16 +138,17 @@ found_conflicts size view stored count all task line write found old new finds =
 pub conflicts_in : (size : ℕ) (parts view : View) → parts ≡ view → IsStored size parts
     → (held : List (List (Option ℕ))) (ids : List (List ℕ)) → held ≡ parts.cores → ids ≡ parts.finished
     → (count : ℕ) → length parts.queues ≤ count → (id : ℕ) (task : Task) → task_at parts id ≡ Some task
-    → (line : ℕ) (write found : Bool) (old new marks : List Bool)
-    → Finds (conflicts_at parts.tasks task line write) (IsInTiles held ids count) false old found new → marks ≡ new
+    → (line : ℕ) (write : Bool) (found : ℕ) (old new marks : List Bool) (before after : List ℕ)
+    → Finds (conflicts_at parts.tasks task line write) (IsInTiles held ids count) 0 old before found new after
+    → marks ≡ new
     → IfSome (task_at view id) (λ t. FindsConflicts view t line write found marks)
 conflicts_in size parts view same stored held ids held_is ids_is count all id task at line write found old new marks
-    finds marks_are =
+    before after finds marks_are =
     subst (λ v. IfSome (task_at v id) (λ t. FindsConflicts v t line write found marks)) same
     (subst (λ (slot : Option Task). IfSome slot (λ t. FindsConflicts parts t line write found marks)) (sym at)
     (subst (FindsConflicts parts task line write found) (sym marks_are)
-    (found_conflicts size parts stored count all task line write found old new
-    (subst (λ c. Finds (conflicts_at parts.tasks task line write) (IsInTiles c parts.finished count) false old found
-    new) held_is
-    (subst (λ f. Finds (conflicts_at parts.tasks task line write) (IsInTiles held f count) false old found new) ids_is
-    finds)))))
+    (found_conflicts size parts stored count all task line write found old new before after
+    (subst (λ c. Finds (conflicts_at parts.tasks task line write) (IsInTiles c parts.finished count) 0 old before found
+    new after) held_is
+    (subst (λ f. Finds (conflicts_at parts.tasks task line write) (IsInTiles held f count) 0 old before found new after)
+    ids_is finds)))))

@@ -6,6 +6,7 @@ pub mod Sorted
 pub mod Undone
 pub mod Seen
 pub mod Conflicting
+pub mod Pulling
 pub mod TakenBack
 pub mod Members
 pub mod Told

@@ -2,6 +2,7 @@
 
 ghost use Rattle.std.specs.Prelude.{◌≡◌, ℕ, List, IsSome, IfSome};
 ghost use Rattle.abort_cascade.specs.Cascade.{Marked};
+ghost use Rattle.abort_cascade.specs.Growth.{IsListOf};
 ghost use Rattle.memory_law.specs.Tasks.{IsByKey};
 ghost use Rattle.spec_state.specs.View.{task_at};
 ghost use Rattle.spec_state.specs.Groups.{logged_tasks};
@@ -31,7 +32,7 @@ pub fn abort<N: Naming>(state: &mut State<N>, task: TaskId) -> u32
     ensures spare { state.new.spare ≡ state.old.spare }
 {
     mark_one(state, task);
-    abort_marked(state)
+    abort_marked(state, 1)
 }
 
 /// Takes back the cascades of all tasks that conflict with an access of this task as one set, and
@@ -46,18 +47,21 @@ pub fn abort_conflicts<N: Naming>(state: &mut State<N>, task: TaskId, line: u32,
     ensures spare { state.new.spare ≡ state.old.spare }
 {
     state.is_stored();
-    if mark_conflicts(state, task, line, write) {
-        abort_marked(state)
+    let found = mark_conflicts(state, task, line, write);
+    if found > 0 {
+        abort_marked(state, found)
     } else {
         forget(state);
         0
     }
 }
 
-/// Takes back the cascades of the marked tasks, and tells how many tasks that were.
-fn abort_marked<N: Naming>(state: &mut State<N>) -> u32
+/// Takes back the cascades of the marked tasks, which are the first `listed` members, and tells how many tasks that
+/// were.
+fn abort_marked<N: Naming>(state: &mut State<N>, listed: usize) -> u32
     requires live { let old = state.old in
         (id : ℕ) → Marked old.scratch.marks id → IsSome (task_at old.view id) }
+    requires listed { IsListOf state.old.scratch.marks state.old.scratch.members listed }
     ensures aborts { let firsts = Marked state.old.scratch.marks in
         let old = state.old.view in
         (ids : List ℕ) → IsByKey (logged_tasks old) ids
@@ -65,7 +69,7 @@ fn abort_marked<N: Naming>(state: &mut State<N>) -> u32
     ensures effect { state.new.effect ≡ record nothing { back = state.new.effect.back } }
     ensures spare { state.new.spare ≡ state.old.spare }
 {
-    let found = close_marks(state);
+    let found = close_marks(state, listed);
     undo_marked(state, found);
     tell_marked(state, found);
     release_marked(state, found);

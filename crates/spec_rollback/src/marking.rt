@@ -1,12 +1,13 @@
-//! Marks of the tasks that are taken back first.
+//! Marks of the tasks that are taken back first, and a list of them.
 
-ghost use Rattle.std.specs.Prelude.{◌≡◌, ◌≤◌, ◌↔◌, ℕ, IsTrue, IsFalse, Some, IsSome, IfSome, length, map, false};
-ghost use Rattle.std.specs.Prelude.{option_map};
+ghost use Rattle.std.specs.Prelude.{◌≡◌, ◌<◌, ◌≤◌, ◌↔◌, ℕ, IsTrue, IsFalse, Some, IsSome, IfSome, length, true, false};
+ghost use Rattle.std.specs.Prelude.{Option, option_map};
 ghost use Rattle.slab.specs.Slab.{get};
 ghost use Rattle.abort_cascade.specs.Cascade.{Marked};
+ghost use Rattle.abort_cascade.specs.Growth.{IsListOf};
 ghost use Rattle.spec_state.specs.View.{task_at, core_ids};
 ghost use Rattle.spec_rollback.specs.Marking.{has_line, conflicts, conflicts_at, IsSeen, IsInTile};
-ghost use Rattle.spec_rollback.specs.Marking.{IsInTiles, Finds, FindsConflicts};
+ghost use Rattle.spec_rollback.specs.Marking.{StandsIn, ArePassed, IsListed, Finds, FindsConflicts};
 
 use fractal_vt::cmp;
 use kept_slab::KeptSlab;
@@ -16,11 +17,18 @@ use tile_queues::CommitQueue;
 
 /// An access of a task, beside the tasks with which it may conflict.
 #[derive(Drop)]
-struct ConflictQuery<'a> {
-    tasks: &'a KeptSlab<Task>,
-    task: &'a Task,
-    line: u32,
-    write: bool,
+pub(crate) struct ConflictQuery<'a> {
+    pub(crate) tasks: &'a KeptSlab<Task>,
+    pub(crate) task: &'a Task,
+    pub(crate) line: u32,
+    pub(crate) write: bool,
+}
+
+/// Where the dispatched tasks stand: the cores and the commit queue of each tile.
+#[derive(Drop)]
+pub(crate) struct Dispatched<'a> {
+    pub(crate) cores: &'a [Vec<Option<TaskId>>],
+    pub(crate) finished: &'a [CommitQueue],
 }
 
 /// Whether a store, or else a load, of the line conflicts with a later task of this filter.
@@ -61,94 +69,171 @@ fn rules_out(task: &Task, line: u32, write: bool) -> bool
     }
 }
 
-/// Whether the access may conflict with the task of this id, by one look at its filter, which rules out most tasks.
-/// Both callers of `mark_id` ask this first, so that its longer test stays out of their loops.
-fn may_conflict(access: &ConflictQuery<'_>, id: usize) -> bool
-    ensures { let a = access.now in
-        IsFalse result → conflicts a.task.now a.line a.write (get a.tasks.now id) ≡ false }
-{
-    match access.tasks.get(id) {
-        None => false,
-        Some(other) => !rules_out(other, access.line, access.write),
+/// A place that may hold a task: a core, or one of a commit queue.
+pub(crate) trait Holder: Copy {
+    /// The id of the task that it holds, if it holds one.
+    ghost held: { Self → Option ℕ };
+
+    /// The id of the task that it holds, if it holds one.
+    fn held(self) -> Option<usize>
+        ensures { result ≡ held self };
+}
+
+impl Holder for Option<TaskId> {
+    ghost use Rattle.std.specs.Prelude.{Option, option_map};
+
+    ghost held = { option_map (λ id. id.0) };
+
+    fn held(self) -> Option<usize> {
+        self.map(|id| id.0)
     }
 }
 
-/// Marks the id where the access conflicts with its task. The first mark of all wipes the others
-/// out. It tells whether one is set.
-fn mark_id(access: &ConflictQuery<'_>, id: usize, marks: &mut [bool], found: bool) -> bool
-    requires { length access.now.tasks.now.slots ≤ length marks.old }
-    ensures { let a = access.now in
-        let test = conflicts_at a.tasks.now.slots a.task.now a.line a.write in
-        Finds test (λ k. k ≡ id) found marks.old result marks.new }
-{
-    if !conflicts(access, id) {
-        return found;
+impl Holder for usize {
+    ghost use Rattle.std.specs.Prelude.{Some};
+
+    ghost held = { Some };
+
+    fn held(self) -> Option<usize> {
+        Some(self)
     }
-    if !found {
-        marks.fill(false);
-    }
-    marks[id] = true;
-    true
 }
 
-/// The same for the task that a core holds, if it holds one.
-fn mark_holder(
-    access: &ConflictQuery<'_>,
-    held: Option<TaskId>,
-    marks: &mut [bool],
-    found: bool,
-) -> bool
-    requires { length access.now.tasks.now.slots ≤ length marks.old }
-    ensures { let a = access.now in
-        let test = conflicts_at a.tasks.now.slots a.task.now a.line a.write in
-        Finds test (λ k. option_map (λ id. id.0) held ≡ Some k) found marks.old result marks.new }
+/// Whether one look tells that no store, or else load, of the line conflicts with what is held; false says nothing.
+fn passes_over(tasks: &KeptSlab<Task>, held: Option<usize>, line: u32, write: bool) -> bool
+    ensures { IsTrue result → (task : Task) → (id : ℕ) → held ≡ Some id
+        → conflicts task line write (get tasks.now id) ≡ false }
 {
     match held {
-        Some(id) => {
-            if may_conflict(access, id.0) {
-                mark_id(access, id.0, marks, found)
-            } else {
-                found
-            }
-        }
+        None => true,
+        Some(id) => match tasks.get(id) {
+            None => true,
+            Some(other) => rules_out(other, line, write),
+        },
+    }
+}
+
+/// The first of these places from one on that isn't passed over; their number where there is none. Most are, so this
+/// loop alone goes over them, and holds no more than it takes.
+fn next_place<H: Holder>(
+    tasks: &KeptSlab<Task>,
+    holders: &[H],
+    line: u32,
+    write: bool,
+    from: usize,
+) -> usize
+    requires { from ≤ length holders.now }
+    ensures within { result ≤ length holders.now }
+    ensures from { from ≤ result }
+    ensures passed { ArePassed H.held holders.now tasks.now.slots line write from result }
+{
+    let mut place = from;
+    while place < holders.len() && passes_over(tasks, holders[place].held(), line, write) {
+        place += 1;
+    }
+    place
+}
+
+/// Marks this id alone, and lists it.
+fn mark_alone(id: usize, marks: &mut [bool], members: &mut [usize])
+    requires within { id < length marks.old }
+    requires members { length members.old ≡ length marks.old }
+    ensures marks { (k : ℕ) → Marked marks.new k ↔ (k ≡ id) }
+    ensures listed { IsListOf marks.new members.new 1 }
+    ensures size { length marks.new ≡ length marks.old }
+    ensures places { length members.new ≡ length members.old }
+{
+    marks.fill(false);
+    marks[id] = true;
+    members[0] = id;
+}
+
+/// Marks and lists an id more, where it isn't marked, and tells how many are listed then. Where none was, what the
+/// marks were doesn't matter.
+pub(crate) fn add(id: usize, marks: &mut [bool], members: &mut [usize], found: usize) -> usize
+    requires within { id < length marks.old }
+    requires members { length members.old ≡ length marks.old }
+    requires listed { IsListed found marks.old members.old }
+    ensures { Finds (λ k. true) (λ k. k ≡ id) found marks.old members.old result marks.new members.new }
+{
+    if found == 0 {
+        mark_alone(id, marks, members);
+        return 1;
+    }
+    if marks[id] {
+        return found;
+    }
+    marks[id] = true;
+    members[found] = id;
+    found + 1
+}
+
+/// Marks and lists the id where the access conflicts with its task.
+fn mark_id(
+    access: &ConflictQuery<'_>,
+    id: usize,
+    marks: &mut [bool],
+    members: &mut [usize],
+    found: usize,
+) -> usize
+    requires marks { length access.now.tasks.now.slots ≤ length marks.old }
+    requires members { length members.old ≡ length marks.old }
+    requires listed { IsListed found marks.old members.old }
+    ensures { let a = access.now in
+        let test = conflicts_at a.tasks.now.slots a.task.now a.line a.write in
+        Finds test (λ k. k ≡ id) found marks.old members.old result marks.new members.new }
+{
+    if conflicts(access, id) {
+        add(id, marks, members, found)
+    } else {
+        found
+    }
+}
+
+/// The same for what is held, if a task is.
+fn mark_held(
+    access: &ConflictQuery<'_>,
+    held: Option<usize>,
+    marks: &mut [bool],
+    members: &mut [usize],
+    found: usize,
+) -> usize
+    requires marks { length access.now.tasks.now.slots ≤ length marks.old }
+    requires members { length members.old ≡ length marks.old }
+    requires listed { IsListed found marks.old members.old }
+    ensures { let a = access.now in
+        let test = conflicts_at a.tasks.now.slots a.task.now a.line a.write in
+        Finds test (λ k. held ≡ Some k) found marks.old members.old result marks.new members.new }
+{
+    match held {
+        Some(id) => mark_id(access, id, marks, members, found),
         None => found,
     }
 }
 
-/// The same for the cores of a tile.
-fn mark_cores(
+/// The same for these places.
+fn mark_holders<H: Holder>(
     access: &ConflictQuery<'_>,
-    cores: &[Option<TaskId>],
+    holders: &[H],
     marks: &mut [bool],
-    found: bool,
-) -> bool
-    requires { length access.now.tasks.now.slots ≤ length marks.old }
+    members: &mut [usize],
+    found: usize,
+) -> usize
+    requires marks { length access.now.tasks.now.slots ≤ length marks.old }
+    requires members { length members.old ≡ length marks.old }
+    requires listed { IsListed found marks.old members.old }
     ensures { let a = access.now in
         let test = conflicts_at a.tasks.now.slots a.task.now a.line a.write in
-        let these = IsSeen (λ held. held) (core_ids cores.now) (length cores.now) in
-        Finds test these found marks.old result marks.new }
+        let these = IsSeen H.held holders.now (length holders.now) in
+        Finds test these found marks.old members.old result marks.new members.new }
 {
-    let mut any = found;
-    for held in cores {
-        any = mark_holder(access, *held, marks, any);
+    let mut many = found;
+    let mut place = next_place(access.tasks, holders, access.line, access.write, 0);
+    while place < holders.len() {
+        many = mark_held(access, holders[place].held(), marks, members, many);
+        place = next_place(access.tasks, holders, access.line, access.write, place + 1);
     }
-    any
-}
-
-/// The same for the tasks of a commit queue.
-fn mark_ids(access: &ConflictQuery<'_>, ids: &[usize], marks: &mut [bool], found: bool) -> bool
-    requires { length access.now.tasks.now.slots ≤ length marks.old }
-    ensures { let a = access.now in
-        let test = conflicts_at a.tasks.now.slots a.task.now a.line a.write in
-        Finds test (IsSeen Some ids.now (length ids.now)) found marks.old result marks.new }
-{
-    let mut any = found;
-    for id in ids {
-        if may_conflict(access, *id) {
-            any = mark_id(access, *id, marks, any);
-        }
-    }
-    any
+    many
 }
 
 /// The same for the cores of a tile and its commit queue.
@@ -157,77 +242,88 @@ fn mark_tile(
     cores: &[Option<TaskId>],
     ids: &[usize],
     marks: &mut [bool],
-    found: bool,
-) -> bool
-    requires { length access.now.tasks.now.slots ≤ length marks.old }
+    members: &mut [usize],
+    found: usize,
+) -> usize
+    requires marks { length access.now.tasks.now.slots ≤ length marks.old }
+    requires members { length members.old ≡ length marks.old }
+    requires listed { IsListed found marks.old members.old }
     ensures { let a = access.now in
         let test = conflicts_at a.tasks.now.slots a.task.now a.line a.write in
-        Finds test (IsInTile (core_ids cores.now) ids.now) found marks.old result marks.new }
+        let these = IsInTile (core_ids cores.now) ids.now in
+        Finds test these found marks.old members.old result marks.new members.new }
 {
-    let any = mark_cores(access, cores, marks, found);
-    mark_ids(access, ids, marks, any)
+    let many = mark_holders(access, cores, marks, members, found);
+    mark_holders(access, ids, marks, members, many)
 }
 
-/// Marks the dispatched tasks of all tiles with which the access conflicts, if there are any, and
-/// tells whether there are.
-fn mark_tiles(
+/// Marks and lists the dispatched tasks of all tiles with which the access conflicts, and tells how many are listed
+/// then.
+pub(crate) fn mark_tiles(
     access: &ConflictQuery<'_>,
-    cores: &[Vec<Option<TaskId>>],
-    finished: &[CommitQueue],
+    tiles: &Dispatched<'_>,
     marks: &mut [bool],
-) -> bool
+    members: &mut [usize],
+    found: usize,
+) -> usize
     requires marks { length access.now.tasks.now.slots ≤ length marks.old }
-    requires tiles { length finished.now ≡ length cores.now }
+    requires members { length members.old ≡ length marks.old }
+    requires listed { IsListed found marks.old members.old }
+    requires tiles { length tiles.now.finished.now ≡ length tiles.now.cores.now }
     ensures { let a = access.now in
         let test = conflicts_at a.tasks.now.slots a.task.now a.line a.write in
-        let held = map (λ held. core_ids held.items) cores.now in
-        let ids = map (λ queue. queue.ids) finished.now in
-        Finds test (IsInTiles held ids (length cores.now)) false marks.old result marks.new }
+        Finds test (StandsIn tiles.now) found marks.old members.old result marks.new members.new }
 {
-    let mut found = false;
-    for tile in 0..cores.len() {
-        found = mark_tile(
+    let mut many = found;
+    for tile in 0..tiles.cores.len() {
+        many = mark_tile(
             access,
-            cores[tile].as_slice(),
-            finished[tile].ids(),
+            tiles.cores[tile].as_slice(),
+            tiles.finished[tile].ids(),
             marks,
-            found,
+            members,
+            many,
         );
     }
-    found
+    many
 }
 
-/// Marks this task alone.
+/// Marks this task alone, and lists it.
 pub(crate) fn mark_one<N: Naming>(state: &mut State<N>, task: TaskId)
     requires live { IsSome (task_at state.old.view task.0) }
     ensures marks { (id : ℕ) → Marked state.new.scratch.marks id ↔ (id ≡ task.0) }
+    ensures listed { IsListOf state.new.scratch.marks state.new.scratch.members 1 }
     ensures view { state.new.view ≡ state.old.view }
     ensures spare { state.new.spare ≡ state.old.spare }
 {
     // Each id is below the number of slots, and there are as many marks.
     let _slots = state.tasks.capacity();
-    state.marks.fill(false);
-    state.marks[task.0] = true;
+    mark_alone(
+        task.0,
+        state.marks.as_mut_slice(),
+        state.members.as_mut_slice(),
+    );
 }
 
-/// Marks the tasks with which an access of this task conflicts, if there are any, and tells
-/// whether there are. It looks at the dispatched tasks of all tiles, where there are others than this one.
+/// Marks and lists the tasks with which an access of this task conflicts, and tells how many they are. It looks at the
+/// dispatched tasks of all tiles, where there are others than this one.
 pub(crate) fn mark_conflicts<N: Naming>(
     state: &mut State<N>,
     task: TaskId,
     line: u32,
     write: bool,
-) -> bool
+) -> usize
     requires live { IsSome (task_at state.old.view task.0) }
     ensures found { let marks = state.new.scratch.marks in
         let view = state.old.view in
         IfSome (task_at view task.0) (λ t. FindsConflicts view t line write result marks) }
+    ensures listed { IsListed result state.new.scratch.marks state.new.scratch.members }
     ensures view { state.new.view ≡ state.old.view }
     ensures spare { state.new.spare ≡ state.old.spare }
 {
     // The tasks of a run without workers are dispatched one at a time.
     if state.is_alone(task) {
-        return false;
+        return 0;
     }
     // Each id is below the number of slots, and there are as many marks.
     let _slots = state.tasks.capacity();
@@ -237,10 +333,15 @@ pub(crate) fn mark_conflicts<N: Naming>(
         line,
         write,
     };
+    let tiles = Dispatched {
+        cores: state.cores.as_slice(),
+        finished: state.finished.as_slice(),
+    };
     mark_tiles(
         &access,
-        state.cores.as_slice(),
-        state.finished.as_slice(),
+        &tiles,
         state.marks.as_mut_slice(),
+        state.members.as_mut_slice(),
+        0,
     )
 }

@@ -14,6 +14,7 @@ abort_marked-requires g c =
       live = λ id marked. subst (λ (v : View). IsSome (task_at v id)) (sym c.mark_one.ensures.view)
           (subst (λ k. IsSome (task_at c.args.state.now.view k)) (sym ((c.mark_one.ensures.marks id).0 marked))
           c.requires.live);
+      listed = c.mark_one.ensures.listed;
     }
 
 pub returns-clause-aborts : goal.returns-clause-aborts

@@ -24,5 +24,5 @@ returns-clause-found g c =
     (ap (map (λ held. core_ids held.items)) c.as_slice.ensures.value)
     (ap (map (λ (q : QueueValue). q.ids)) c.as_slice-2.ensures.value)
     (length c.as_slice.result.now) all c.args.task.0 c.index.result.now c.index.ensures c.args.line c.args.write
-    c.mark_tiles.result _ c.mark_tiles.new.marks _ c.mark_tiles.ensures
+    c.mark_tiles.result _ c.mark_tiles.new.marks _ _ _ c.mark_tiles.ensures
     (put_back c.state.inside.marks.len c.mark_tiles.new.marks c.state.inside.marks.items (search rules) (search rules))

@@ -1,5 +1,5 @@
 use Rattle.abort_cascade.proofs.Members.{SpreadsTo}
-use Rattle.abort_cascade.proofs.closing.spread.Given as goal
+use Rattle.abort_cascade.proofs.closing.spread_by_looks.Given as goal
 
 abbrev pub invariant-loop-b : goal.invariant-loop-b
 invariant-loop-b g l =

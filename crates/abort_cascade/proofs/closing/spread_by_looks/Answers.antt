@@ -1,9 +1,9 @@
 use Rattle.std.proofs.Common.{arith, ◌∙◌, sym}
 use Rattle.abort_cascade.proofs.Members.{marked_within, listed_below, SpreadsTo-none, SpreadsTo-skip, SpreadsTo-mark}
-use Rattle.abort_cascade.proofs.closing.spread.Goals as goal
-use Rattle.abort_cascade.proofs.closing.spread.Goals.{then-not-marks-b+then-pulls, else-not-marks-b}
-use Rattle.abort_cascade.proofs.closing.spread.Goals.{else-not-marks-b-via-then-not-marks-b+else-pulls}
-use Rattle.abort_cascade.proofs.closing.spread.Goals.{else-not-marks-b-via-else-not-marks-b}
+use Rattle.abort_cascade.proofs.closing.spread_by_looks.Goals as goal
+use Rattle.abort_cascade.proofs.closing.spread_by_looks.Goals.{then-not-marks-b+then-pulls, else-not-marks-b}
+use Rattle.abort_cascade.proofs.closing.spread_by_looks.Goals.{else-not-marks-b-via-then-not-marks-b+else-pulls}
+use Rattle.abort_cascade.proofs.closing.spread_by_looks.Goals.{else-not-marks-b-via-else-not-marks-b}
 
 pub loop-b-init : goal.loop-b-init
 loop-b-init g c = SpreadsTo-none _ _ _ _ _ _ c.requires.listed

@@ -1,10 +1,10 @@
 use Rattle.std.proofs.Common.{arith, Bool}
 use Rattle.std.proofs.lemmas.List.Sums.{count_by-le-length}
 use Rattle.abort_cascade.proofs.Members.{IsWalked-none, IsWalked-more, listed_front}
-use Rattle.abort_cascade.proofs.closing.close.Goals as goal
+use Rattle.abort_cascade.proofs.closing.close_listed.Goals as goal
 
 pub loop-next-init : goal.loop-next-init
-loop-next-init g c = IsWalked-none _ _ _ _ _ c.list_marked-found.ensures
+loop-next-init g c = IsWalked-none _ _ _ _ _ c.requires.listed
 
 pub loop-next-preserved : goal.loop-next-preserved
 loop-next-preserved g c =
