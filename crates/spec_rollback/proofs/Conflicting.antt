@@ -1,10 +1,10 @@
 -- The tasks with which an access conflicts stand on cores and in commit queues, so a walk over these finds them all.
 use Rattle.std.proofs.Common.{◌≡◌, ◌≤◌, ℕ, ◌<◌, Bool, true, false, List, length, Option, Some, None, refl, sym, ap, subst}
-use Rattle.std.proofs.Common.{◌∙◌, inl, inr, arith, option_map}
-use Rattle.std.specs.Prelude.{◌↔◌, ◌&&◌, is_some, IfSome}
+use Rattle.std.proofs.Common.{◌∙◌, inl, inr, arith, option_map, slice_get, slice_index_or, []}
+use Rattle.std.specs.Prelude.{◌↔◌, ◌&&◌, is_some, IsSome, IfSome}
 use Rattle.std.specs.Ordering.{is_lt}
 use Rattle.std.proofs.lemmas.Bool.{and_parts, and_from}
-use Rattle.std.proofs.lemmas.Option.{slice_get_within, slice_get-get_or}
+use Rattle.std.proofs.lemmas.Option.{get_or_from_slice_get, slice_get_within, slice_get-get_or}
 use Rattle.fractal_vt.specs.Keys.{key_cmp}
 use Rattle.fractal_vt.proofs.Proved.{less_from}
 use Rattle.spec_state.specs.declared.task.Status.{Status}
@@ -16,7 +16,7 @@ use Rattle.spec_state.specs.Tasks.{is_dispatched, kept_core}
 use Rattle.spec_state.specs.Queries.{Conflicts, HasLine}
 use Rattle.spec_state.proofs.Proved.{within_lists}
 use Rattle.spec_rollback.specs.Marking.{has_line, conflicts, conflicts_at, IsInTile, IsInTiles, IsMarkedIfFound, Finds}
-use Rattle.spec_rollback.specs.Marking.{StandsIn, held_in, ids_in}
+use Rattle.spec_rollback.specs.Marking.{StandsIn, StandTasksIn, held_in, ids_in}
 use Rattle.spec_rollback.specs.declared.marking.Dispatched.{Dispatched}
 use Rattle.spec_rollback.specs.Marking.{FindsConflicts}
 
@@ -97,7 +97,39 @@ dispatched_found size view stored count all id x at runs =
     let within = within_lists view.queues x.tile id queued in
     (x.tile, omega (arith, within, all), dispatched_in_tile size view stored id x at runs)
 
+-- what stands in a tile is a task
+live_in_tile : (size : ℕ) (view : View) → IsStored size view → (tile id : ℕ)
+    → IsInTile (cores_at view tile) (finished_at view tile) id → IsSome (task_at view id)
+live_in_tile size view stored tile id (inl held) =
+    let at = itself (slice_get (cores_at view tile) held.0) ∙ held.2 in
+    let has = (stored.held_are tile held.0 id).0 at in
+    ap is_some has.1
+  where
+    itself : (o : Option (Option ℕ)) → o ≡ option_map (λ (one : Option ℕ). one) o
+    itself None = refl
+    itself (Some one) = refl
+live_in_tile size view stored tile id (inr queued) =
+    let has = (stored.finished_are tile id).0
+    (queued.0, queued.1, id_at (slice_get (finished_at view tile) queued.0) refl queued.2) in
+    ap is_some has.1
+  where
+    id_at : (o : Option ℕ) → slice_get (finished_at view tile) queued.0 ≡ o
+        → option_map (λ (one : ℕ). Some one) o ≡ Some (Some id)
+        → slice_index_or (finished_at view tile) queued.0 id ≡ id
+    id_at None at is = absurd (cc (is))
+    id_at (Some one) at is =
+        let same : one ≡ id = cc in
+        get_or_from_slice_get (finished_at view tile) queued.0 one id at ∙ same
+
 -- so where these are its tiles
+pub live_in : (size : ℕ) (view : View) → IsStored size view → (tiles : Dispatched) → held_in tiles ≡ view.cores
+    → ids_in tiles ≡ view.finished → StandTasksIn tiles view.tasks
+live_in size view stored tiles held ids id stands =
+    live_in_tile size view stored stands.0 id
+    (subst (λ cores. IsInTile (slice_index_or cores stands.0 []) (finished_at view stands.0) id) held
+    (subst (λ queues. IsInTile (slice_index_or (held_in tiles) stands.0 []) (slice_index_or queues stands.0 []) id) ids
+    stands.2))
+
 pub stands_in : (size : ℕ) (view : View) → IsStored size view → (tiles : Dispatched) → held_in tiles ≡ view.cores
     → ids_in tiles ≡ view.finished → length view.queues ≤ length tiles.cores.now → (id : ℕ) (x : Task)
     → task_at view id ≡ Some x → is_dispatched x ≡ true → StandsIn tiles id

@@ -1,16 +1,18 @@
 -- Marks of the tasks with which an access conflicts, as they grow.
 use Rattle.std.proofs.Common.{◌≡◌, ◌⊎◌, ◌+◌, ◌<◌, ◌≤◌, ℕ, Bool, true, false, List, [], Option, Some, None, refl, sym, ap, subst}
 use Rattle.std.proofs.Common.{◌∙◌, inl, inr, arith, length, replicate, set, slice_index_or, slice_get, option_map}
-use Rattle.std.specs.Prelude.{◌↔◌}
+use Rattle.std.specs.Prelude.{◌↔◌, IsSome, IfSome}
 use Rattle.std.proofs.lemmas.Bool.{cases_eq, cases_lt}
 use Rattle.std.proofs.lemmas.List.{get_or-set_other, get_or-set_same, length-map, length-replicate, length-set}
 use Rattle.std.proofs.lemmas.Option.{slice_get-map}
 use Rattle.abort_cascade.specs.Cascade.{Marked}
 use Rattle.abort_cascade.specs.Growth.{IsListOf}
 use Rattle.abort_cascade.proofs.Proved.{IsListOf-none, IsListOf-mark, listed_below, unmarked}
+use Rattle.spec_state.specs.declared.task.Task.{Task}
 use Rattle.spec_state.specs.declared.task.TaskId.{TaskId}
 use Rattle.spec_state.specs.View.{core_ids}
 use Rattle.spec_rollback.specs.Marking.{IsBelow, IsSeen, IsInTile, IsInTiles, IsMarkedIfFound, IsListed, Finds}
+use Rattle.spec_rollback.specs.Marking.{HoldTasks}
 
 -- one id alone is marked and listed
 pub alone_listed : (n id : ℕ) (members : List ℕ) → id < n → length members ≡ n
@@ -298,3 +300,27 @@ tile_more cores finished n held ids held_is ids_is id =
     (subst (λ q. IsInTiles cores finished (n + 1) id ↔
     (IsInTiles cores finished n id ⊎ IsInTile (slice_index_or cores n []) q id)) ids_is
     (tiles_more cores finished n id))
+
+-- what an item gives is a task, where they all are
+pub held_live : {X : Type 0} (of : X → Option ℕ) (items : List X) (tasks : List (Option Task)) (n : ℕ) (item : X)
+    → HoldTasks of items tasks → n < length items → slice_get items n ≡ Some item
+    → IfSome (of item) (λ id. IsSome (slice_index_or tasks id None))
+held_live {X} of items tasks n item live within at = by_held (of item) refl
+  where
+    by_held : (held : Option ℕ) → of item ≡ held → IfSome held (λ id. IsSome (slice_index_or tasks id None))
+    by_held None is = tt
+    by_held (Some id) is = live id (n, within, ap (option_map of) at ∙ ap Some is)
+
+-- of one tile, where all tiles hold tasks
+pub tile_live : (cores : List (List (Option ℕ))) (finished : List (List ℕ)) (count n : ℕ) (tasks : List (Option Task))
+    (held : List (Option TaskId)) (ids : List ℕ) → n < count → slice_index_or cores n [] ≡ core_ids held
+    → slice_index_or finished n [] ≡ ids
+    → ((id : ℕ) → IsInTiles cores finished count id → IsSome (slice_index_or tasks id None))
+    → HoldTasks (option_map (λ (t : TaskId). t.0)) held tasks × HoldTasks Some ids tasks
+tile_live cores finished count n tasks held ids within held_is ids_is live =
+    (λ id seen. here id ((tile_both held ids id).1 (inl seen)), λ id seen. here id ((tile_both held ids id).1 (inr seen)))
+  where
+    here : (id : ℕ) → IsInTile (core_ids held) ids id → IsSome (slice_index_or tasks id None)
+    here id is =
+        let one = (tile_more cores finished n (core_ids held) ids held_is ids_is id).1 (inr is) in
+        live id (one.0, (let low = one.1 in omega (arith, low, within)), one.2)

@@ -1,5 +1,5 @@
 -- Marks of the tasks with which an access conflicts.
-use Rattle.std.specs.Prelude.{◌≡◌, ◌<◌, ◌≤◌, ◌↔◌, ◌⊎◌, ◌&&◌, ℕ, Bool, true, false, List, [], length, Option, None, Some}
+use Rattle.std.specs.Prelude.{◌≡◌, ◌<◌, ◌≤◌, ◌↔◌, ◌⊎◌, ◌&&◌, ℕ, Bool, true, false, List, [], length, Option, None, Some, IsSome}
 use Rattle.std.specs.Prelude.{map, option_map, slice_get, slice_index, slice_index_or}
 use Rattle.std.specs.Ordering.{is_lt}
 use Rattle.abort_cascade.specs.Cascade.{Marked}
@@ -31,6 +31,10 @@ conflicts_at tasks task line write id = conflicts task line write (slice_index_o
 abbrev pub IsSeen : {X : Type 0} → (X → Option ℕ) → List X → ℕ → ℕ → Type 0
 IsSeen of items count id = (place : ℕ) × (place < count) × (option_map of (slice_get items place) ≡ Some (Some id))
 
+-- what these places hold are tasks
+abbrev pub HoldTasks : {X : Type 0} → (X → Option ℕ) → List X → List (Option Task) → Type 0
+HoldTasks of items tasks = (id : ℕ) → IsSeen of items (length items) id → IsSome (slice_index_or tasks id None)
+
 -- with what these places hold, from one on up to another, no access of this kind conflicts
 abbrev pub ArePassed : {X : Type 0} → (X → Option ℕ) → List X → List (Option Task) → ℕ → Bool → ℕ → ℕ → Type 0
 ArePassed of items tasks line write from upto = (place id : ℕ) → from ≤ place → place < upto
@@ -61,6 +65,10 @@ ids_in tiles = map (λ queue. queue.ids) tiles.finished.now
 -- the id stands on a core of one of these tiles, or in its commit queue
 abbrev pub StandsIn : Dispatched → ℕ → Type 0
 StandsIn tiles = IsInTiles (held_in tiles) (ids_in tiles) (length tiles.cores.now)
+
+-- what stands in these tiles are tasks
+abbrev pub StandTasksIn : Dispatched → List (Option Task) → Type 0
+StandTasksIn tiles tasks = (id : ℕ) → StandsIn tiles id → IsSome (slice_index_or tasks id None)
 
 -- the id is marked, where something was found: where nothing was, the marks say nothing
 abbrev pub IsMarkedIfFound : ℕ → List Bool → ℕ → Type 0

@@ -14,7 +14,7 @@ use Rattle.spec_state.specs.StateValue.{Scratch}
 use Rattle.spec_state.specs.Tasks.{is_dispatched}
 use Rattle.spec_state.specs.Groups.{live_creator}
 use Rattle.spec_rollback.specs.declared.marking.Dispatched.{Dispatched}
-use Rattle.spec_rollback.specs.Marking.{conflicts_at, StandsIn}
+use Rattle.spec_rollback.specs.Marking.{conflicts_at, StandsIn, StandTasksIn}
 
 -- this is the creator
 abbrev pub is_creator : ℕ → Option ℕ → Bool
@@ -80,6 +80,7 @@ is_read_at size tasks a b = is_read_from size tasks (slice_index_or tasks a None
 pub record KnowsTasks (tasks : List (Option Task)) (children : ChildrenValue) (tiles : Dispatched) : Type 0 where
   pub noted : AreNoted tasks children
   pub queues : length tiles.finished.now ≡ length tiles.cores.now
+  pub live : StandTasksIn tiles tasks
   pub dispatched : (id : ℕ) (task : Task) → slice_index_or tasks id None ≡ Some task → is_dispatched task ≡ true
       → StandsIn tiles id
 

@@ -6,7 +6,7 @@ ghost use Rattle.abort_cascade.specs.Growth.{IsListOf};
 ghost use Rattle.spec_state.specs.View.{task_at};
 ghost use Rattle.spec_state.specs.Groups.{live_creator};
 ghost use Rattle.spec_state.specs.Children.{AreNoted};
-ghost use Rattle.spec_rollback.specs.Marking.{IsSeen, IsBelow, StandsIn, IsListed, Finds};
+ghost use Rattle.spec_rollback.specs.Marking.{IsSeen, IsBelow, StandsIn, StandTasksIn, IsListed, Finds};
 ghost use Rattle.spec_rollback.specs.Pulled.{is_creator, is_made_by, is_read_at, pull_in, store_conflicts_at};
 ghost use Rattle.spec_rollback.specs.Pulled.{some_store_conflicts_at, ListsMarked};
 
@@ -123,6 +123,7 @@ fn mark_store(
     requires members { length members.old ≡ length marks.old }
     requires listed { IsListed found marks.old members.old }
     requires tiles { length cascade.now.tiles.finished.now ≡ length cascade.now.tiles.cores.now }
+    requires live { StandTasksIn cascade.now.tiles cascade.now.tasks.now.slots }
     ensures { let c = cascade.now in
         let test = store_conflicts_at c.size c.tasks.now.slots writer.now access in
         Finds test (StandsIn c.tiles) found marks.old members.old result marks.new members.new }
@@ -160,6 +161,7 @@ fn mark_stores(
     requires members { length members.old ≡ length marks.old }
     requires listed { IsListed found marks.old members.old }
     requires tiles { length cascade.now.tiles.finished.now ≡ length cascade.now.tiles.cores.now }
+    requires live { StandTasksIn cascade.now.tiles cascade.now.tasks.now.slots }
     ensures { let c = cascade.now in
         let test = some_store_conflicts_at c.size c.tasks.now.slots writer.now log.now in
         Finds test (StandsIn c.tiles) found marks.old members.old result marks.new members.new }
@@ -207,6 +209,7 @@ impl Cascade<'_> {
         requires members { length members.old ≡ length marks.old }
         requires listed { IsListed found marks.old members.old }
         requires tiles { length self.now.tiles.finished.now ≡ length self.now.tiles.cores.now }
+        requires live { StandTasksIn self.now.tiles self.now.tasks.now.slots }
         ensures { let c = self.now in
             let test = is_read_at c.size c.tasks.now.slots writer in
             Finds test (StandsIn c.tiles) found marks.old members.old result marks.new members.new }

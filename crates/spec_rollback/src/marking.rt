@@ -7,7 +7,8 @@ ghost use Rattle.abort_cascade.specs.Cascade.{Marked};
 ghost use Rattle.abort_cascade.specs.Growth.{IsListOf};
 ghost use Rattle.spec_state.specs.View.{task_at, core_ids};
 ghost use Rattle.spec_rollback.specs.Marking.{has_line, conflicts, conflicts_at, IsSeen, IsInTile};
-ghost use Rattle.spec_rollback.specs.Marking.{StandsIn, ArePassed, IsListed, Finds, FindsConflicts};
+ghost use Rattle.spec_rollback.specs.Marking.{StandsIn, StandTasksIn, HoldTasks, ArePassed, IsListed};
+ghost use Rattle.spec_rollback.specs.Marking.{Finds, FindsConflicts};
 
 use fractal_vt::cmp;
 use kept_slab::KeptSlab;
@@ -101,15 +102,13 @@ impl Holder for usize {
 
 /// Whether one look tells that no store, or else load, of the line conflicts with what is held; false says nothing.
 fn passes_over(tasks: &KeptSlab<Task>, held: Option<usize>, line: u32, write: bool) -> bool
+    requires { IfSome held (λ id. IsSome (get tasks.now id)) }
     ensures { IsTrue result → (task : Task) → (id : ℕ) → held ≡ Some id
         → conflicts task line write (get tasks.now id) ≡ false }
 {
     match held {
         None => true,
-        Some(id) => match tasks.get(id) {
-            None => true,
-            Some(other) => rules_out(other, line, write),
-        },
+        Some(id) => rules_out(&tasks[id], line, write),
     }
 }
 
@@ -122,7 +121,8 @@ fn next_place<H: Holder>(
     write: bool,
     from: usize,
 ) -> usize
-    requires { from ≤ length holders.now }
+    requires from { from ≤ length holders.now }
+    requires live { HoldTasks H.held holders.now tasks.now.slots }
     ensures within { result ≤ length holders.now }
     ensures from { from ≤ result }
     ensures passed { ArePassed H.held holders.now tasks.now.slots line write from result }
@@ -222,6 +222,7 @@ fn mark_holders<H: Holder>(
     requires marks { length access.now.tasks.now.slots ≤ length marks.old }
     requires members { length members.old ≡ length marks.old }
     requires listed { IsListed found marks.old members.old }
+    requires live { HoldTasks H.held holders.now access.now.tasks.now.slots }
     ensures { let a = access.now in
         let test = conflicts_at a.tasks.now.slots a.task.now a.line a.write in
         let these = IsSeen H.held holders.now (length holders.now) in
@@ -248,6 +249,8 @@ fn mark_tile(
     requires marks { length access.now.tasks.now.slots ≤ length marks.old }
     requires members { length members.old ≡ length marks.old }
     requires listed { IsListed found marks.old members.old }
+    requires cores { HoldTasks (option_map (λ id. id.0)) cores.now access.now.tasks.now.slots }
+    requires ids { HoldTasks Some ids.now access.now.tasks.now.slots }
     ensures { let a = access.now in
         let test = conflicts_at a.tasks.now.slots a.task.now a.line a.write in
         let these = IsInTile (core_ids cores.now) ids.now in
@@ -269,6 +272,7 @@ pub(crate) fn mark_tiles(
     requires marks { length access.now.tasks.now.slots ≤ length marks.old }
     requires members { length members.old ≡ length marks.old }
     requires listed { IsListed found marks.old members.old }
+    requires live { StandTasksIn tiles.now access.now.tasks.now.slots }
     requires tiles { length tiles.now.finished.now ≡ length tiles.now.cores.now }
     ensures { let a = access.now in
         let test = conflicts_at a.tasks.now.slots a.task.now a.line a.write in

@@ -9,7 +9,7 @@ use Rattle.spec_state.specs.View.{core_ids, task_at}
 use Rattle.spec_state.proofs.Proved.{few_tasks}
 use Rattle.spec_rollback.specs.Pulled.{ListsMarked}
 use Rattle.spec_rollback.proofs.Pulled.{few_members}
-use Rattle.spec_rollback.proofs.Conflicting.{stands_in}
+use Rattle.spec_rollback.proofs.Conflicting.{live_in, stands_in}
 use Rattle.spec_rollback.proofs.Marked.{put_back}
 use Rattle.spec_rollback.proofs.cascade.close_marks.Goals as goal
 
@@ -22,6 +22,10 @@ close_listed-requires-clause-knows g c =
     record {
       noted = c.state.invariant.6;
       queues = omega (arith, tiles, c.as_slice.ensures.len, c.as_slice-2.ensures.len);
+      live = live_in g.N.Naming.image.data_size _ c.state.invariant.4
+          (record { cores = c.as_slice.result; finished = c.as_slice-2.result })
+          (ap (map (λ held. core_ids held.items)) c.as_slice.ensures.value)
+          (ap (map (λ (q : QueueValue). q.ids)) c.as_slice-2.ensures.value);
       dispatched = λ id task at runs. stands_in g.N.Naming.image.data_size _ c.state.invariant.4
           (record { cores = c.as_slice.result; finished = c.as_slice-2.result })
           (ap (map (λ held. core_ids held.items)) c.as_slice.ensures.value)

@@ -3,7 +3,7 @@ use Rattle.std.proofs.lemmas.List.{length-map}
 use Rattle.tile_queues.specs.Queue.{QueueValue}
 use Rattle.spec_state.specs.View.{core_ids}
 use Rattle.spec_state.specs.StateValue.{StateValue}
-use Rattle.spec_rollback.proofs.Conflicting.{conflicts_in}
+use Rattle.spec_rollback.proofs.Conflicting.{conflicts_in, live_in}
 use Rattle.spec_rollback.proofs.Marked.{put_back}
 use Rattle.spec_rollback.proofs.Unmarked.{none_found}
 use Rattle.spec_rollback.proofs.marking.mark_conflicts.Goals as goal
@@ -12,6 +12,12 @@ pub returns-then-is_alone-clause-found : goal.returns-then-is_alone-clause-found
 returns-then-is_alone-clause-found g c =
     none_found c.args.state.now.view _ c.args.line c.args.write c.args.state.now.scratch.marks
     (c.is_alone.ensures c.if-is_alone.true)
+
+pub mark_tiles-requires-clause-live : goal.mark_tiles-requires-clause-live
+mark_tiles-requires-clause-live g c = live_in g.N.Naming.image.data_size _ c.state.invariant.4
+    (record { cores = c.as_slice.result; finished = c.as_slice-2.result })
+    (ap (map (λ held. core_ids held.items)) c.as_slice.ensures.value)
+    (ap (map (λ (q : QueueValue). q.ids)) c.as_slice-2.ensures.value)
 
 pub returns-clause-found : goal.returns-clause-found
 returns-clause-found g c =
