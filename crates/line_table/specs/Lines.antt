@@ -1,5 +1,5 @@
 -- The lines of a task by a filter of one of three kinds, and the notes that they stand for.
-use Rattle.std.specs.Prelude.{◌≡◌, ◌&&◌, ℕ, Bool, List, [], ◌∷◌}
+use Rattle.std.specs.Prelude.{◌≡◌, ◌&&◌, ℕ, Bool, false, not, List, [], ◌∷◌}
 use Rattle.line_table.specs.declared.lines.FilterKind.{FilterKind}
 use Rattle.line_table.specs.declared.lines.FilterKind.TheVariants.{Modulo, Bloom, Exact}
 use Rattle.line_table.specs.declared.lines.Lines.{Lines}
@@ -50,6 +50,12 @@ may_touch = has_bits touched_of
 -- the bits say that the line was written
 abbrev pub may_write : FilterKind → Lines → ℕ → Bool
 may_write = has_bits wrote_of
+
+-- one look rules out a line of which the bits say this; a Bloom filter, which wants eight looks, takes none
+abbrev pub is_ruled_out : FilterKind → Bool → Bool
+is_ruled_out Modulo bits = not bits
+is_ruled_out Bloom bits = false
+is_ruled_out Exact bits = not bits
 
 -- an exact filter asks the notes too; the others go by their bits
 abbrev pub asks_too : FilterKind → Bool → Bool → Bool

@@ -1,10 +1,10 @@
 //! The lines of a task, by a filter of one of three kinds.
 
-ghost use Rattle.std.specs.Prelude.{◌≡◌, List, [], ◌∷◌, ◌++◌, ℕ, true, false, IsTrue, ◌↔◌};
+ghost use Rattle.std.specs.Prelude.{◌≡◌, List, [], ◌∷◌, ◌++◌, ℕ};
 ghost use Rattle.line_table.specs.declared.lines.FilterKind.{FilterKind};
 ghost use Rattle.line_table.specs.declared.lines.FilterKind.TheVariants.{Modulo, Bloom, Exact};
 ghost use Rattle.line_table.specs.Note.{Note};
-ghost use Rattle.line_table.specs.Lines.{IsLines, unmarked, may_touch, may_write};
+ghost use Rattle.line_table.specs.Lines.{IsLines, unmarked, may_touch, may_write, is_ruled_out};
 
 use crate::banks::{mark_banks, touched_in_banks, wrote_in_banks};
 use crate::hash::hashes;
@@ -114,9 +114,10 @@ impl Lines {
         }
     }
 
-    /// Whether one look at the bits tells that the line was not noted. Of the kind `Bloom` it never does.
+    /// Whether one look at the bits tells that the line was not noted: it does where `may_touch` is false, but never of
+    /// the kind `Bloom`, which wants eight looks.
     pub fn never_touched(&self, line: u32) -> bool
-        ensures { IsTrue result → may_touch self.now.kind self.now line ≡ false }
+        ensures { result ≡ is_ruled_out self.now.kind (may_touch self.now.kind self.now line) }
     {
         match self.kind {
             FilterKind::Modulo => !self.near.touched(line),
@@ -125,9 +126,10 @@ impl Lines {
         }
     }
 
-    /// Whether one look at the bits tells that the line was not noted with a write. Of the kind `Bloom` it never does.
+    /// Whether one look at the bits tells that the line was not noted with a write: it does where `may_write` is false,
+    /// but never of the kind `Bloom`, which wants eight looks.
     pub fn never_wrote(&self, line: u32) -> bool
-        ensures { IsTrue result → may_write self.now.kind self.now line ≡ false }
+        ensures { result ≡ is_ruled_out self.now.kind (may_write self.now.kind self.now line) }
     {
         match self.kind {
             FilterKind::Modulo => !self.near.wrote(line),

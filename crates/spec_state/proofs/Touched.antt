@@ -1,13 +1,13 @@
 -- The notes of a log, looked for in the log itself.
-use Rattle.std.proofs.Common.{◌≡◌, ◌==◌, ◌&&◌, ◌||◌, ◌/◌, ℕ, Bool, true, false, List, [], ◌∷◌, is_some, refl, sym, ap}
-use Rattle.std.proofs.Common.{◌∙◌}
+use Rattle.std.proofs.Common.{◌≡◌, ◌==◌, ◌&&◌, ◌||◌, ◌/◌, ◌∙◌, ℕ, Bool, true, false, IsTrue, List, [], ◌∷◌, is_some}
+use Rattle.std.proofs.Common.{refl, sym, ap}
 use Prim.Native.Nat.div
 use Rattle.std.specs.List.{list_any}
-use Rattle.std.proofs.lemmas.Bool.{eqb-true}
+use Rattle.std.proofs.lemmas.Bool.{eqb-true, not-true}
 use Rattle.line_table.specs.Note.{touched_in, wrote_in}
 use Rattle.line_table.specs.declared.lines.FilterKind.{FilterKind}
 use Rattle.line_table.specs.declared.lines.FilterKind.TheVariants.{Modulo, Bloom, Exact}
-use Rattle.line_table.specs.Lines.{asks_too, touched_by, wrote_by}
+use Rattle.line_table.specs.Lines.{asks_too, is_ruled_out, touched_by, wrote_by}
 use Rattle.memory_law.specs.Notes.{notes_of}
 use Rattle.undo_log.specs.declared.access.Access.{Access}
 use Rattle.spec_state.specs.declared.settings.Settings.{Settings}
@@ -35,11 +35,12 @@ own_notes : (settings : Settings) (lines : Lines) (log : List Access) → HasNot
 own_notes settings lines [] has = refl
 own_notes settings lines (access ∷ log) has = ap (λ size. notes_of size (access ∷ log)) has.are_of.1
 
--- what the bits deny no filter tells
-pub never_told : (kind : FilterKind) (bits noted : Bool) → bits ≡ false → asks_too kind bits noted ≡ false
-never_told Modulo bits noted off = off
-never_told Bloom bits noted off = off
-never_told Exact bits noted off = ap (λ b. b && noted) off
+-- what one look rules out no filter tells
+pub never_told : (kind : FilterKind) (bits noted : Bool) → IsTrue (is_ruled_out kind bits)
+    → asks_too kind bits noted ≡ false
+never_told Modulo bits noted out = not-true bits out
+never_told Bloom bits noted out = absurd (cc out)
+never_told Exact bits noted out = ap (λ b. b && noted) (not-true bits out)
 
 -- what a task touched is told by the notes of its log
 pub told_touched : (settings : Settings) (task : Task) (line : ℕ) → HasNotes settings task.lines task.log

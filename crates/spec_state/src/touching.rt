@@ -1,6 +1,7 @@
 //! Which lines a task touched and wrote: by its filter, and by its log.
 
 ghost use Rattle.std.specs.Prelude.{◌≡◌, ◌/◌, false, List, IsTrue};
+ghost use Rattle.line_table.specs.Lines.{is_ruled_out, may_touch, may_write};
 ghost use Rattle.line_table.specs.Note.{touched_in, wrote_in};
 ghost use Rattle.memory_law.specs.Notes.{notes_of};
 ghost use Rattle.spec_state.specs.Filters.{has_touched, has_written, has_stored};
@@ -62,20 +63,24 @@ impl Task {
         }
     }
 
-    /// Whether one look at its filter tells that it didn't touch the line; false says nothing. Of the kind `Bloom` it
-    /// never does.
+    /// Whether one look at its filter tells that it didn't touch the line: it does where the bits don't say that it may
+    /// have, but never of the kind `Bloom`, which wants eight looks.
     #[tactic(auto, using(crate::proofs::Touched::never_told))]
     pub fn never_touched(&self, line: u32) -> bool
-        ensures { IsTrue result → has_touched self.now line ≡ false }
+        ensures answer { let lines = self.now.lines in
+            result ≡ is_ruled_out lines.kind (may_touch lines.kind lines line) }
+        ensures sound { IsTrue result → has_touched self.now line ≡ false }
     {
         self.lines.never_touched(line)
     }
 
-    /// Whether one look at its filter tells that it didn't write the line; false says nothing. Of the kind `Bloom` it
-    /// never does.
+    /// Whether one look at its filter tells that it didn't write the line: it does where the bits don't say that it may
+    /// have, but never of the kind `Bloom`, which wants eight looks.
     #[tactic(auto, using(crate::proofs::Touched::never_told))]
     pub fn never_written(&self, line: u32) -> bool
-        ensures { IsTrue result → has_written self.now line ≡ false }
+        ensures answer { let lines = self.now.lines in
+            result ≡ is_ruled_out lines.kind (may_write lines.kind lines line) }
+        ensures sound { IsTrue result → has_written self.now line ≡ false }
     {
         self.lines.never_wrote(line)
     }
