@@ -341,6 +341,38 @@ fn jal_op(rd: Reg, imm: i32) -> Op
     }
 }
 
+fn jalr_op(rd: Reg, rs1: Reg, imm: i32) -> Op
+    ensures { shape result ≡ Shape.JumpTo rd rs1 (word imm) }
+{
+    Op::Jalr {
+        rd,
+        rs1,
+        imm: imm.cast_unsigned(),
+    }
+}
+
+fn load_op(width: LoadWidth, rd: Reg, rs1: Reg, imm: i32) -> Op
+    ensures { shape result ≡ Shape.Load width rd rs1 (word imm) }
+{
+    Op::Load {
+        width,
+        rd,
+        rs1,
+        imm: imm.cast_unsigned(),
+    }
+}
+
+fn store_op(width: StoreWidth, rs1: Reg, rs2: Reg, imm: i32) -> Op
+    ensures { shape result ≡ Shape.Store width rs1 rs2 (word imm) }
+{
+    Op::Store {
+        width,
+        rs1,
+        rs2,
+        imm: imm.cast_unsigned(),
+    }
+}
+
 fn branch_by(cond: Cond, rs1: Reg, rs2: Reg, imm: i32) -> Op
     ensures { shape result ≡ in_words (word imm) (Shape.Branch cond rs1 rs2) }
 {
@@ -390,11 +422,7 @@ fn instr_op(instr: Instr, pc: u32) -> Op
         Instr::Lui { rd, imm } => put_by(rd, imm),
         Instr::Auipc { rd, imm } => put_by(rd, pc.wrapping_add(imm)),
         Instr::Jal { rd, imm } => jal_op(rd, imm),
-        Instr::Jalr { rd, rs1, imm } => Op::Jalr {
-            rd,
-            rs1,
-            imm: imm.cast_unsigned(),
-        },
+        Instr::Jalr { rd, rs1, imm } => jalr_op(rd, rs1, imm),
         Instr::Branch {
             cond,
             rs1,
@@ -406,23 +434,13 @@ fn instr_op(instr: Instr, pc: u32) -> Op
             rd,
             rs1,
             imm,
-        } => Op::Load {
-            width,
-            rd,
-            rs1,
-            imm: imm.cast_unsigned(),
-        },
+        } => load_op(width, rd, rs1, imm),
         Instr::Store {
             width,
             rs1,
             rs2,
             imm,
-        } => Op::Store {
-            width,
-            rs1,
-            rs2,
-            imm: imm.cast_unsigned(),
-        },
+        } => store_op(width, rs1, rs2, imm),
         Instr::OpImm { op, rd, rs1, imm } => imm_by(op, rd, rs1, imm.cast_unsigned()),
         Instr::Op { op, rd, rs1, rs2 } => reg_by(op, rd, rs1, rs2),
         Instr::Fence => Op::Fence,
