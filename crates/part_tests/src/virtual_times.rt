@@ -74,6 +74,28 @@ fn a_dispatched_key_makes_its_domain(rt: HostRuntime) {
 }
 
 #[test]
+fn a_domain_is_put_over_a_deeper_one(rt: HostRuntime) -> Result<(), Fail> {
+    let mut domain = Vt::new(&TWO_LEVELS).ok_or("two levels fit")?;
+    domain.put(&Vt::new(&[LEVEL]).ok_or("one level fits")?);
+    assert_eq!(rt; domain.levels(), [LEVEL].as_slice());
+    Ok(())
+}
+
+#[test]
+fn a_key_is_put_over_a_root_key(rt: HostRuntime) -> Result<(), Fail> {
+    let from = Key {
+        domain: Vt::new(&TWO_LEVELS).ok_or("two levels fit")?,
+        ts: 7,
+        tb: Some(30),
+    };
+    let mut key = Key::root(5);
+    key.put(&from);
+    assert_eq!(rt; key.domain.levels(), TWO_LEVELS.as_slice());
+    assert_eq!(rt; (key.ts, key.tb), (7, Some(30)));
+    Ok(())
+}
+
+#[test]
 fn tiebreakers_of_a_domain_become_their_places(rt: HostRuntime) -> Result<(), Fail> {
     let domain = Vt::new(&TWO_LEVELS).ok_or("two levels fit")?;
     assert_eq!(rt;
