@@ -47,18 +47,6 @@ pub(crate) fn blank_candidate() -> Candidate
     }
 }
 
-/// Makes a key another one. Where both are of the root domain no levels are moved.
-fn put_key(key: &mut Key, from: &Key)
-    ensures { key.new ≡ from.now }
-{
-    if key.domain.levels().is_empty() && from.domain.levels().is_empty() {
-        key.ts = from.ts;
-        key.tb = from.tb;
-    } else {
-        *key = from.copy();
-    }
-}
-
 /// Makes a candidate that of a task, in its place.
 pub(crate) fn put_candidate(
     candidate: &mut Candidate,
@@ -69,7 +57,7 @@ pub(crate) fn put_candidate(
 )
     ensures { candidate.new ≡ record { key = key.now; tile = tile; arrival = arrival; id = id } }
 {
-    put_key(&mut candidate.key, key);
+    candidate.key.put(key);
     candidate.tile = tile;
     candidate.arrival = arrival;
     candidate.id = id;
