@@ -69,11 +69,9 @@ impl Fresh {
         task.args = self.args;
         task.hint = self.hint;
         task.kinds = self.kinds;
-        task.key = Key {
-            domain: self.domain.copy(),
-            ts: self.ts,
-            tb: None,
-        };
+        task.key.domain.put(&self.domain);
+        task.key.ts = self.ts;
+        task.key.tb = None;
         task.creator = self.creator;
         task.tile = self.tile;
         task.status = Status::Idle;
