@@ -1,13 +1,13 @@
 -- The least idle task of a queue, and whether one of its tasks is idle and firm.
-use Rattle.std.proofs.Common.{◌≡◌, ◌≢◌, ◌<◌, ◌≤◌, ◌+◌, length, take, ℕ, true, false, List, Option}
+use Rattle.std.proofs.Common.{◌≡◌, ◌≢◌, ◌<◌, ◌≤◌, ◌+◌, ◌-◌, length, take, drop, ℕ, Bool, true, false, List, Option}
 use Rattle.std.proofs.Common.{Some, None, refl, sym, ap, subst, ◌∙◌, inl, inr, arith, slice_get, slice_index_or}
 use Rattle.std.specs.Prelude.{Contains, IfSome, IsSome, IsNone, IsTrue, is_some, ◌↔◌}
 use Rattle.std.specs.Ordering.{is_lt, nat_cmp, ordering_then}
 use Rattle.std.specs.declared.cmp.Ordering.{Ordering}
 use Rattle.std.specs.declared.cmp.Ordering.TheVariants.{Less, Equal, Greater}
-use Rattle.std.proofs.lemmas.Bool.{cases_eq, cases_lt}
+use Rattle.std.proofs.lemmas.Bool.{cases_eq, cases_lt, false_from_ne_true}
 use Rattle.std.proofs.lemmas.Bool.Decides.{nat_tests}
-use Rattle.std.proofs.lemmas.List.{take_all}
+use Rattle.std.proofs.lemmas.List.{take_all, length-drop, get_or-drop}
 use Rattle.std.proofs.lemmas.List.Elements.{Contains-get_or}
 use Rattle.std.proofs.lemmas.Option.{slice_get-get_or, slice_get_within, get_or_from_slice_get}
 use Rattle.fractal_vt.specs.Keys.{key_cmp}
@@ -37,24 +37,12 @@ module _ (view : View) (ids : List ℕ) (count id : ℕ) (task : Task) (at : sli
       let one : k ≡ id = same_id ids count k id (ap (slice_get ids) (sym same) ∙ is.id_at) at in
       one_task view id x task (ap (task_at view) (sym one) ∙ is.there) there
 
-  -- where that isn't idle, the pick stays
-  pub passes_busy : (task.status ≡ Idle → ⊥) → (best : Option TaskId) → IsIdlePick view ids count best
-      → IsIdlePick view ids (count + 1) best
-  passes_busy busy None none = λ p k x below is. elim (cases_eq p count) [
+  -- where that isn't idle, there is still none
+  pub passes_busy : (task.status ≡ Idle → ⊥) → IsIdlePick view ids count None → IsIdlePick view ids (count + 1) None
+  passes_busy busy none = λ p k x below is. elim (cases_eq p count) [
     | inl same ↦ busy (ap (λ (t : Task). t.status) (sym (is_next p k x same is)) ∙ is.idle)
     | inr other ↦ none p k x (omega (arith, below, other)) is
   ]
-  passes_busy busy (Some b) is = record {
-    place = is.place;
-    task = is.task;
-    below = omega (arith, is.below);
-    idle = is.idle;
-    least = λ p k x below idle. elim (cases_eq p count) [
-      | inl same ↦ absurd (busy (ap (λ (t : Task). t.status) (sym (is_next p k x same idle)) ∙ idle.idle))
-      | inr other ↦ is.least p k x (omega (arith, below, other)) idle
-    ];
-    first = is.first;
-  }
 
   -- it is picked where its key is less than that of each idle one before it
   picks_next : task.status ≡ Idle
@@ -73,39 +61,59 @@ module _ (view : View) (ids : List ℕ) (count id : ℕ) (task : Task) (at : sli
     first = before;
   }
 
-  pub picks_only : task.status ≡ Idle → (best : Option TaskId) → best ≡ None → IsIdlePick view ids count best
-      → IsFirstIdle view ids (count + 1) id
-  picks_only idle None none is = picks_next idle (λ p k x below at. absurd (is p k x below at))
-  picks_only idle (Some b) none is = cc
+  pub picks_only : task.status ≡ Idle → IsIdlePick view ids count None → IsFirstIdle view ids (count + 1) id
+  picks_only idle none = picks_next idle (λ p k x below at. absurd (none p k x below at))
 
-  module _ (best : Option TaskId) (b : TaskId) (first : Task) (given : best ≡ Some b)
-      (was : IsIdlePick view ids count best) (of : task_at view b.0 ≡ Some first) where
-    was_first : IsFirstIdle view ids count b.0
-    was_first = subst (IsIdlePick view ids count) given was
-
-    own_task : (is : IsFirstIdle view ids count b.0) → is.task ≡ first
-    own_task is = one_task view b.0 is.task first is.idle.there of
+  module _ (b : ℕ) (first : Task) (was : IsFirstIdle view ids count b) (of : task_at view b ≡ Some first) where
+    own_task : was.task ≡ first
+    own_task = one_task view b was.task first was.idle.there of
 
     pub picks_lesser : task.status ≡ Idle → is_lt (key_cmp task.key first.key) ≡ true
         → IsFirstIdle view ids (count + 1) id
     picks_lesser idle less = picks_next idle (λ p k x below is.
         less_then key_cmp_total task.key first.key x.key (less_from (key_cmp task.key first.key) less)
-        (subst (λ (t : Task). key_cmp t.key x.key ≢ Greater) (own_task was_first) (was_first.least p k x below is)))
+        (subst (λ (t : Task). key_cmp t.key x.key ≢ Greater) own_task (was.least p k x below is)))
 
-    pub keeps_first : is_lt (key_cmp task.key first.key) ≡ false → IsFirstIdle view ids (count + 1) b.0
+    pub keeps_first : (task.status ≡ Idle → is_lt (key_cmp task.key first.key) ≡ false)
+        → IsFirstIdle view ids (count + 1) b
     keeps_first off = record {
-      place = was_first.place;
-      task = was_first.task;
-      below = omega (arith, was_first.below);
-      idle = was_first.idle;
+      place = was.place;
+      task = was.task;
+      below = omega (arith, was.below);
+      idle = was.idle;
       least = λ p k x below is. elim (cases_eq p count) [
-        | inl same ↦ subst (λ (t : Task). key_cmp was_first.task.key t.key ≢ Greater) (sym (is_next p k x same is))
-            (subst (λ (t : Task). key_cmp t.key task.key ≢ Greater) (sym (own_task was_first))
-            (upto_turned task.key first.key off))
-        | inr other ↦ was_first.least p k x (omega (arith, below, other)) is
+        | inl same ↦ subst (λ (t : Task). key_cmp was.task.key t.key ≢ Greater) (sym (is_next p k x same is))
+            (subst (λ (t : Task). key_cmp t.key task.key ≢ Greater) (sym own_task)
+            (upto_turned task.key first.key
+            (off (ap (λ (t : Task). t.status) (sym (is_next p k x same is)) ∙ is.idle))))
+        | inr other ↦ was.least p k x (omega (arith, below, other)) is
       ];
-      first = was_first.first;
+      first = was.first;
     }
+
+    -- it is idle and less, or it isn't
+    pub keeps_unless : (lesser : Bool)
+        → IsTrue lesser ↔ (task.status ≡ Idle) × (is_lt (key_cmp task.key first.key) ≡ true)
+        → lesser ≡ false → IsFirstIdle view ids (count + 1) b
+    keeps_unless lesser is off = keeps_first
+        (λ idle. false_from_ne_true _ (λ less. (let yes : lesser ≡ true = is.1 (idle, less) in cc)))
+
+-- the items behind the first ones, and one of them
+module _ (ids : List ℕ) (n : ℕ) where
+  abbrev rest : List ℕ
+  rest = take (length ids - n) (drop n ids)
+
+  rest_is : rest ≡ drop n ids
+  rest_is = take_all (length ids - n) (drop n ids) (let long = length-drop n ids in omega (arith, long))
+
+  module _ (i : ℕ) (within : i < length rest) where
+    pub behind_within : n + i < length ids
+    behind_within = let long = ap length rest_is ∙ length-drop n ids in omega (arith, long, within)
+
+    pub behind_there : (view : View) (task : Task) → task_at view (slice_index_or rest i 0) ≡ Some task
+        → task_at view (slice_index_or ids (n + i) 0) ≡ Some task
+    behind_there view task there =
+        ap (task_at view) (sym (ap (λ (xs : List ℕ). slice_index_or xs i 0) rest_is ∙ get_or-drop n ids i 0)) ∙ there
 
 pub no_idle : (view : View) (ids : List ℕ) → IsIdlePick view ids 0 None
 no_idle view ids p k x below is = absurd (omega (arith, below))
