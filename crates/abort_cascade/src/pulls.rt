@@ -38,13 +38,7 @@ pub trait Spreader {
 
     /// Marks what the node pulls. The `found` members that are listed stay, and each new one joins them; it tells how
     /// many there are then.
-    fn spread(
-        &self,
-        node: usize,
-        marks: &mut [bool],
-        members: &mut [usize],
-        found: usize,
-    ) -> usize
+    fn spread(&self, node: usize, marks: &mut [bool], members: &mut [usize], found: usize) -> usize
         requires knows { knows self.now }
         requires marks { length marks.old ≡ count self.now }
         requires members { length members.old ≡ length marks.old }

@@ -1,5 +1,6 @@
 -- The tasks with which an access conflicts stand on cores and in commit queues, so a walk over these finds them all.
-use Rattle.std.proofs.Common.{◌≡◌, ◌≤◌, ℕ, ◌<◌, Bool, true, false, List, length, Option, Some, None, refl, sym, ap, subst}
+use Rattle.std.proofs.Common.{◌≡◌, ◌≤◌, ℕ, ◌<◌, Bool, true, false, List, length, Option, Some, None, refl, sym}
+use Rattle.std.proofs.Common.{ap, subst}
 use Rattle.std.proofs.Common.{◌∙◌, inl, inr, arith, option_map, slice_get, slice_index_or, []}
 use Rattle.std.specs.Prelude.{◌↔◌, ◌&&◌, is_some, IsSome, IfSome}
 use Rattle.std.specs.Ordering.{is_lt}

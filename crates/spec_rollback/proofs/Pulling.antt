@@ -59,7 +59,8 @@ finds_among test these others found now old new before after both finds = record
 }
 
 -- one of two tests passes, or the other
-pub either_test : (a b : Bool) (here : Type 0) → (here × ((a || b) ≡ true)) ↔ ((here × (a ≡ true)) ⊎ (here × (b ≡ true)))
+pub either_test : (a b : Bool) (here : Type 0)
+    → (here × ((a || b) ≡ true)) ↔ ((here × (a ≡ true)) ⊎ (here × (b ≡ true)))
 either_test a b here = (
   λ is. elim (or_cases a b is.1) [ inl one ↦ inl (is.0, one) | inr two ↦ inr (is.0, two) ],
   λ either. elim either [ inl one ↦ (one.0, or_left a b one.1) | inr two ↦ (two.0, or_right a b two.1) ],
@@ -167,7 +168,8 @@ module _ (size : ℕ) (tasks : List (Option Task)) (a b : ℕ) where
   read_pulled None second at is = absurd (cc)
   read_pulled (Some x) second at is =
       let both = and_parts (is_dispatched x) (some_store_conflicts_at size tasks x x.log b) is in
-      let any : list_any (λ (access : Access). is_some access.new && conflicts x (access.offset / size) true second) x.log
+      let any : list_any (λ (access : Access). is_some access.new && conflicts x (access.offset / size) true second)
+      x.log
       ≡ true =
       subst (λ slot. list_any (λ (access : Access). is_some access.new && conflicts x (access.offset / size) true slot)
       x.log ≡ true) at both.1 in
@@ -216,7 +218,8 @@ module _ (size : ℕ) (tasks : List (Option Task)) (a b : ℕ) where
         dispatched = three.1;
         read = ap (λ first. is_read_from size tasks first b) at_a
             ∙ and_from (is_dispatched x) (some_store_conflicts_at size tasks x x.log b) three.0
-            (ap (λ slot. list_any (λ (access : Access). is_some access.new && conflicts x (access.offset / size) true slot)
+            (ap (λ slot. list_any
+            (λ (access : Access). is_some access.new && conflicts x (access.offset / size) true slot)
             x.log) at_b ∙ sym (all_read x y three.1 two.1) ∙ one.1);
       }
 
@@ -295,5 +298,6 @@ spread_found size count node tasks children tiles knows found mid now old betwee
     all : (b : ℕ) → b < length old → pull_in size tasks node b ≡ true → Marked new b
     all b below is = elim (pulled_is size tasks node b is) [
       | inl child ↦ ((read.exact b).1 (inl ((made.exact b).1 (inr (below, child))))).1
-      | inr reader ↦ ((read.exact b).1 (inr (knows.dispatched b reader.task reader.there reader.dispatched, reader.read))).1
+      | inr reader ↦ ((read.exact b).1
+          (inr (knows.dispatched b reader.task reader.there reader.dispatched, reader.read))).1
     ]

@@ -1,5 +1,6 @@
 -- Marks of the tasks with which an access conflicts, as they grow.
-use Rattle.std.proofs.Common.{◌≡◌, ◌⊎◌, ◌+◌, ◌<◌, ◌≤◌, ℕ, Bool, true, false, List, [], Option, Some, None, refl, sym, ap, subst}
+use Rattle.std.proofs.Common.{◌≡◌, ◌⊎◌, ◌+◌, ◌<◌, ◌≤◌, ℕ, Bool, true, false, List, [], Option, Some, None, refl}
+use Rattle.std.proofs.Common.{sym, ap, subst}
 use Rattle.std.proofs.Common.{◌∙◌, inl, inr, arith, length, replicate, set, slice_index_or, slice_get, option_map}
 use Rattle.std.specs.Prelude.{◌↔◌, IsSome, IfSome}
 use Rattle.std.proofs.lemmas.Bool.{cases_eq, cases_lt}
@@ -98,7 +99,10 @@ finds_new id found marks members some within same off listed =
     from : (k : ℕ) → IsMarkedIfFound found marks k ⊎ ((k ≡ id) × (true ≡ true))
         → IsMarkedIfFound (found + 1) (set marks id true) k
     from k (inl was) = elim (cases_eq k id) [
-      | inl here ↦ (omega arith, subst (Marked (set marks id true)) (sym here) (get_or-set_same marks id true false within))
+      | inl here ↦ (
+        omega arith,
+        subst (Marked (set marks id true)) (sym here) (get_or-set_same marks id true false within),
+      )
       | inr other ↦ (omega arith, get_or-set_other marks id k true false other ∙ was.1)
     ]
     from k (inr here) =
@@ -276,7 +280,8 @@ seen_held cores n id = (
 
     same : (place : ℕ) → option_map (λ (one : Option ℕ). one) (slice_get (core_ids cores) place)
         ≡ option_map (option_map (λ (t : TaskId). t.0)) (slice_get cores place)
-    same place = ap (option_map (λ (one : Option ℕ). one)) (slice_get-map (option_map (λ (t : TaskId). t.0)) cores place)
+    same place = ap (option_map (λ (one : Option ℕ). one))
+        (slice_get-map (option_map (λ (t : TaskId). t.0)) cores place)
         ∙ itself (option_map (option_map (λ (t : TaskId). t.0)) (slice_get cores place))
 
 -- a tile holds what its cores and its commit queue do
@@ -317,8 +322,10 @@ pub tile_live : (cores : List (List (Option ℕ))) (finished : List (List ℕ)) 
     → slice_index_or finished n [] ≡ ids
     → ((id : ℕ) → IsInTiles cores finished count id → IsSome (slice_index_or tasks id None))
     → HoldTasks (option_map (λ (t : TaskId). t.0)) held tasks × HoldTasks Some ids tasks
-tile_live cores finished count n tasks held ids within held_is ids_is live =
-    (λ id seen. here id ((tile_both held ids id).1 (inl seen)), λ id seen. here id ((tile_both held ids id).1 (inr seen)))
+tile_live cores finished count n tasks held ids within held_is ids_is live = (
+  λ id seen. here id ((tile_both held ids id).1 (inl seen)),
+  λ id seen. here id ((tile_both held ids id).1 (inr seen)),
+)
   where
     here : (id : ℕ) → IsInTile (core_ids held) ids id → IsSome (slice_index_or tasks id None)
     here id is =

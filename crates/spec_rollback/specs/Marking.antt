@@ -1,5 +1,6 @@
 -- Marks of the tasks with which an access conflicts.
-use Rattle.std.specs.Prelude.{◌≡◌, ◌<◌, ◌≤◌, ◌↔◌, ◌⊎◌, ◌&&◌, ℕ, Bool, true, false, List, [], length, Option, None, Some, IsSome}
+use Rattle.std.specs.Prelude.{◌≡◌, ◌<◌, ◌≤◌, ◌↔◌, ◌⊎◌, ◌&&◌, ℕ, Bool, true, false, List, [], length, Option}
+use Rattle.std.specs.Prelude.{None, Some, IsSome}
 use Rattle.std.specs.Prelude.{map, option_map, slice_get, slice_index, slice_index_or}
 use Rattle.std.specs.Ordering.{is_lt}
 use Rattle.abort_cascade.specs.Cascade.{Marked}

@@ -45,7 +45,8 @@ pub returns-clause-listed : goal.returns-clause-listed
 returns-clause-listed g c =
     let marks = put_back c.state.inside.marks.len c.close_listed.new.marks c.state.inside.marks.items (search rules)
     (search rules) in
-    let members = put_back c.state.inside.members.len c.close_listed.new.members c.state.inside.members.items (search rules)
+    let members = put_back c.state.inside.members.len c.close_listed.new.members c.state.inside.members.items
+    (search rules)
     (search rules) in
     subst (λ (m : List Bool). ListsMarked
     (record {
@@ -54,7 +55,8 @@ returns-clause-listed g c =
           (c.close_listed.new.members ++ drop (length c.close_listed.new.members) c.state.inside.members.items);
     }) c.close_listed.result)
     (sym marks)
-    (subst (λ (m : List ℕ). ListsMarked (record { marks = c.close_listed.new.marks; members = m }) c.close_listed.result)
+    (subst (λ (m : List ℕ).
+    ListsMarked (record { marks = c.close_listed.new.marks; members = m }) c.close_listed.result)
     (sym members)
     (record {
       marked = c.close_listed.ensures.listed;

@@ -17,7 +17,8 @@ loop-place-preserved g c =
     slice_get-get_or items n c.index-holders-place.result (omega arith) ∙ ap Some (sym c.index-holders-place.is) in (
       next.ensures.within,
       finds_upto of items _ (n + 1) next.result _ _ _ _ _ _ (omega (arith, up))
-          (λ place id from below at. next.ensures.passed place id (omega (arith, from)) below at c.args.access.now.task.now)
+          (λ place id from below at.
+          next.ensures.passed place id (omega (arith, from)) below at c.args.access.now.task.now)
           (finds_more _ (IsSeen of items n) (λ id. c.held.result ≡ Some id) (IsSeen of items (n + 1)) _ _ _ _ _ _ _ _ _
           c.loop-place.invariant.1 c.mark_held-many.ensures
           (λ id. subst (λ (held : Option ℕ). IsSeen of items (n + 1) id ↔

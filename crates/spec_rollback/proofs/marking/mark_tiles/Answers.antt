@@ -14,7 +14,8 @@ mark_tile-many-requires-clause-cores c =
     let queue = c.index-tiles-tile-in-loop-tile in
     let on_cores = seen_at (λ held. core_ids held.items) tiles.cores.now n core.result [] (omega arith) core.is in
     let queued = seen_at (λ (q : QueueValue). q.ids) tiles.finished.now n queue.result [] (omega arith) queue.is in
-    (tile_live (held_in tiles) (ids_in tiles) (length tiles.cores.now) n c.args.access.now.tasks.now.slots _ _ (omega arith)
+    (tile_live (held_in tiles) (ids_in tiles) (length tiles.cores.now) n c.args.access.now.tasks.now.slots _ _
+    (omega arith)
     (on_cores ∙ ap (λ held. core_ids held.items) core.is ∙ ap core_ids (sym c.as_slice.ensures.value))
     (queued ∙ ap (λ (q : QueueValue). q.ids) queue.is ∙ sym c.ids.ensures.ids) c.requires.live).0
 
@@ -26,7 +27,8 @@ mark_tile-many-requires-clause-ids c =
     let queue = c.index-tiles-tile-in-loop-tile in
     let on_cores = seen_at (λ held. core_ids held.items) tiles.cores.now n core.result [] (omega arith) core.is in
     let queued = seen_at (λ (q : QueueValue). q.ids) tiles.finished.now n queue.result [] (omega arith) queue.is in
-    (tile_live (held_in tiles) (ids_in tiles) (length tiles.cores.now) n c.args.access.now.tasks.now.slots _ _ (omega arith)
+    (tile_live (held_in tiles) (ids_in tiles) (length tiles.cores.now) n c.args.access.now.tasks.now.slots _ _
+    (omega arith)
     (on_cores ∙ ap (λ held. core_ids held.items) core.is ∙ ap core_ids (sym c.as_slice.ensures.value))
     (queued ∙ ap (λ (q : QueueValue). q.ids) queue.is ∙ sym c.ids.ensures.ids) c.requires.live).1
 
