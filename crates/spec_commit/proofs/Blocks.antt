@@ -1,8 +1,8 @@
 -- One block of several is replaced: what is seen of the blocks.
 use Rattle.std.proofs.Common.{◌≡◌, ◌<◌, ◌≤◌, ◌+◌, ℕ, List, [], length, map, Option, refl, sym, ap, subst, ◌∙◌, arith}
-use Rattle.std.proofs.Common.{slice_index_or, slice_set}
+use Rattle.std.proofs.Common.{Some, None, slice_index_or, slice_set}
 use Rattle.std.proofs.lemmas.List.{get_or-map, map-set, get_or-set_same, get_or-set_other}
-use Rattle.std.specs.Prelude.{Result, Ok, Err, OnOk}
+use Rattle.std.specs.Prelude.{Result, Ok, Err, OnOk, IfSome}
 use Rattle.std.specs.declared.alloc.AllocError.{AllocError}
 use Rattle.fractal_vt.specs.declared.level.Level.{Level}
 use Rattle.run_journal.specs.declared.journal.Entry.{Entry}
@@ -16,6 +16,12 @@ use Rattle.spill_store.specs.Fronts.{lists_in}
 use Rattle.spec_state.specs.StateValue.{Spare, HasNoLessSpare}
 use Rattle.spec_state.proofs.Proved.{same_lists, spare_at, spare_before, spare_grows}
 use Rattle.spec_commit.specs.Spilling.{KeepsOtherSpare}
+
+-- what is said of a task that is there
+pub if_there : (found : Option Task) (task : Task) → found ≡ Some task → (said : Task → Type 0) → said task
+    → IfSome found said
+if_there None task is said of = tt
+if_there (Some other) task is said of = subst said (let same : task ≡ other = cc in same) of
 
 -- what stands in the place of a block now
 pub tasks_now : (blocks : List BlockValue) (tile : ℕ) (after : BlockValue) → tile < length blocks

@@ -2,8 +2,7 @@
 use Rattle.std.proofs.Common.{◌≡◌, ◌≢◌, ◌<◌, ◌≤◌, ◌+◌, ◌∷◌, ◌++◌, ℕ, zero, suc, Bool, true, false, cond, not, eqb, List}
 use Rattle.std.proofs.Common.{[], length, map, take, Option, Some, None, option_map, refl, sym, ap, subst, ◌∙◌, inl}
 use Rattle.std.proofs.Common.{inr, arith, slice_get, slice_index_or}
-use Rattle.std.specs.Prelude.{Contains, IsSome, is_some, slice_set}
-use Rattle.spec_state.specs.declared.effect.SpilledTask.{SpilledTask}
+use Rattle.std.specs.Prelude.{Contains, IsSome, IfSome, is_some, slice_set}
 use Rattle.spec_state.specs.Effects.{EffectValue}
 use Rattle.spec_state.specs.Told.{told_spilled}
 use Rattle.std.specs.List.{AllZip}
@@ -16,6 +15,7 @@ use Rattle.std.specs.Ordering.{nat_cmp, ordering_then}
 use Rattle.std.specs.declared.cmp.Ordering.TheVariants.{Less, Equal}
 use Rattle.std.proofs.lemmas.Cmp.{tied_itself}
 use Rattle.fractal_vt.specs.declared.key.Key.{Key}
+use Rattle.fractal_vt.specs.declared.level.Level.{Level}
 use Rattle.fractal_vt.proofs.Proved.{key_cmp_total, same_number}
 use Rattle.run_journal.specs.declared.journal.Entry.{Entry}
 use Rattle.spec_state.proofs.Proved.{all_same, freed_other, has_head, head_or_tail, held_at, held_place, in_tail}
@@ -93,19 +93,34 @@ spills_from tile id old new tasks queues task s there vacant others without_it i
       frame = refl;
     })
 
--- a task that leaves and is pushed
-pub spills : (size tile id : ℕ) (old mid new : View) (task : Task) (s : Spilled) (count : ℕ) → IsStored size old
-    → IsIdleTask old id → task_at old id ≡ Some task → TaskLeaves id old mid
-    → count ≡ length old.history → s ≡ spilled_as (name_given task.creator count) (descriptor_of task)
-    → new ≡ record mid { blocks = slice_set mid.blocks tile (after_push (block_at mid tile) s) }
+-- the view with a task more in the block of a tile
+abbrev with_pushed : View → ℕ → Spilled → View
+with_pushed view tile s = record view { blocks = slice_set view.blocks tile (after_push (block_at view tile) s) }
+
+-- a task that is pushed and leaves
+pub spills : (size tile id : ℕ) (old pushed new : View) (task : Task) (s : Spilled) (count : ℕ) → IsStored size pushed
+    → IsIdleTask old id → task_at old id ≡ Some task
+    → IfSome (task_at old id) (λ t. pushed ≡ with_pushed old tile (record { desc = s.desc; domain = t.key.domain }))
+    → TaskLeaves id pushed new → count ≡ length old.history
+    → s ≡ spilled_as (name_given task.creator count) (descriptor_of task)
     → Spills tile id old new
-spills size tile id old mid new task s count stored idle there leaves same is pushes =
+spills size tile id old pushed new task s count stored idle there pushes leaves same is =
     let both : Some task ≡ Some idle.task = sym there ∙ idle.there in
     let one : task ≡ idle.task = cc in
-    spills_from tile id old new mid.tasks mid.queues task s there leaves.changes.changed leaves.changes.others leaves.queues
+    let given : Spilled = record { desc = s.desc; domain = task.key.domain } in
+    let given_is : given ≡ s =
+    ap (λ (d : List Level). record { desc = s.desc; domain = d }) (sym (ap (λ (x : Spilled). x.domain) is)) in
+    let pushed_is : pushed ≡ with_pushed old tile s =
+    subst (λ (o : Option Task). IfSome o
+    (λ t. pushed ≡ with_pushed old tile (record { desc = s.desc; domain = t.key.domain }))) there pushes
+    ∙ ap (with_pushed old tile) given_is in
+    let still : (k : ℕ) → task_at pushed k ≡ task_at old k = λ k. ap (λ (v : View). task_at v k) pushed_is in
+    spills_from tile id old new new.tasks new.queues task s there leaves.changes.changed
+    (λ k other. leaves.changes.others k other ∙ still k)
+    (leaves.queues ∙ ap (λ (v : View). map (ids_but id) v.queues) pushed_is)
     (is ∙ ap (λ n. spilled_as (name_given task.creator n) (descriptor_of task)) same)
-    (pushes ∙ ap (λ (m : View). record m { blocks = slice_set m.blocks tile (after_push (block_at m tile) s) })
-    (left_idle size old mid id task stored there (ap (λ (t : Task). t.status) one ∙ idle.idle) leaves))
+    (left_idle size pushed new id task stored (still id ∙ there) (ap (λ (t : Task). t.status) one ∙ idle.idle) leaves
+    ∙ ap (λ (v : View). record v { tasks = new.tasks; queues = new.queues }) pushed_is)
 
 -- a queue whose ids are all tasks' stays
 all_stay : (tasks : ℕ → Option RoomTask) (ids : List ℕ) → ((k : ℕ) → Contains ids k → is_some (tasks k) ≡ true)

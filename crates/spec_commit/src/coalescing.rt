@@ -1,12 +1,12 @@
 //! Idle tasks that move into the block of their tile.
 
 ghost use Rattle.std.specs.Prelude.{◌≡◌, ◌≢◌, ◌<◌, ◌≤◌, ◌+◌, ◌^◌, [], ℕ, length, map, IsOk, IfOk, OnOk, OnErr};
-ghost use Rattle.std.specs.Prelude.{slice_index_or, slice_set};
+ghost use Rattle.std.specs.Prelude.{IsSome, IfSome, slice_index_or, slice_set};
 ghost use Rattle.task_desc.specs.declared.calls.TheConstants.{MAX_DEPTH};
 ghost use Rattle.task_desc.specs.Record.{IsDesc};
 ghost use Rattle.spill_store.specs.SpilledTasks.{after_push};
 ghost use Rattle.spec_state.specs.declared.reserving.TheConstants.{MAX_MOVED};
-ghost use Rattle.spec_state.specs.View.{block_at};
+ghost use Rattle.spec_state.specs.View.{task_at, block_at};
 ghost use Rattle.spec_state.specs.StateValue.{CoversPushes};
 ghost use Rattle.spec_state.specs.Tasks.{depth_of, descriptor_of, spilled_as};
 ghost use Rattle.spec_state.specs.Fronts.{name_given};
@@ -16,7 +16,6 @@ ghost use Rattle.spec_commit.specs.Spilling.{IsIdleTask, Spills, KeepsOtherSpare
 
 use crate::choosing::chosen_tasks;
 use crate::telling::tell_spilled;
-use fractal_vt::Vt;
 use rv_core::Naming;
 use spec_state::{MAX_MOVED, State, Task, TaskId, name_given};
 use std::alloc::AllocError;
@@ -55,21 +54,27 @@ fn reserve_pushes<N: Naming>(state: &mut State<N>, tile: u32) -> Result<(), Allo
     state.blocks.reserve(tile, MAX_MOVED)
 }
 
-/// Adds a task to the block of a tile, which has a push to spare.
-fn push_spilled<N: Naming>(state: &mut State<N>, tile: u32, desc: &Desc, domain: &Vt)
+/// Adds a task to the block of a tile, which has a push to spare. It stays where it is.
+fn push_spilled<N: Naming>(state: &mut State<N>, tile: u32, id: TaskId, desc: &Desc)
     requires tile { tile < state.old.view.settings.tiles }
+    requires live { IsSome (task_at state.old.view id.0) }
     requires spare { CoversPushes state.old tile 1 }
     requires desc { IsDesc desc.now }
-    requires domain { length domain.now + 1 ≡ desc.now.depth }
-    ensures view { state.new.view ≡ record state.old.view {
-      blocks = slice_set state.old.view.blocks tile
-          (after_push (block_at state.old.view tile) (record { desc = desc.now; domain = domain.now }));
-    } }
-    ensures spare { slice_index_or state.old.spare.blocks tile 0 ≤ slice_index_or state.new.spare.blocks tile 0 + 1 }
+    requires domain { IfSome (task_at state.old.view id.0)
+        (λ task. length task.key.domain + 1 ≡ desc.now.depth) }
+    ensures view { IfSome (task_at state.old.view id.0)
+        (λ task. state.new.view ≡ record state.old.view {
+          blocks = slice_set state.old.view.blocks tile
+              (after_push (block_at state.old.view tile)
+              (record { desc = desc.now; domain = task.key.domain }));
+        }) }
+    ensures spare { slice_index_or state.old.spare.blocks tile 0
+        ≤ slice_index_or state.new.spare.blocks tile 0 + 1 }
     ensures effect { state.new.effect ≡ state.old.effect }
     ensures others { KeepsOtherSpare tile state.old.spare state.new.spare }
 {
-    state.blocks.push(tile, desc, domain);
+    let task = &state.tasks[id.0];
+    state.blocks.push(tile, desc, &task.key.domain);
 }
 
 /// Moves an idle task into the block of a tile, which has a push to spare.
@@ -84,11 +89,10 @@ fn spill<N: Naming>(state: &mut State<N>, tile: u32, id: TaskId)
 {
     state.is_stored();
     let count = state.history.count();
-    let task = state.task(id);
-    let desc = spilled_desc(task, count);
-    let domain = task.key.domain.copy();
+    let desc = spilled_desc(state.task(id), count);
+    push_spilled(state, tile, id, &desc);
+    state.is_stored();
     state.take_out(id);
-    push_spilled(state, tile, &desc, &domain);
 }
 
 /// Moves the chosen tasks into the block of their tile, one after another, the least of them first.

@@ -1,8 +1,9 @@
-use Rattle.std.proofs.Common.{rules, ◌<◌, ◌≤◌, ◌+◌, length, ap, ◌∙◌, arith, slice_index_or}
+use Rattle.std.proofs.Common.{rules, ◌≡◌, Some, ◌<◌, ◌≤◌, ◌+◌, length, ap, ◌∙◌, arith, slice_index_or}
 use Rattle.spec_state.specs.StateValue.{StateValue}
+use Rattle.spec_state.specs.View.{task_at}
 use Rattle.spec_state.proofs.Proved.{spare_before}
 use Rattle.spec_commit.specs.Spilling.{KeepsOtherSpare}
-use Rattle.spec_commit.proofs.Blocks.{push_seen, spare_seen, other_spare, in_blocks, in_spares, in_spare}
+use Rattle.spec_commit.proofs.Blocks.{if_there, push_seen, spare_seen, other_spare, in_blocks, in_spares, in_spare}
 use Rattle.spec_commit.proofs.coalescing.push_spilled.Goals as goal
 
 pub push-requires-clause-spare : goal.push-requires-clause-spare
@@ -15,9 +16,12 @@ push-requires-clause-spare g c block is =
 pub returns-clause-view : goal.returns-clause-view
 returns-clause-view g c =
     let r = c.push.ensures in
-    in_blocks _ _ _ _ _ _ _ _ c.state.inside.queues.items c.state.inside.finished.items _ _ _ r.one.new_is
+    let x = c.index-task.result.now in
+    let at : task_at c.args.state.now.view c.args.id.0 ≡ Some x = search rules in
+    if_there _ x at _
+    (in_blocks _ _ _ _ _ _ _ _ c.state.inside.queues.items c.state.inside.finished.items _ _ _ r.one.new_is
     ∙ push_seen _ _ _ _ _ _ _ _ c.state.inside.queues.items c.state.inside.finished.items _ c.state.inside.blocks.items c.args.tile r.before r.after _ (search rules)
-    r.one.before_is r.tasks _ (ap (λ (v : StateValue). v.view) c.state.view_is)
+    r.one.before_is r.tasks _ (ap (λ (v : StateValue). v.view) c.state.view_is))
 
 pub returns-clause-spare : goal.returns-clause-spare
 returns-clause-spare g c =
