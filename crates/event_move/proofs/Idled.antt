@@ -50,20 +50,29 @@ module _ (view : View) (ids : List ℕ) where
     lesser : (b : TaskId) (was : IsIdlePick view ids count (Some b)) (less : Bool)
         → is_lt (key_cmp task.key was.task.key) ≡ less → Picked (count + 1)
     lesser b was true less =
-        let next = picks_lesser view ids count id task at there (Some b) b was.task refl was was.idle.there idle less in
+        let next = picks_lesser view ids count id task at there b.0 was.task was was.idle.there idle less in
         (Some (record { 0 = id }), next)
     lesser b was false less =
-        (Some b, keeps_first view ids count id task at there (Some b) b was.task refl was was.idle.there less)
+        (Some b, keeps_first view ids count id task at there b.0 was.task was was.idle.there (λ waits. less))
 
     with_idle : Picked count → Picked (count + 1)
-    with_idle (None, was) = (Some (record { 0 = id }), picks_only view ids count id task at there idle None refl was)
+    with_idle (None, was) = (Some (record { 0 = id }), picks_only view ids count id task at there idle was)
     with_idle (Some b, was) = lesser b was (is_lt (key_cmp task.key was.task.key)) refl
+
+  without_idle : (count id : ℕ) (task : Task) → slice_get ids count ≡ Some id → task_at view id ≡ Some task
+      → (task.status ≡ status.Idle → ⊥) → Picked count → Picked (count + 1)
+  without_idle count id task at there busy (None, was) =
+      (None, passes_busy view ids count id task at there busy was)
+  without_idle count id task at there busy (Some b, was) = (
+    Some b,
+    keeps_first view ids count id task at there b.0 was.task was was.idle.there (λ idle. absurd (busy idle)),
+  )
 
   picked_more : (count id : ℕ) (task : Task) → slice_get ids count ≡ Some id → task_at view id ≡ Some task
       → Picked count → Picked (count + 1)
   picked_more count id task at there was = elim (idle_or_not task.status) [
     | inl idle ↦ with_idle count id task at there idle was
-    | inr busy ↦ (was.0, passes_busy view ids count id task at there busy was.0 was.1)
+    | inr busy ↦ without_idle count id task at there busy was
   ]
 
   picked : ((id : ℕ) → Contains ids id → (task : Task) × (task_at view id ≡ Some task)) → (count : ℕ)
