@@ -1,14 +1,19 @@
 -- Marks of the tasks with which an access conflicts, as they grow.
 use Rattle.std.proofs.Common.{◌≡◌, ◌⊎◌, ◌+◌, ◌<◌, ◌≤◌, ℕ, Bool, true, false, List, [], Option, Some, None, refl}
-use Rattle.std.proofs.Common.{sym, ap, subst}
+use Rattle.std.proofs.Common.{zero, suc, sym, ap, subst, take, get_or, length-take, slice_index}
 use Rattle.std.proofs.Common.{◌∙◌, inl, inr, arith, length, replicate, set, slice_index_or, slice_get, option_map}
-use Rattle.std.specs.Prelude.{◌↔◌, IsSome, IfSome}
+use Rattle.std.specs.Prelude.{◌↔◌, Contains, IsSome, IfSome}
+use Rattle.std.specs.List.Sorted.{IsPermutation}
 use Rattle.std.proofs.lemmas.Bool.{cases_eq, cases_lt}
-use Rattle.std.proofs.lemmas.List.{get_or-set_other, get_or-set_same, length-map, length-replicate, length-set}
+use Rattle.std.proofs.lemmas.List.{get_or_read, get_or-set_other, get_or-set_same, get_or-take, length-map}
+use Rattle.std.proofs.lemmas.List.{length-replicate, length-set}
+use Rattle.std.proofs.lemmas.List.Elements.{Contains-get_or}
+use Rattle.std.proofs.lemmas.List.Sorted.{IsPermutation-sym, Contains-permutation}
+use Rattle.std.proofs.lemmas.List.Sums.{count_by-le-length}
 use Rattle.std.proofs.lemmas.Option.{slice_get-map}
 use Rattle.abort_cascade.specs.Cascade.{Marked}
 use Rattle.abort_cascade.specs.Growth.{IsListOf}
-use Rattle.abort_cascade.proofs.Proved.{IsListOf-none, IsListOf-mark, listed_below, unmarked}
+use Rattle.abort_cascade.proofs.Proved.{IsListOf-none, IsListOf-mark, listed_below, listed_front, unmarked}
 use Rattle.spec_state.specs.declared.task.Task.{Task}
 use Rattle.spec_state.specs.declared.task.TaskId.{TaskId}
 use Rattle.spec_state.specs.View.{core_ids}
@@ -331,3 +336,54 @@ tile_live cores finished count n tasks held ids within held_is ids_is live = (
     here id is =
         let one = (tile_more cores finished n (core_ids held) ids held_is ids_is id).1 (inr is) in
         live id (one.0, (let low = one.1 in omega (arith, low, within)), one.2)
+
+-- no more are listed than there are members
+pub found_within : (found : ℕ) (marks : List Bool) (members : List ℕ) → IsListed found marks members
+    → length members ≡ length marks → found ≤ length members
+found_within zero marks members listed same = omega arith
+found_within (suc found) marks members listed same =
+    let size = (listed (omega arith)).size in
+    let upto = count_by-le-length (λ (mark : Bool). mark) marks in
+    omega (arith, size, upto, same)
+
+-- a list of the marked ids in another order is one
+pub listed_again : (marks : List Bool) (before after : List ℕ) (found : ℕ) → found ≤ length before
+    → length after ≡ length before → IsPermutation (take found before) (take found after)
+    → IsListOf marks before found → IsListOf marks after found
+listed_again marks before after found within same permuted listed = record {
+  marked = λ k below. (all_marked (get_or after k 0)).1
+      (Contains-permutation (take found after) (take found before) (get_or after k 0)
+      (IsPermutation-sym (take found before) (take found after) permuted) (in_front k below));
+  all = λ node marked.
+      let has = Contains-permutation (take found before) (take found after) node permuted
+      ((all_marked node).0 marked) in
+      let below : has.0 < found = (let low = has.1 in omega (arith, low, length-take found after)) in (
+        has.0,
+        below,
+        sym (get_or_read after has.0 node (omega (arith, below, within, same))
+            (sym has.2 ∙ get_or-take found after has.0 node below) 0),
+      );
+  size = listed.size;
+}
+  where
+    all_marked : (node : ℕ) → Marked marks node ↔ Contains (take found before) node
+    all_marked node = listed_front marks before found node within listed
+
+    in_front : (k : ℕ) → k < found → Contains (take found after) (get_or after k 0)
+    in_front k below = subst (Contains (take found after)) (get_or-take found after k 0 below)
+        (Contains-get_or (take found after) k 0 (omega (arith, below, within, same, length-take found after)))
+
+-- what is found is found in whatever order it is listed behind what was
+pub finds_sorted : (test : ℕ → Bool) (these : ℕ → Type 0) (found now : ℕ) (old new : List Bool)
+    (before after sorted : List ℕ) → now ≤ length after → length sorted ≡ length after
+    → IsPermutation (take now after) (take now sorted)
+    → ((k : ℕ) → k < found → slice_index sorted k ≡ slice_index after k)
+    → Finds test these found old before now new after → Finds test these found old before now new sorted
+finds_sorted test these found now old new before after sorted within same permuted stay finds = record {
+  exact = finds.exact;
+  size = finds.size;
+  places = same ∙ finds.places;
+  listed = λ some. listed_again new after sorted now within same permuted (finds.listed some);
+  stay = λ k below. stay k below ∙ finds.stay k below;
+  more = finds.more;
+}

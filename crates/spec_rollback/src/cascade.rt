@@ -10,7 +10,7 @@ ghost use Rattle.spec_rollback.specs.Marking.{IsSeen, IsBelow, StandsIn, StandTa
 ghost use Rattle.spec_rollback.specs.Pulled.{is_creator, is_made_by, is_read_at, pull_in, store_conflicts_at};
 ghost use Rattle.spec_rollback.specs.Pulled.{some_store_conflicts_at, ListsMarked};
 
-use crate::marking::{ConflictQuery, Dispatched, add, mark_tiles};
+use crate::marking::{ConflictQuery, Dispatched, add, mark_tiles, sort_listed};
 use abort_cascade::{Spreader, close_listed};
 use kept_slab::KeptSlab;
 use rv_core::Naming;
@@ -240,8 +240,10 @@ impl Spreader for Cascade<'_> {
         found: usize,
     ) -> usize {
         let _slots = self.tasks.capacity();
-        let many = self.mark_children(node, marks, members, found);
-        self.mark_readers(node, marks, members, many)
+        let with_children = self.mark_children(node, marks, members, found);
+        let many = self.mark_readers(node, marks, members, with_children);
+        sort_listed(members, found, many);
+        many
     }
 }
 

@@ -1,7 +1,8 @@
 //! Marks of the tasks that are taken back first, and a list of them.
 
 ghost use Rattle.std.specs.Prelude.{◌≡◌, ◌<◌, ◌≤◌, ◌↔◌, ℕ, IsTrue, IsFalse, Some, IsSome, IfSome, length, true, false};
-ghost use Rattle.std.specs.Prelude.{Option, option_map};
+ghost use Rattle.std.specs.Prelude.{Option, option_map, slice_index, take};
+ghost use Rattle.std.specs.List.Sorted.{IsPermutation};
 ghost use Rattle.slab.specs.Slab.{get};
 ghost use Rattle.abort_cascade.specs.Cascade.{Marked};
 ghost use Rattle.abort_cascade.specs.Growth.{IsListOf};
@@ -81,7 +82,8 @@ pub(crate) trait Holder: Copy {
 }
 
 impl Holder for Option<TaskId> {
-    ghost use Rattle.std.specs.Prelude.{Option, option_map};
+    ghost use Rattle.std.specs.Prelude.{Option, option_map, slice_index, take};
+    ghost use Rattle.std.specs.List.Sorted.{IsPermutation};
 
     ghost held = { option_map (λ id. id.0) };
 
@@ -292,6 +294,48 @@ pub(crate) fn mark_tiles(
     many
 }
 
+/// Sorts the ids from a place on, the lowest first.
+fn sort_from(ids: &mut [usize], from: usize)
+    requires { from ≤ length ids.old }
+    ensures permuted { IsPermutation ids.old ids.new }
+    ensures stay { (k : ℕ) → k < from → slice_index ids.new k ≡ slice_index ids.old k }
+    ensures len { length ids.new ≡ length ids.old }
+{
+    ids[from..].sort_unstable();
+}
+
+/// Sorts the listed ids from one place up to another, the lowest first: so the order in which tasks are taken back
+/// doesn't hang on where they stand.
+pub(crate) fn sort_listed(members: &mut [usize], from: usize, upto: usize)
+    requires from { from ≤ upto }
+    requires upto { upto ≤ length members.old }
+    ensures permuted { IsPermutation (take upto members.old) (take upto members.new) }
+    ensures stay { (k : ℕ) → k < from → slice_index members.new k ≡ slice_index members.old k }
+    ensures places { length members.new ≡ length members.old }
+{
+    sort_from(&mut members[..upto], from);
+}
+
+/// The same where none was listed before, the lowest id first.
+fn mark_in_order(
+    access: &ConflictQuery<'_>,
+    tiles: &Dispatched<'_>,
+    marks: &mut [bool],
+    members: &mut [usize],
+) -> usize
+    requires marks { length access.now.tasks.now.slots ≤ length marks.old }
+    requires members { length members.old ≡ length marks.old }
+    requires live { StandTasksIn tiles.now access.now.tasks.now.slots }
+    requires tiles { length tiles.now.finished.now ≡ length tiles.now.cores.now }
+    ensures { let a = access.now in
+        let test = conflicts_at a.tasks.now.slots a.task.now a.line a.write in
+        Finds test (StandsIn tiles.now) 0 marks.old members.old result marks.new members.new }
+{
+    let many = mark_tiles(access, tiles, marks, members, 0);
+    sort_listed(members, 0, many);
+    many
+}
+
 /// Marks this task alone, and lists it.
 pub(crate) fn mark_one<N: Naming>(state: &mut State<N>, task: TaskId)
     requires live { IsSome (task_at state.old.view task.0) }
@@ -341,11 +385,10 @@ pub(crate) fn mark_conflicts<N: Naming>(
         cores: state.cores.as_slice(),
         finished: state.finished.as_slice(),
     };
-    mark_tiles(
+    mark_in_order(
         &access,
         &tiles,
         state.marks.as_mut_slice(),
         state.members.as_mut_slice(),
-        0,
     )
 }

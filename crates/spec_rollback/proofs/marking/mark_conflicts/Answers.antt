@@ -13,8 +13,8 @@ returns-then-is_alone-clause-found g c =
     none_found c.args.state.now.view _ c.args.line c.args.write c.args.state.now.scratch.marks
     (c.is_alone.ensures c.if-is_alone.true)
 
-pub mark_tiles-requires-clause-live : goal.mark_tiles-requires-clause-live
-mark_tiles-requires-clause-live g c = live_in g.N.Naming.image.data_size _ c.state.invariant.4
+pub mark_in_order-requires-clause-live : goal.mark_in_order-requires-clause-live
+mark_in_order-requires-clause-live g c = live_in g.N.Naming.image.data_size _ c.state.invariant.4
     (record { cores = c.as_slice.result; finished = c.as_slice-2.result })
     (ap (map (λ held. core_ids held.items)) c.as_slice.ensures.value)
     (ap (map (λ (q : QueueValue). q.ids)) c.as_slice-2.ensures.value)
@@ -30,5 +30,6 @@ returns-clause-found g c =
     (ap (map (λ held. core_ids held.items)) c.as_slice.ensures.value)
     (ap (map (λ (q : QueueValue). q.ids)) c.as_slice-2.ensures.value)
     (length c.as_slice.result.now) all c.args.task.0 c.index.result.now c.index.ensures c.args.line c.args.write
-    c.mark_tiles.result _ c.mark_tiles.new.marks _ _ _ c.mark_tiles.ensures
-    (put_back c.state.inside.marks.len c.mark_tiles.new.marks c.state.inside.marks.items (search rules) (search rules))
+    c.mark_in_order.result _ c.mark_in_order.new.marks _ _ _ c.mark_in_order.ensures
+    (put_back c.state.inside.marks.len c.mark_in_order.new.marks c.state.inside.marks.items (search rules)
+    (search rules))
