@@ -10,7 +10,7 @@ use crate::Pulls;
 ///
 /// What the marks were before does not matter. It goes over the marked nodes until a round marks nothing new: at
 /// most as many rounds as the set has nodes, each of at most one call of `pulls` for each of these and each node.
-/// Who has memory for the members calls `close`.
+/// Who has memory for the members calls `close`. It is library: the machine calls `close_listed`.
 pub fn mark<P: Pulls>(relation: &P, first: usize, marks: &mut [bool])
     requires len { length marks.old ≡ P.count relation.now }
     requires node { first < P.count relation.now }

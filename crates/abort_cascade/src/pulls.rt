@@ -6,7 +6,7 @@ ghost use Rattle.abort_cascade.specs.Growth.{Spreads, IsListOf};
 
 use crate::closing::spread_by_looks;
 
-/// A relation between the nodes below a number.
+/// A relation between the nodes below a number. It is library: the machine has a `Spreader`.
 pub trait Pulls {
     /// How many nodes there are: they are numbered from 0.
     ghost count: { Self → ℕ };

@@ -6,15 +6,15 @@
 #![tactic(auto)]
 
 ghost use Rattle.std.specs.Prelude.{◌≡◌, IsTrue};
-ghost use Rattle.spec_state.specs.Settings.{IsValid};
+ghost use Rattle.conflict_book.specs.spec_state.Settings.{IsValid};
 ghost use Rattle.conflict_book.specs.Ranges.{IsInRange};
 
+use conflict_book::spec_state::{FilterKind, Settings};
 use conflict_book::{Applied, Book, Event, Reply};
 use guest_image::Image;
 use load_gen::{Load, make};
 use place_policy::{ByHint, LeastLoaded, Placer, RoundRobin};
 use rv_core::{Naming, run_leg};
-use spec_state::{FilterKind, Settings};
 use std::alloc::{AllocError, Global};
 use std::marker::Brand;
 use std::{env, io};

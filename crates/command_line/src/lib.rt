@@ -12,3 +12,5 @@ mod splitting;
 pub use number::number_between;
 pub use reading::read_words;
 pub use request::{Command, Refusal, Request};
+pub use spec_state;
+pub use spec_state::serial_machine;

@@ -6,12 +6,12 @@ use Rattle.std.proofs.lemmas.List.{get_or_past}
 use Rattle.std.proofs.lemmas.List.Elements.{All-get_or}
 use Rattle.std.proofs.lemmas.Option.{slice_get_within}
 use Rattle.std.specs.Prelude.{IsSome, slice_get}
-use Rattle.spec_state.specs.declared.task.Status.TheVariants.{Running}
-use Rattle.spec_state.specs.declared.task.Task.{Task}
-use Rattle.spec_state.specs.Queries.{IsRunning}
-use Rattle.spec_state.specs.Stored.{HasCore, IsStored}
-use Rattle.spec_state.specs.View.{View, cores_at, task_at}
-use Rattle.spec_law.specs.Sound.{SoundSizes}
+use Rattle.event_step.specs.spec_state.declared.task.Status.TheVariants.{Running}
+use Rattle.event_step.specs.spec_state.declared.task.Task.{Task}
+use Rattle.event_step.specs.spec_state.Queries.{IsRunning}
+use Rattle.event_step.specs.spec_state.Stored.{HasCore, IsStored}
+use Rattle.event_step.specs.spec_state.View.{View, cores_at, task_at}
+use Rattle.event_step.specs.spec_law.Sound.{SoundSizes}
 
 module _ (size : ℕ) (view : View) (stored : IsStored size view) (tile core id : ℕ) (held : slice_get (cores_at view tile) core ≡ Some (Some id)) where
   -- a core holds a task that is there

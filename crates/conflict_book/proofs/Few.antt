@@ -1,9 +1,9 @@
 -- Few tasks are committed.
 use Rattle.std.proofs.Common.{arith, length, ◌<◌, ◌≤◌, ◌^◌}
 use Rattle.guest_image.specs.ImageValue.{ImageValue}
-use Rattle.serial_machine.specs.declared.limits.TheConstants.{MAX_COMMITS}
-use Rattle.spec_state.specs.View.{View}
-use Rattle.spec_law.specs.Sound.{Sound}
+use Rattle.event_step.specs.serial_machine.declared.limits.TheConstants.{MAX_COMMITS}
+use Rattle.event_step.specs.spec_state.View.{View}
+use Rattle.event_step.specs.spec_law.Sound.{Sound}
 
 -- their number has 32 bits
 pub few_commits : (image : ImageValue) (view : View) → Sound image view → length view.history < 2 ^ 32

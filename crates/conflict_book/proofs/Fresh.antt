@@ -2,19 +2,19 @@
 use Rattle.std.proofs.Common.{ℕ, ◌≡◌, ◌<◌, ◌≤◌, ◌⊎◌, inl, inr, Some, List, [], false, sym, ap, subst, ◌∙◌, arith}
 use Rattle.std.specs.Prelude.{length, slice_index_or, is_some, option_map}
 use Rattle.std.proofs.lemmas.Bool.{cases_eq}
-use Rattle.spec_state.specs.declared.task.Creator.TheVariants.{Committed}
-use Rattle.spec_state.specs.declared.task.Status.TheVariants.{Idle}
-use Rattle.spec_state.specs.declared.task.Task.{Task}
-use Rattle.spec_state.specs.Groups.{room_tasks, room_task}
-use Rattle.spec_state.specs.Opening.{Adds}
-use Rattle.spec_state.specs.Room.{Coalesces, QueueHasRoom, IsFull, IsMovable}
-use Rattle.spec_state.specs.Settings.{IsValid}
-use Rattle.spec_state.specs.Stored.{IsStored}
-use Rattle.spec_state.specs.View.{View, queue_at, task_at}
-use Rattle.event_law.proofs.Proved.{coalesced_was, kept_at, kept_fewer}
-use Rattle.task_law.specs.Room.{queue_after}
+use Rattle.event_step.specs.spec_state.declared.task.Creator.TheVariants.{Committed}
+use Rattle.event_step.specs.spec_state.declared.task.Status.TheVariants.{Idle}
+use Rattle.event_step.specs.spec_state.declared.task.Task.{Task}
+use Rattle.event_step.specs.spec_state.Groups.{room_tasks, room_task}
+use Rattle.event_step.specs.spec_state.Opening.{Adds}
+use Rattle.event_step.specs.spec_state.Room.{Coalesces, QueueHasRoom, IsFull, IsMovable}
+use Rattle.event_step.specs.spec_state.Settings.{IsValid}
+use Rattle.event_step.specs.spec_state.Stored.{IsStored}
+use Rattle.event_step.specs.spec_state.View.{View, queue_at, task_at}
+use Rattle.event_step.proofs.Below.event_law.Proved.{coalesced_was, kept_at, kept_fewer}
+use Rattle.event_step.specs.task_law.Room.{queue_after}
 use Rattle.conflict_book.specs.Fresh.{AreFresh}
-use Rattle.spec_law.proofs.Proved.{some_first, some_in}
+use Rattle.event_step.proofs.Below.spec_law.Proved.{some_first, some_in}
 
 -- in a full queue a fresh task may move
 pub fresh_moves : (size : ℕ) (view : View) (tile : ℕ) → IsStored size view → AreFresh view → IsValid view.settings

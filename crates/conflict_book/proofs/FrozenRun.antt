@@ -5,15 +5,15 @@ use Rattle.std.specs.List.Sorted.{IsSortedBy}
 use Rattle.guest_image.specs.ImageValue.{ImageValue}
 use Rattle.run_journal.specs.declared.closed.Closed.{Closed}
 use Rattle.run_journal.specs.declared.journal.Entry.{Entry}
-use Rattle.serial_machine.specs.declared.limits.TheConstants.{MAX_COMMITS}
-use Rattle.serial_machine.specs.Run.{IsRun}
-use Rattle.spec_state.specs.declared.pending.Pending.{Pending}
-use Rattle.spec_state.specs.View.{View}
-use Rattle.spec_state.specs.Pendings.{pending_before, pendings_in, RunLeaves}
-use Rattle.spec_law.specs.Sound.{Sound}
-use Rattle.spec_law.proofs.Proved.{undo_all_is_serial}
-use Rattle.event_def.specs.Book.{BookView}
-use Rattle.event_def.specs.Closing.{Closes}
+use Rattle.event_step.specs.serial_machine.declared.limits.TheConstants.{MAX_COMMITS}
+use Rattle.event_step.specs.serial_machine.Run.{IsRun}
+use Rattle.event_step.specs.spec_state.declared.pending.Pending.{Pending}
+use Rattle.event_step.specs.spec_state.View.{View}
+use Rattle.event_step.specs.spec_state.Pendings.{pending_before, pendings_in, RunLeaves}
+use Rattle.event_step.specs.spec_law.Sound.{Sound}
+use Rattle.event_step.proofs.Below.spec_law.Proved.{undo_all_is_serial}
+use Rattle.event_step.specs.event_def.Book.{BookView}
+use Rattle.event_step.specs.event_def.Closing.{Closes}
 use Rattle.pending_law.proofs.Proved.{pendings_are_serial}
 
 -- what is closed has the book's journal for its own

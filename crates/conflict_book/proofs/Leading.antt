@@ -3,20 +3,21 @@ use Rattle.std.proofs.Common.{ℕ, ◌≡◌, ◌≤◌, Some, sym, ap, subst, r
 use Rattle.std.specs.Prelude.{IfSome}
 use Rattle.guest_image.specs.ImageValue.{ImageValue}
 use Rattle.rv_core.specs.LegValue.{LegValue}
-use Rattle.spec_state.specs.declared.task.Task.{Task}
-use Rattle.spec_state.specs.declared.task.TaskId.{TaskId}
-use Rattle.spec_state.specs.declared.task.Where.TheVariants as where_
-use Rattle.spec_state.specs.Changes.{TakesLeg}
-use Rattle.spec_state.specs.Least.{IsLeast, IsLeastSpilled, IsLeastTask}
-use Rattle.spec_state.specs.Queries.{IsLeastIdle}
-use Rattle.spec_state.specs.View.{View, task_at}
-use Rattle.spec_state.specs.Stored.{HasCore}
-use Rattle.spec_law.specs.Sound.{Sound}
-use Rattle.event_def.specs.declared.event.Event.TheVariants as event
-use Rattle.event_def.specs.Advancing.{IsLegFrom, IsNextEvent}
-use Rattle.event_def.specs.End.{IsOver}
-use Rattle.event_law.proofs.Proved.{running_within}
-use Rattle.event_basis.proofs.Proved.{least_idle, next_is_commit, next_is_dispatch, next_is_split, next_is_step}
+use Rattle.event_step.specs.spec_state.declared.task.Task.{Task}
+use Rattle.event_step.specs.spec_state.declared.task.TaskId.{TaskId}
+use Rattle.event_step.specs.spec_state.declared.task.Where.TheVariants as where_
+use Rattle.event_step.specs.spec_state.Changes.{TakesLeg}
+use Rattle.event_step.specs.spec_state.Least.{IsLeast, IsLeastSpilled, IsLeastTask}
+use Rattle.event_step.specs.spec_state.Queries.{IsLeastIdle}
+use Rattle.event_step.specs.spec_state.View.{View, task_at}
+use Rattle.event_step.specs.spec_state.Stored.{HasCore}
+use Rattle.event_step.specs.spec_law.Sound.{Sound}
+use Rattle.event_step.specs.event_def.declared.event.Event.TheVariants as event
+use Rattle.event_step.specs.event_def.Advancing.{IsLegFrom, IsNextEvent}
+use Rattle.event_step.specs.event_def.End.{IsOver}
+use Rattle.event_step.proofs.Below.event_law.Proved.{running_within}
+use Rattle.event_step.proofs.Below.event_basis.Proved.{least_idle, next_is_commit, next_is_dispatch, next_is_split}
+use Rattle.event_step.proofs.Below.event_basis.Proved.{next_is_step}
 
 -- the tile that is read of the task of this id
 abbrev pub ReadsTile : View → TaskId → ℕ → Type 0

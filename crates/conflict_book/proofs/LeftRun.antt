@@ -1,11 +1,11 @@
 -- What a closed book leaves is a run.
 use Rattle.guest_image.specs.ImageValue.{ImageValue}
-use Rattle.run_law.proofs.Proved.{lawful}
-use Rattle.spec_law.specs.Sound.{Sound}
+use Rattle.event_step.proofs.Below.run_law.Proved.{lawful}
+use Rattle.event_step.specs.spec_law.Sound.{Sound}
 use Rattle.run_journal.specs.declared.closed.Closed.{Closed}
-use Rattle.event_def.specs.Book.{BookView}
-use Rattle.event_def.specs.Closing.{Closes}
-use Rattle.event_law.proofs.Proved.{close_is_serial}
+use Rattle.event_step.specs.event_def.Book.{BookView}
+use Rattle.event_step.specs.event_def.Closing.{Closes}
+use Rattle.event_step.proofs.Below.event_law.Proved.{close_is_serial}
 use Rattle.conflict_book.specs.Left.{LeavesLawfulRun}
 
 -- a sound book that is closed leaves a run, which keeps the laws of runs

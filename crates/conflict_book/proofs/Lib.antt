@@ -12,3 +12,4 @@ mod Lists
 mod Settled
 mod Few
 pub mod Proved
+pub mod Below

@@ -2,11 +2,11 @@
 use Rattle.std.proofs.Common.{ℕ, ◌≡◌, ◌+◌, ◌∷◌, ◌++◌, ◌<◌, List, [], length, take, refl, sym, ap, subst, ◌∙◌, arith}
 use Rattle.std.specs.Prelude.{slice_index_or}
 use Rattle.std.proofs.lemmas.List.{length-append, take_more}
-use Rattle.event_def.specs.declared.event.Applied.{Applied}
-use Rattle.event_def.specs.declared.event.Event.{Event}
-use Rattle.event_def.specs.Book.{BookView}
-use Rattle.event_def.specs.Happens.{Happens, HappenAll}
-use Rattle.event_law.proofs.Proved.{events_join}
+use Rattle.event_step.specs.event_def.declared.event.Applied.{Applied}
+use Rattle.event_step.specs.event_def.declared.event.Event.{Event}
+use Rattle.event_step.specs.event_def.Book.{BookView}
+use Rattle.event_step.specs.event_def.Happens.{Happens, HappenAll}
+use Rattle.event_step.proofs.Below.event_law.Proved.{events_join}
 
 -- one event more
 pub one_more : (N : Type 0) (old mid new : BookView) (events : List (Event N)) (i : ℕ) (event : Event N) (answers : List Applied) (applied : Applied)

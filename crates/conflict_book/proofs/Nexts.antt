@@ -37,33 +37,33 @@ use Rattle.task_request.specs.declared.request.Request.TheVariants.{
 use Rattle.trace_tap.specs.declared.record.Deed.{Deed}
 use Rattle.trace_tap.specs.declared.record.Record.{Record}
 use Rattle.trace_tap.specs.TapValue.{TapValue}
-use Rattle.spec_state.specs.Effects.{EffectValue, nothing}
-use Rattle.spec_state.specs.View.{View}
-use Rattle.spec_law.specs.Sound.{Sound}
-use Rattle.event_def.specs.declared.event.Advance.{Advance}
-use Rattle.event_def.specs.declared.event.Advance.TheVariants as answers
-use Rattle.event_def.specs.declared.event.Came.{Came}
-use Rattle.event_def.specs.declared.event.Came.TheVariants.{Made, Refused}
-use Rattle.event_def.specs.declared.event.Event.{Event}
-use Rattle.event_def.specs.declared.event.Event.TheVariants as event
-use Rattle.event_def.specs.declared.event.Halt.{Halt}
-use Rattle.event_def.specs.declared.event.Halt.TheVariants as halts
-use Rattle.event_def.specs.declared.event.Reply.{Reply}
-use Rattle.event_def.specs.declared.event.Reply.TheVariants as replies
-use Rattle.event_def.specs.Advancing.{AdvanceAnswers, AdvancesBy, IsNextEvent}
-use Rattle.event_def.specs.Book.{BookView, CountedView}
-use Rattle.event_def.specs.Comes.{IsAsBefore}
-use Rattle.event_def.specs.Happens.{Happens}
-use Rattle.event_def.specs.Telling.{AdvanceTelling, ComesTelling}
-use Rattle.event_def.specs.Trace.{deed_of}
-use Rattle.event_law.proofs.Proved.{
+use Rattle.event_step.specs.spec_state.Effects.{EffectValue, nothing}
+use Rattle.event_step.specs.spec_state.View.{View}
+use Rattle.event_step.specs.spec_law.Sound.{Sound}
+use Rattle.event_step.specs.event_def.declared.event.Advance.{Advance}
+use Rattle.event_step.specs.event_def.declared.event.Advance.TheVariants as answers
+use Rattle.event_step.specs.event_def.declared.event.Came.{Came}
+use Rattle.event_step.specs.event_def.declared.event.Came.TheVariants.{Made, Refused}
+use Rattle.event_step.specs.event_def.declared.event.Event.{Event}
+use Rattle.event_step.specs.event_def.declared.event.Event.TheVariants as event
+use Rattle.event_step.specs.event_def.declared.event.Halt.{Halt}
+use Rattle.event_step.specs.event_def.declared.event.Halt.TheVariants as halts
+use Rattle.event_step.specs.event_def.declared.event.Reply.{Reply}
+use Rattle.event_step.specs.event_def.declared.event.Reply.TheVariants as replies
+use Rattle.event_step.specs.event_def.Advancing.{AdvanceAnswers, AdvancesBy, IsNextEvent}
+use Rattle.event_step.specs.event_def.Book.{BookView, CountedView}
+use Rattle.event_step.specs.event_def.Comes.{IsAsBefore}
+use Rattle.event_step.specs.event_def.Happens.{Happens}
+use Rattle.event_step.specs.event_def.Telling.{AdvanceTelling, ComesTelling}
+use Rattle.event_step.specs.event_def.Trace.{deed_of}
+use Rattle.event_step.proofs.Below.event_law.Proved.{
   advances_fall,
   least_event_is_granted,
   least_events_are_few,
   next_event_is_given,
   rest_is_there,
 }
-use Rattle.event_basis.proofs.Proved.{comes_stays_sound}
+use Rattle.event_step.proofs.Below.event_basis.Proved.{comes_stays_sound}
 use Rattle.conflict_book.specs.Halting.{FallsIfMoved, AdvanceGoesOn, NextComes, RunsLeast, advance_by, advance_of}
 use Rattle.conflict_book.specs.Halting.{last_answer}
 use Rattle.conflict_book.specs.BookViews.{going_book, after_event}

@@ -3,15 +3,15 @@ use Rattle.std.proofs.Common.{ℕ, ◌≡◌, List, length, sym, ap, subst, ◌�
 use Rattle.guest_image.specs.ImageValue.{ImageValue}
 use Rattle.place_policy.specs.Policy.{Policy}
 use Rattle.trace_tap.specs.TapValue.{TapValue}
-use Rattle.spec_state.specs.declared.settings.Settings.{Settings}
-use Rattle.spec_state.specs.Effects.{EffectValue}
-use Rattle.spec_state.specs.View.{View}
-use Rattle.spec_law.specs.Sound.{Sound}
-use Rattle.event_def.specs.declared.event.Came.{Came}
-use Rattle.event_def.specs.declared.event.Event.{Event}
-use Rattle.event_def.specs.declared.event.Event.TheVariants as event
-use Rattle.event_def.specs.Telling.{ComesTelling}
-use Rattle.event_def.specs.Book.{book_of}
+use Rattle.event_step.specs.spec_state.declared.settings.Settings.{Settings}
+use Rattle.event_step.specs.spec_state.Effects.{EffectValue}
+use Rattle.event_step.specs.spec_state.View.{View}
+use Rattle.event_step.specs.spec_law.Sound.{Sound}
+use Rattle.event_step.specs.event_def.declared.event.Came.{Came}
+use Rattle.event_step.specs.event_def.declared.event.Event.{Event}
+use Rattle.event_step.specs.event_def.declared.event.Event.TheVariants as event
+use Rattle.event_step.specs.event_def.Telling.{ComesTelling}
+use Rattle.event_step.specs.event_def.Book.{book_of}
 use Rattle.event_move.specs.Moving.{CommitComes, placers_after}
 use Rattle.conflict_book.proofs.Telling.{comes_keeps_settings}
 

@@ -5,8 +5,8 @@ use Rattle.std.specs.List.{enumerate_from}
 use Rattle.std.proofs.lemmas.List.{drop_more}
 use Rattle.guest_image.specs.declared.image.ImageTask.{ImageTask}
 use Rattle.guest_image.specs.declared.image.Kind.{Kind}
-use Rattle.event_def.specs.Book.{BookView}
-use Rattle.event_def.specs.Opening.{PlacesImageTask, PlacesAll}
+use Rattle.event_step.specs.event_def.Book.{BookView}
+use Rattle.event_step.specs.event_def.Opening.{PlacesImageTask, PlacesAll}
 
 -- whatever the tasks from a place on lead to from this book, all of them lead to from the first one
 abbrev pub LeadsOn : Kind → List ImageTask → ℕ → BookView → BookView → Type 0

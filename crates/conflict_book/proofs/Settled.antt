@@ -1,16 +1,16 @@
 -- An advance leaves the settings as they are.
 use Rattle.std.proofs.Common.{◌≡◌, ◌⊎◌, inl, inr, refl, ap, ℕ, true}
 use Rattle.guest_image.specs.ImageValue.{ImageValue}
-use Rattle.spec_law.specs.Sound.{Sound}
-use Rattle.event_def.specs.declared.event.Advance.{Advance}
-use Rattle.event_def.specs.declared.event.Advance.TheVariants as answers
-use Rattle.event_def.specs.declared.event.Event.{Event}
-use Rattle.event_def.specs.declared.event.Event.TheVariants as event
-use Rattle.event_def.specs.declared.event.Reply.TheVariants as replies
-use Rattle.event_def.specs.Advancing.{AdvanceAnswers, Advances, IsNextEvent}
-use Rattle.event_def.specs.Book.{BookView}
-use Rattle.event_def.specs.Happens.{Happens}
-use Rattle.event_law.proofs.Proved.{least_events_are_few}
+use Rattle.event_step.specs.spec_law.Sound.{Sound}
+use Rattle.event_step.specs.event_def.declared.event.Advance.{Advance}
+use Rattle.event_step.specs.event_def.declared.event.Advance.TheVariants as answers
+use Rattle.event_step.specs.event_def.declared.event.Event.{Event}
+use Rattle.event_step.specs.event_def.declared.event.Event.TheVariants as event
+use Rattle.event_step.specs.event_def.declared.event.Reply.TheVariants as replies
+use Rattle.event_step.specs.event_def.Advancing.{AdvanceAnswers, Advances, IsNextEvent}
+use Rattle.event_step.specs.event_def.Book.{BookView}
+use Rattle.event_step.specs.event_def.Happens.{Happens}
+use Rattle.event_step.proofs.Below.event_law.Proved.{least_events_are_few}
 
 one_settled : (N : Type 0) (image : ImageValue) (old new : BookView) (aborted : ℕ) → Sound image old.view
     → Advances N image old aborted new

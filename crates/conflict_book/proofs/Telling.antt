@@ -4,20 +4,20 @@ use Rattle.guest_image.specs.ImageValue.{ImageValue}
 use Rattle.place_policy.specs.Policy.{Policy}
 use Rattle.trace_tap.specs.declared.record.Record.{Record}
 use Rattle.trace_tap.specs.TapValue.{TapValue}
-use Rattle.spec_state.specs.Effects.{EffectValue, nothing}
-use Rattle.spec_state.specs.View.{View}
-use Rattle.spec_law.specs.Sound.{Sound}
-use Rattle.event_def.specs.declared.event.Came.{Came}
-use Rattle.event_def.specs.declared.event.Came.TheVariants.{Made, Refused}
-use Rattle.event_def.specs.declared.event.Event.{Event}
-use Rattle.event_def.specs.declared.event.Reply.{Reply}
-use Rattle.event_def.specs.declared.event.Reply.TheVariants as replies
-use Rattle.event_def.specs.Book.{BookView, CountedView}
-use Rattle.event_def.specs.Comes.{Comes, IsAsBefore}
-use Rattle.event_def.specs.Events.{IsGiven}
-use Rattle.event_def.specs.Happens.{Happens, IsUnchanged}
-use Rattle.event_def.specs.Telling.{ComesTelling, HappensTelling, TellsHappening}
-use Rattle.event_basis.proofs.Proved.{makes_keeps_settings}
+use Rattle.event_step.specs.spec_state.Effects.{EffectValue, nothing}
+use Rattle.event_step.specs.spec_state.View.{View}
+use Rattle.event_step.specs.spec_law.Sound.{Sound}
+use Rattle.event_step.specs.event_def.declared.event.Came.{Came}
+use Rattle.event_step.specs.event_def.declared.event.Came.TheVariants.{Made, Refused}
+use Rattle.event_step.specs.event_def.declared.event.Event.{Event}
+use Rattle.event_step.specs.event_def.declared.event.Reply.{Reply}
+use Rattle.event_step.specs.event_def.declared.event.Reply.TheVariants as replies
+use Rattle.event_step.specs.event_def.Book.{BookView, CountedView}
+use Rattle.event_step.specs.event_def.Comes.{Comes, IsAsBefore}
+use Rattle.event_step.specs.event_def.Events.{IsGiven}
+use Rattle.event_step.specs.event_def.Happens.{Happens, IsUnchanged}
+use Rattle.event_step.specs.event_def.Telling.{ComesTelling, HappensTelling, TellsHappening}
+use Rattle.event_step.proofs.Below.event_basis.Proved.{makes_keeps_settings}
 use Rattle.conflict_book.specs.BookViews.{going_book, after_event}
 
 -- the book with another view and other placers

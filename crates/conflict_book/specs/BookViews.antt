@@ -3,9 +3,9 @@ use Rattle.std.specs.Prelude.{ℕ, false, List, map}
 use Rattle.place_policy.specs.Policy.{Policy}
 use Rattle.trace_tap.specs.declared.record.Record.{Record}
 use Rattle.trace_tap.specs.TapValue.{TapValue, after_note}
-use Rattle.spec_state.specs.Effects.{EffectValue}
-use Rattle.spec_state.specs.View.{View}
-use Rattle.event_def.specs.Book.{BookView, CountedView, next_count}
+use Rattle.event_step.specs.spec_state.Effects.{EffectValue}
+use Rattle.event_step.specs.spec_state.View.{View}
+use Rattle.event_step.specs.event_def.Book.{BookView, CountedView, next_count}
 use Rattle.conflict_book.specs.declared.book.Book.{Book}
 
 -- what is seen of a book, by what its placers and its taps mean

@@ -1,7 +1,7 @@
 -- How far a run has come.
 use Rattle.std.specs.Prelude.{length}
 use Rattle.progress_cell.specs.declared.reading.Reading.{Reading}
-use Rattle.spec_state.specs.View.{View}
+use Rattle.event_step.specs.spec_state.View.{View}
 
 -- how many tasks are committed, and how many bytes these emitted
 abbrev pub counts_of : View → Reading

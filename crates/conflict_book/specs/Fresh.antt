@@ -1,9 +1,9 @@
 -- A view in which nothing has run yet.
 use Rattle.std.specs.Prelude.{◌≡◌, ℕ, Some}
-use Rattle.spec_state.specs.declared.task.Creator.TheVariants.{Committed}
-use Rattle.spec_state.specs.declared.task.Status.TheVariants.{Idle}
-use Rattle.spec_state.specs.declared.task.Task.{Task}
-use Rattle.spec_state.specs.View.{View, task_at}
+use Rattle.event_step.specs.spec_state.declared.task.Creator.TheVariants.{Committed}
+use Rattle.event_step.specs.spec_state.declared.task.Status.TheVariants.{Idle}
+use Rattle.event_step.specs.spec_state.declared.task.Task.{Task}
+use Rattle.event_step.specs.spec_state.View.{View, task_at}
 
 -- each task is idle, and was made by the image
 abbrev pub AreFresh : View → Type 0

@@ -1,7 +1,7 @@
 -- What a frozen book means.
 use Rattle.std.specs.Prelude.{ℕ}
 use Rattle.guest_image.specs.ImageValue.{ImageValue}
-use Rattle.spec_state.specs.Pendings.{RunLeaves}
+use Rattle.event_step.specs.spec_state.Pendings.{RunLeaves}
 use Rattle.conflict_book.specs.declared.freezing.Frozen.{Frozen}
 
 -- what a stopped run of the image left

@@ -2,20 +2,20 @@
 use Rattle.std.specs.Prelude.{◌≡◌, ◌+◌, ◌*◌, ◌<◌, ◌≤◌, ℕ, List, length}
 use Rattle.guest_image.specs.ImageValue.{ImageValue}
 use Rattle.place_policy.specs.Policy.{Policy}
-use Rattle.spec_state.specs.Effects.{EffectValue}
-use Rattle.spec_state.specs.View.{View}
+use Rattle.event_step.specs.spec_state.Effects.{EffectValue}
+use Rattle.event_step.specs.spec_state.View.{View}
 use Rattle.trace_tap.specs.declared.record.Deed.{Deed}
 use Rattle.trace_tap.specs.declared.record.Deed.TheVariants as deed
 use Rattle.trace_tap.specs.declared.record.Record.{Record}
-use Rattle.event_def.specs.declared.event.Advance.{Advance}
-use Rattle.event_def.specs.declared.event.Advance.TheVariants as answers
-use Rattle.event_def.specs.declared.event.Came.{Came}
-use Rattle.event_def.specs.declared.event.Event.{Event}
-use Rattle.event_def.specs.declared.event.Halt.{Halt}
-use Rattle.event_def.specs.declared.event.Halt.TheVariants as halts
-use Rattle.event_def.specs.Advancing.{AdvanceAnswers, AdvancesBy, HasRest, IsNextEvent}
-use Rattle.event_def.specs.Book.{BookView}
-use Rattle.event_def.specs.Telling.{ComesTelling}
+use Rattle.event_step.specs.event_def.declared.event.Advance.{Advance}
+use Rattle.event_step.specs.event_def.declared.event.Advance.TheVariants as answers
+use Rattle.event_step.specs.event_def.declared.event.Came.{Came}
+use Rattle.event_step.specs.event_def.declared.event.Event.{Event}
+use Rattle.event_step.specs.event_def.declared.event.Halt.{Halt}
+use Rattle.event_step.specs.event_def.declared.event.Halt.TheVariants as halts
+use Rattle.event_step.specs.event_def.Advancing.{AdvanceAnswers, AdvancesBy, HasRest, IsNextEvent}
+use Rattle.event_step.specs.event_def.Book.{BookView}
+use Rattle.event_step.specs.event_def.Telling.{ComesTelling}
 
 -- what comes of the event for the least task, and what it tells
 abbrev pub NextComes : Type 0 → ImageValue → BookView → Came → View → List Policy → EffectValue → Type 0

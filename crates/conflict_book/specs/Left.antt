@@ -1,9 +1,9 @@
 -- What a closed book means.
 use Rattle.std.specs.Prelude.{◌≡◌, ℕ}
 use Rattle.guest_image.specs.ImageValue.{ImageValue}
-use Rattle.run_law.specs.Laws.{AreLawful}
-use Rattle.serial_machine.specs.Run.{IsRun}
-use Rattle.serial_machine.specs.State.{SerialState}
+use Rattle.event_step.specs.run_law.Laws.{AreLawful}
+use Rattle.event_step.specs.serial_machine.Run.{IsRun}
+use Rattle.event_step.specs.serial_machine.State.{SerialState}
 use Rattle.run_journal.specs.declared.closed.Closed.{Closed}
 
 -- the journal is a run of the serial machine, with this memory and output, and keeps the laws of runs

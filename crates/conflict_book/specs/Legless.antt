@@ -1,6 +1,6 @@
 -- The event that one without a leg is.
-use Rattle.event_def.specs.declared.event.Event.{Event}
-use Rattle.event_def.specs.declared.event.Event.TheVariants as event
+use Rattle.event_step.specs.event_def.declared.event.Event.{Event}
+use Rattle.event_step.specs.event_def.declared.event.Event.TheVariants as event
 use Rattle.conflict_book.specs.declared.legless.Legless.{Legless}
 use Rattle.conflict_book.specs.declared.legless.Legless.TheVariants as legless
 

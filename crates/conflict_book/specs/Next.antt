@@ -2,11 +2,11 @@
 use Rattle.std.specs.Prelude.{◌≡◌, List}
 use Rattle.guest_image.specs.ImageValue.{ImageValue}
 use Rattle.place_policy.specs.Policy.{Policy}
-use Rattle.spec_state.specs.Effects.{EffectValue, nothing}
-use Rattle.spec_state.specs.View.{View}
-use Rattle.event_def.specs.Book.{BookView}
-use Rattle.event_def.specs.Comes.{IsAsBefore}
-use Rattle.event_def.specs.End.{HasEnd}
+use Rattle.event_step.specs.spec_state.Effects.{EffectValue, nothing}
+use Rattle.event_step.specs.spec_state.View.{View}
+use Rattle.event_step.specs.event_def.Book.{BookView}
+use Rattle.event_step.specs.event_def.Comes.{IsAsBefore}
+use Rattle.event_step.specs.event_def.End.{HasEnd}
 use Rattle.conflict_book.specs.declared.advancing.NextEvent.{NextEvent}
 use Rattle.conflict_book.specs.declared.advancing.NextEvent.TheVariants.{Over, Came}
 use Rattle.conflict_book.specs.Halting.{NextComes}

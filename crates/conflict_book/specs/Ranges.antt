@@ -1,8 +1,8 @@
 -- Which events may be handed to a book.
 use Rattle.std.specs.Prelude.{◌<◌}
-use Rattle.spec_state.specs.declared.settings.Settings.{Settings}
-use Rattle.event_def.specs.declared.event.Event.{Event}
-use Rattle.event_def.specs.declared.event.Event.TheVariants as event
+use Rattle.event_step.specs.spec_state.declared.settings.Settings.{Settings}
+use Rattle.event_step.specs.event_def.declared.event.Event.{Event}
+use Rattle.event_step.specs.event_def.declared.event.Event.TheVariants as event
 
 -- the event's tile and core are there
 abbrev pub IsInRange : {N : Type 0} → Settings → Event N → Type 0

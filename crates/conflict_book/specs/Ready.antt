@@ -1,9 +1,9 @@
 -- A tile with an idle task and a core that holds none, and the kept core of a running task.
 use Rattle.std.specs.Prelude.{◌≡◌, ℕ}
 use Rattle.rv_core.specs.declared.state.Core.{Core}
-use Rattle.spec_state.specs.declared.task.Task.{Task}
-use Rattle.spec_state.specs.Queries.{IsFreeCore, IsIdle, IsRunning}
-use Rattle.spec_state.specs.View.{View}
+use Rattle.event_step.specs.spec_state.declared.task.Task.{Task}
+use Rattle.event_step.specs.spec_state.Queries.{IsFreeCore, IsIdle, IsRunning}
+use Rattle.event_step.specs.spec_state.View.{View}
 
 -- the tile has an idle task, and a core that holds no task
 abbrev pub IsReady : View → ℕ → Type 0

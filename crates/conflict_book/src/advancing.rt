@@ -3,16 +3,16 @@
 ghost use Rattle.std.specs.Prelude.{◌≡◌, ◌≤◌, ◌+◌, ◌*◌, ℕ, List, IfSome, IsNone, map};
 ghost use Rattle.place_policy.specs.Policy.{Policy};
 ghost use Rattle.trace_tap.specs.TapValue.{TapValue};
-ghost use Rattle.spec_law.specs.Sound.{Sound};
-ghost use Rattle.spec_state.specs.Effects.{nothing};
-ghost use Rattle.spec_state.specs.declared.task.Task.{Task};
-ghost use Rattle.spec_state.specs.declared.task.Where.TheVariants as where_;
-ghost use Rattle.spec_state.specs.Least.{IsLeast, IsLeastTask, IsLeastSpilled};
-ghost use Rattle.spec_state.specs.Settings.{IsValid};
-ghost use Rattle.event_def.specs.Advancing.{AdvanceAnswers, HasRest, IsLegFrom};
-ghost use Rattle.event_def.specs.End.{IsOver};
-ghost use Rattle.event_def.specs.Book.{book_of};
-ghost use Rattle.event_def.specs.Telling.{AdvanceTelling};
+ghost use Rattle.event_step.specs.spec_law.Sound.{Sound};
+ghost use Rattle.event_step.specs.spec_state.Effects.{nothing};
+ghost use Rattle.event_step.specs.spec_state.declared.task.Task.{Task};
+ghost use Rattle.event_step.specs.spec_state.declared.task.Where.TheVariants as where_;
+ghost use Rattle.event_step.specs.spec_state.Least.{IsLeast, IsLeastTask, IsLeastSpilled};
+ghost use Rattle.event_step.specs.spec_state.Settings.{IsValid};
+ghost use Rattle.event_step.specs.event_def.Advancing.{AdvanceAnswers, HasRest, IsLegFrom};
+ghost use Rattle.event_step.specs.event_def.End.{IsOver};
+ghost use Rattle.event_step.specs.event_def.Book.{book_of};
+ghost use Rattle.event_step.specs.event_def.Telling.{AdvanceTelling};
 ghost use Rattle.conflict_book.specs.Halting.{FallsIfMoved, AdvanceGoesOn, NextComes, RunsLeast};
 ghost use Rattle.conflict_book.specs.Halting.{advance_of, last_answer};
 ghost use Rattle.conflict_book.specs.Next.{ComesNext};
@@ -20,15 +20,15 @@ ghost use Rattle.conflict_book.specs.BookViews.{effect_of, going_book, machine_v
 
 use crate::book::{Book, SoundState};
 use crate::events::pass_after;
-use event_def::{Advance, Came, Halt};
 use event_move::{make_commit, make_dispatch, make_split};
-use event_prelude::end_with;
+use event_step::event_def::{Advance, Came, Halt};
+use event_step::event_prelude::end_with;
 use event_step::make_step;
+use event_step::serial_machine::End;
+use event_step::spec_state::{Settings, State, TaskId, Where};
 use guest_image::Image;
 use place_policy::Placer;
 use rv_core::{Leg, Naming};
-use serial_machine::End;
-use spec_state::{Settings, State, TaskId, Where};
 use trace_tap::{Deed, Record, Tap};
 
 /// Runs the leg of a running task from its kept core, with the quantum of the settings.

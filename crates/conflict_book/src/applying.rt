@@ -2,16 +2,16 @@
 
 ghost use Rattle.std.specs.Prelude.{◌≡◌, ◌+◌, ◌<◌, ◌≤◌, ◌++◌, ◌∷◌, [], All, IfOk, OnErr};
 ghost use Rattle.std.specs.Prelude.{length, map, vec_capacity};
-ghost use Rattle.event_def.specs.Happens.{Happens, HappenAll};
-ghost use Rattle.event_def.specs.Telling.{HappensTelling};
-ghost use Rattle.event_def.specs.declared.event.Event.TheVariants as event;
+ghost use Rattle.event_step.specs.event_def.Happens.{Happens, HappenAll};
+ghost use Rattle.event_step.specs.event_def.Telling.{HappensTelling};
+ghost use Rattle.event_step.specs.event_def.declared.event.Event.TheVariants as event;
 ghost use Rattle.conflict_book.specs.Legless.{event_of};
 ghost use Rattle.conflict_book.specs.Ranges.{IsInRange};
 ghost use Rattle.conflict_book.specs.BookViews.{after_event, effect_of, machine_view, view_of};
 
 use crate::book::Book;
 use crate::legless::Legless;
-use event_def::{Applied, Came, Event, Reply};
+use event_step::event_def::{Applied, Came, Event, Reply};
 use place_policy::Placer;
 use rv_core::{Leg, Naming};
 use std::alloc::AllocError;

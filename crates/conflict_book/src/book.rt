@@ -1,13 +1,13 @@
 //! The book, and the sound state in it.
 
 ghost use Rattle.std.specs.Prelude.{◌≡◌};
-ghost use Rattle.spec_state.specs.Effects.{nothing};
-ghost use Rattle.event_def.specs.Book.{next_count};
-ghost use Rattle.spec_law.specs.Sound.{Sound};
+ghost use Rattle.event_step.specs.spec_state.Effects.{nothing};
+ghost use Rattle.event_step.specs.event_def.Book.{next_count};
+ghost use Rattle.event_step.specs.spec_law.Sound.{Sound};
 
+use event_step::spec_state::State;
 use place_policy::Placer;
 use rv_core::{Leg, Naming};
-use spec_state::State;
 use std::marker::Model;
 use trace_tap::Tap;
 
@@ -21,8 +21,8 @@ pub struct SoundState<N: Naming> {
 }
 
 impl<N: Naming> Model for SoundState<N> {
-    ghost use Rattle.event_def.specs.Book.{CountedView};
-    ghost use Rattle.spec_law.specs.Sound.{Sound};
+    ghost use Rattle.event_step.specs.event_def.Book.{CountedView};
+    ghost use Rattle.event_step.specs.spec_law.Sound.{Sound};
 
     ghost Value = { CountedView };
 

@@ -1,19 +1,19 @@
 //! The end of a book.
 
 ghost use Rattle.std.specs.Prelude.{◌≡◌};
-ghost use Rattle.spec_law.specs.Sound.{Sound};
-ghost use Rattle.spec_state.specs.Aborts.{UndoesAll};
-ghost use Rattle.event_def.specs.Book.{BookView};
-ghost use Rattle.event_def.specs.Closing.{Closes};
+ghost use Rattle.event_step.specs.spec_law.Sound.{Sound};
+ghost use Rattle.event_step.specs.spec_state.Aborts.{UndoesAll};
+ghost use Rattle.event_step.specs.event_def.Book.{BookView};
+ghost use Rattle.event_step.specs.event_def.Closing.{Closes};
 ghost use Rattle.conflict_book.specs.Left.{LeavesLawfulRun};
 ghost use Rattle.conflict_book.specs.BookViews.{view_of};
 
 use crate::book::{Book, SoundState};
-use event_def::Closed;
+use event_step::event_def::Closed;
+use event_step::spec_rollback::undo_all;
+use event_step::spec_state::State;
 use place_policy::Placer;
 use rv_core::Naming;
-use spec_rollback::undo_all;
-use spec_state::State;
 use trace_tap::Tap;
 
 /// Takes all uncommitted tasks of a sound state back.

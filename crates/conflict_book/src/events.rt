@@ -2,12 +2,12 @@
 
 ghost use Rattle.std.specs.Prelude.{◌≡◌, ◌<◌, ℕ, List, length, map};
 ghost use Rattle.trace_tap.specs.TapValue.{TapValue};
-ghost use Rattle.spec_law.specs.Sound.{Sound};
-ghost use Rattle.spec_state.specs.Effects.{nothing};
-ghost use Rattle.event_def.specs.declared.event.Event.TheVariants as event;
-ghost use Rattle.event_def.specs.Book.{placers_after_commit, book_of};
-ghost use Rattle.event_def.specs.Events.{IsGiven};
-ghost use Rattle.event_def.specs.Telling.{ComesTelling};
+ghost use Rattle.event_step.specs.spec_law.Sound.{Sound};
+ghost use Rattle.event_step.specs.spec_state.Effects.{nothing};
+ghost use Rattle.event_step.specs.event_def.declared.event.Event.TheVariants as event;
+ghost use Rattle.event_step.specs.event_def.Book.{placers_after_commit, book_of};
+ghost use Rattle.event_step.specs.event_def.Events.{IsGiven};
+ghost use Rattle.event_step.specs.event_def.Telling.{ComesTelling};
 ghost use Rattle.event_move.specs.Moving.{CommitComes, placers_after};
 ghost use Rattle.conflict_book.specs.Legless.{event_of};
 ghost use Rattle.conflict_book.specs.Ranges.{IsInRange};
@@ -15,12 +15,12 @@ ghost use Rattle.conflict_book.specs.BookViews.{going_book};
 
 use crate::book::SoundState;
 use crate::legless::Legless;
-use event_def::Came;
 use event_move::{abort, coalesce, commit, dispatch, split};
+use event_step::event_def::Came;
+use event_step::spec_state::State;
 use event_step::step;
 use place_policy::Placer;
 use rv_core::{Leg, Naming};
-use spec_state::State;
 
 /// Lets the next placer serve where so many commits end a phase, unless the last one serves already.
 fn pass_on<P: Placer>(placers: &mut Vec<P>, phase: u32, commits: u32)

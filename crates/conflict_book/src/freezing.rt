@@ -2,17 +2,17 @@
 
 ghost use Rattle.std.specs.Prelude.{◌≡◌, ◌≤◌, length, IfOk, IfErr, IsPermutation};
 ghost use Rattle.std.specs.List.Sorted.{IsSortedBy};
-ghost use Rattle.spec_state.specs.Pendings.{pending_before, pendings_in};
-ghost use Rattle.event_def.specs.Closing.{Closes};
+ghost use Rattle.event_step.specs.spec_state.Pendings.{pending_before, pendings_in};
+ghost use Rattle.event_step.specs.event_def.Closing.{Closes};
 ghost use Rattle.conflict_book.specs.Frozen.{IsFrozenOf};
 ghost use Rattle.conflict_book.specs.BookViews.{view_of};
 
 use crate::book::{Book, SoundState};
-use event_def::Closed;
+use event_step::event_def::Closed;
+use event_step::serial_machine::MAX_COMMITS;
+use event_step::spec_state::Pendings;
 use place_policy::Placer;
 use rv_core::Naming;
-use serial_machine::MAX_COMMITS;
-use spec_state::Pendings;
 use std::alloc::AllocError;
 use trace_tap::Tap;
 

@@ -19,6 +19,11 @@ mod opening;
 mod queries;
 
 pub use book::{Book, SoundState};
-pub use event_def::{Advance, Applied, Closed, Event, Halt, Reply};
+pub use event_move;
+pub use event_step;
+pub use event_step::event_def::{Advance, Applied, Closed, Event, Halt, Reply};
+pub use event_step::{
+    event_def, event_prelude, serial_machine, spec_access, spec_commit, spec_dispatch, spec_state,
+};
 pub use freezing::Frozen;
 pub use legless::Legless;

@@ -2,25 +2,25 @@
 
 ghost use Rattle.std.specs.Prelude.{◌≡◌, ◌↔◌, ◌<◌, ◌≤◌, ℕ, true, Some, IsNone, IfSome, IsTrue, length};
 ghost use Rattle.std.specs.Prelude.{map, option_map, option_and_then, slice_get};
-ghost use Rattle.spec_state.specs.declared.task.Task.{Task};
-ghost use Rattle.spec_law.specs.Sound.{Sound};
-ghost use Rattle.spec_state.specs.Settings.{IsValid};
-ghost use Rattle.spec_state.specs.View.{loads};
-ghost use Rattle.spec_state.specs.Queries.{IsFreeCore, IsIdle, IsRunning};
-ghost use Rattle.event_def.specs.Book.{picked_tile};
-ghost use Rattle.event_def.specs.End.{HasEnd, IsOver};
+ghost use Rattle.event_step.specs.spec_state.declared.task.Task.{Task};
+ghost use Rattle.event_step.specs.spec_law.Sound.{Sound};
+ghost use Rattle.event_step.specs.spec_state.Settings.{IsValid};
+ghost use Rattle.event_step.specs.spec_state.View.{loads};
+ghost use Rattle.event_step.specs.spec_state.Queries.{IsFreeCore, IsIdle, IsRunning};
+ghost use Rattle.event_step.specs.event_def.Book.{picked_tile};
+ghost use Rattle.event_step.specs.event_def.End.{HasEnd, IsOver};
 ghost use Rattle.conflict_book.specs.Counts.{counts_of};
 ghost use Rattle.conflict_book.specs.BookViews.{effect_of, events_made, machine_view, view_of};
 ghost use Rattle.conflict_book.specs.Ready.{HasRunning, IsReady};
 
 use crate::book::Book;
-use event_prelude::end_of;
+use event_step::event_prelude::end_of;
+use event_step::serial_machine::{End, Entry};
+use event_step::spec_dispatch::free_core;
+use event_step::spec_state::{Effect, Loads, Settings, State, Status, TaskId};
 use place_policy::{Placer, serving_pick};
 use progress_cell::Reading;
 use rv_core::{Core, Decoded, Naming, NotedCore};
-use serial_machine::{End, Entry};
-use spec_dispatch::free_core;
-use spec_state::{Effect, Loads, Settings, State, Status, TaskId};
 use std::alloc::Global;
 use trace_tap::Tap;
 

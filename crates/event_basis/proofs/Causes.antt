@@ -10,23 +10,24 @@ use Rattle.guest_image.specs.ImageValue.{ImageValue}
 use Rattle.rv_core.specs.LegValue.{LegValue}
 use Rattle.task_desc.specs.declared.desc.Spawn.{Spawn}
 use Rattle.task_request.specs.declared.request.Request.TheVariants.{Enqueue, End}
-use Rattle.spec_state.specs.declared.task.Status.TheVariants.{Finished}
-use Rattle.spec_state.specs.declared.task.Task.{Task}
-use Rattle.spec_state.specs.View.{View, task_at, block_at, finished_at}
-use Rattle.spec_state.specs.Least.{IsLeastTask, IsLeastSpilled, IsTheLeast}
-use Rattle.spec_state.specs.Queries.{IsDispatched, IsFinished, IsIdle, IsLater, IsLatestDispatched, IsLeastIdle}
-use Rattle.spec_state.specs.Room.{Enqueuer, QueueHasRoom, IsMovable, Stalls}
-use Rattle.spec_state.specs.Changes.{TakesLeg, request_of}
-use Rattle.spec_law.specs.Sound.{Sound}
-use Rattle.spec_law.proofs.Proved.{below_others, one_least_idle}
-use Rattle.event_def.specs.declared.event.Event.TheVariants as event
-use Rattle.event_def.specs.declared.event.Event.{Event}
-use Rattle.event_def.specs.declared.event.Reply.{Reply}
-use Rattle.event_def.specs.declared.event.Reply.TheVariants as reply
-use Rattle.event_def.specs.Book.{BookView, picked_tile}
-use Rattle.event_def.specs.Causes.{Cause, IsBusy, IsGranted, IsRefused, IsStale, LatestIsLeast, StallsAtEnd}
-use Rattle.event_def.specs.Causes.{StallsAtEnqueue, StallsAtSplit, refusal_rank}
-use Rattle.event_def.specs.End.{IsOver}
+use Rattle.event_law.specs.spec_state.declared.task.Status.TheVariants.{Finished}
+use Rattle.event_law.specs.spec_state.declared.task.Task.{Task}
+use Rattle.event_law.specs.spec_state.View.{View, task_at, block_at, finished_at}
+use Rattle.event_law.specs.spec_state.Least.{IsLeastTask, IsLeastSpilled, IsTheLeast}
+use Rattle.event_law.specs.spec_state.Queries.{IsDispatched, IsFinished, IsIdle, IsLater, IsLatestDispatched}
+use Rattle.event_law.specs.spec_state.Queries.{IsLeastIdle}
+use Rattle.event_law.specs.spec_state.Room.{Enqueuer, QueueHasRoom, IsMovable, Stalls}
+use Rattle.event_law.specs.spec_state.Changes.{TakesLeg, request_of}
+use Rattle.event_law.specs.spec_law.Sound.{Sound}
+use Rattle.event_law.proofs.Below.spec_law.Proved.{below_others, one_least_idle}
+use Rattle.event_law.specs.event_def.declared.event.Event.TheVariants as event
+use Rattle.event_law.specs.event_def.declared.event.Event.{Event}
+use Rattle.event_law.specs.event_def.declared.event.Reply.{Reply}
+use Rattle.event_law.specs.event_def.declared.event.Reply.TheVariants as reply
+use Rattle.event_law.specs.event_def.Book.{BookView, picked_tile}
+use Rattle.event_law.specs.event_def.Causes.{Cause, IsBusy, IsGranted, IsRefused, IsStale, LatestIsLeast, StallsAtEnd}
+use Rattle.event_law.specs.event_def.Causes.{StallsAtEnqueue, StallsAtSplit, refusal_rank}
+use Rattle.event_law.specs.event_def.End.{IsOver}
 
 -- a tile whose least idle task is the least task isn't busy
 pub least_is_not_busy : (view : View) (tile id : ℕ) (task : Task) → IsLeastIdle view tile id task → IsTheLeast view id

@@ -2,15 +2,15 @@
 use Rattle.std.proofs.Common.{List, sym, subst}
 use Rattle.guest_image.specs.ImageValue.{ImageValue}
 use Rattle.place_policy.specs.Policy.{Policy}
-use Rattle.spec_state.specs.View.{View}
-use Rattle.spec_law.specs.Sound.{Sound}
-use Rattle.event_def.specs.declared.event.Came.{Came}
-use Rattle.event_def.specs.declared.event.Came.TheVariants.{Made, Refused}
-use Rattle.event_def.specs.declared.event.Event.{Event}
-use Rattle.event_def.specs.declared.event.Reply.TheVariants as reply
-use Rattle.event_def.specs.Book.{BookView}
-use Rattle.event_def.specs.Comes.{Comes, IsAsBefore}
-use Rattle.event_def.specs.Events.{IsGiven}
+use Rattle.event_law.specs.spec_state.View.{View}
+use Rattle.event_law.specs.spec_law.Sound.{Sound}
+use Rattle.event_law.specs.event_def.declared.event.Came.{Came}
+use Rattle.event_law.specs.event_def.declared.event.Came.TheVariants.{Made, Refused}
+use Rattle.event_law.specs.event_def.declared.event.Event.{Event}
+use Rattle.event_law.specs.event_def.declared.event.Reply.TheVariants as reply
+use Rattle.event_law.specs.event_def.Book.{BookView}
+use Rattle.event_law.specs.event_def.Comes.{Comes, IsAsBefore}
+use Rattle.event_law.specs.event_def.Events.{IsGiven}
 use Rattle.event_basis.proofs.Made.{makes_stays_sound}
 
 module _ (N : Type 0) (image : ImageValue) (book : BookView) (e : Event N) (new : View) (placers : List Policy)

@@ -16,22 +16,24 @@ use Rattle.fractal_vt.proofs.Proved.{equal_keys_tie, key_cmp_total, less_of}
 use Rattle.guest_image.specs.ImageValue.{ImageValue}
 use Rattle.order_law.proofs.Proved.{below_reopened}
 use Rattle.spill_store.specs.SpilledTasks.{Spilled, open_key}
-use Rattle.task_law.specs.Room.{RoomTask, kept_by, queue_after}
-use Rattle.spec_state.specs.declared.task.Status.TheVariants.{Idle}
-use Rattle.spec_state.specs.declared.task.Task.{Task}
-use Rattle.spec_state.specs.View.{View, task_at, queue_at, block_at, cores_at}
-use Rattle.spec_state.specs.Tasks.{is_dispatched}
-use Rattle.spec_state.specs.Groups.{keyed_task, room_tasks, room_task}
-use Rattle.spec_state.specs.Least.{Spot, Queued, Spilled_at, HasKey, IsLeastTask, IsQueuedAt, place_cmp, ranked_cmp}
-use Rattle.spec_state.specs.Least.{spot_cmp}
-use Rattle.spec_state.specs.Aborts.{Aborts, OnlyNode, freed_core, is_marked}
-use Rattle.spec_state.specs.Queries.{IsFreeCore, IsLatestOnCore}
-use Rattle.spec_law.specs.Sound.{Sound}
-use Rattle.spec_law.proofs.Proved.{abort_of_one_is_sound, cascade_is_later, distinct_at, get_contains}
-use Rattle.spec_law.proofs.Proved.{least_is_one, least_key, list_mapped, marked_is_back, not_below_least, queued_at}
-use Rattle.spec_law.proofs.Proved.{upto_queued}
-use Rattle.event_def.specs.Events.{FreesCore}
-use Rattle.event_def.specs.Events as events
+use Rattle.event_law.specs.task_law.Room.{RoomTask, kept_by, queue_after}
+use Rattle.event_law.specs.spec_state.declared.task.Status.TheVariants.{Idle}
+use Rattle.event_law.specs.spec_state.declared.task.Task.{Task}
+use Rattle.event_law.specs.spec_state.View.{View, task_at, queue_at, block_at, cores_at}
+use Rattle.event_law.specs.spec_state.Tasks.{is_dispatched}
+use Rattle.event_law.specs.spec_state.Groups.{keyed_task, room_tasks, room_task}
+use Rattle.event_law.specs.spec_state.Least.{Spot, Queued, Spilled_at, HasKey, IsLeastTask, IsQueuedAt, place_cmp}
+use Rattle.event_law.specs.spec_state.Least.{ranked_cmp}
+use Rattle.event_law.specs.spec_state.Least.{spot_cmp}
+use Rattle.event_law.specs.spec_state.Aborts.{Aborts, OnlyNode, freed_core, is_marked}
+use Rattle.event_law.specs.spec_state.Queries.{IsFreeCore, IsLatestOnCore}
+use Rattle.event_law.specs.spec_law.Sound.{Sound}
+use Rattle.event_law.proofs.Below.spec_law.Proved.{abort_of_one_is_sound, cascade_is_later, distinct_at, get_contains}
+use Rattle.event_law.proofs.Below.spec_law.Proved.{least_is_one, least_key, list_mapped, marked_is_back}
+use Rattle.event_law.proofs.Below.spec_law.Proved.{not_below_least, queued_at}
+use Rattle.event_law.proofs.Below.spec_law.Proved.{upto_queued}
+use Rattle.event_law.specs.event_def.Events.{FreesCore}
+use Rattle.event_law.specs.event_def.Events as events
 use Rattle.event_law.proofs.Proved.{heir_is, idle_is_open, one_least, spared_stays}
 use Rattle.event_basis.specs.Laws.{IdleStays}
 use Rattle.event_basis.specs.Forcing.{LeavesCore, LeavesIdle}

@@ -1,15 +1,15 @@
 -- The event for the least task, and what is left for a loop of them.
 use Rattle.std.proofs.Common.{ℕ, ◌≡◌, refl, arith}
 use Rattle.guest_image.specs.ImageValue.{ImageValue}
-use Rattle.task_law.specs.Advance as standing
+use Rattle.event_law.specs.task_law.Advance as standing
 use Rattle.rv_core.specs.LegValue.{LegValue}
-use Rattle.spec_state.specs.declared.task.Status.TheVariants.{Finished, Idle, Running}
-use Rattle.spec_state.specs.declared.task.Task.{Task}
-use Rattle.spec_state.specs.Least.{IsLeastSpilled, IsLeastTask}
-use Rattle.spec_state.specs.View.{View}
-use Rattle.event_def.specs.declared.event.Event.TheVariants as event
-use Rattle.event_def.specs.End.{IsOver}
-use Rattle.event_def.specs.Advancing.{IsLegFrom, IsNextEvent}
+use Rattle.event_law.specs.spec_state.declared.task.Status.TheVariants.{Finished, Idle, Running}
+use Rattle.event_law.specs.spec_state.declared.task.Task.{Task}
+use Rattle.event_law.specs.spec_state.Least.{IsLeastSpilled, IsLeastTask}
+use Rattle.event_law.specs.spec_state.View.{View}
+use Rattle.event_law.specs.event_def.declared.event.Event.TheVariants as event
+use Rattle.event_law.specs.event_def.End.{IsOver}
+use Rattle.event_law.specs.event_def.Advancing.{IsLegFrom, IsNextEvent}
 use Rattle.event_law.proofs.Proved.{advances_fall, rest_is_there}
 use Rattle.event_basis.specs.Laws.{BoundFalls}
 

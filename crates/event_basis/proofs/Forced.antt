@@ -7,18 +7,19 @@ use Rattle.rv_core.specs.LegValue.{LegValue}
 use Rattle.task_request.specs.Requests.{request_at}
 use Rattle.undo_log.specs.Undo.{undone}
 use Rattle.undo_log.proofs.Proved.{length-undone}
-use Rattle.spec_state.specs.declared.task.Status.{Status}
-use Rattle.spec_state.specs.declared.task.Task.{Task}
-use Rattle.spec_state.specs.View.{View, task_at}
-use Rattle.spec_state.specs.Tasks.{context_of}
-use Rattle.spec_state.specs.Groups.{logged_tasks}
-use Rattle.spec_state.specs.Aborts.{Aborts, OnlyNode, is_marked}
-use Rattle.spec_state.specs.Changes.{TakesLeg}
-use Rattle.spec_state.specs.Room.{Asker, Coalesces, MakesRoom, queue_has_room, coalesces, aborts_victim, aborts_creator}
-use Rattle.spec_state.specs.Stored.{HasCore}
-use Rattle.spec_law.specs.Sound.{Sound}
-use Rattle.event_def.specs.Events.{FreesCommit}
-use Rattle.event_def.specs.Events as events
+use Rattle.event_law.specs.spec_state.declared.task.Status.{Status}
+use Rattle.event_law.specs.spec_state.declared.task.Task.{Task}
+use Rattle.event_law.specs.spec_state.View.{View, task_at}
+use Rattle.event_law.specs.spec_state.Tasks.{context_of}
+use Rattle.event_law.specs.spec_state.Groups.{logged_tasks}
+use Rattle.event_law.specs.spec_state.Aborts.{Aborts, OnlyNode, is_marked}
+use Rattle.event_law.specs.spec_state.Changes.{TakesLeg}
+use Rattle.event_law.specs.spec_state.Room.{Asker, Coalesces, MakesRoom, queue_has_room, coalesces, aborts_victim}
+use Rattle.event_law.specs.spec_state.Room.{aborts_creator}
+use Rattle.event_law.specs.spec_state.Stored.{HasCore}
+use Rattle.event_law.specs.spec_law.Sound.{Sound}
+use Rattle.event_law.specs.event_def.Events.{FreesCommit}
+use Rattle.event_law.specs.event_def.Events as events
 use Rattle.event_basis.specs.Forcing.{IsLike, TakesStill}
 
 -- memory has its length once logs are taken back

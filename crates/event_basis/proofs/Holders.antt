@@ -8,16 +8,16 @@ use Rattle.fractal_vt.specs.Keys.{key_cmp}
 use Rattle.fractal_vt.specs.declared.key.Key.{Key}
 use Rattle.fractal_vt.proofs.Proved.{equal_keys_tie, key_cmp_total}
 use Rattle.guest_image.specs.ImageValue.{ImageValue}
-use Rattle.spec_state.specs.declared.task.Status.{Status}
-use Rattle.spec_state.specs.declared.task.Status.TheVariants.{Idle, Running, Trapped, Finished}
-use Rattle.spec_state.specs.declared.task.Task.{Task}
-use Rattle.spec_state.specs.View.{View, cores_at, finished_at}
-use Rattle.spec_state.specs.Tasks.{is_dispatched}
-use Rattle.spec_state.specs.Queries.{IsFinished, IsLater, IsLatestFinished, IsOnCore}
-use Rattle.spec_state.specs.Stored.{HasCore}
-use Rattle.spec_law.specs.Sound.{Sound, StandsAs}
-use Rattle.spec_law.proofs.Proved.{some_in}
-use Rattle.event_def.specs.Causes.{AllCoresHeld, IsCommitFull}
+use Rattle.event_law.specs.spec_state.declared.task.Status.{Status}
+use Rattle.event_law.specs.spec_state.declared.task.Status.TheVariants.{Idle, Running, Trapped, Finished}
+use Rattle.event_law.specs.spec_state.declared.task.Task.{Task}
+use Rattle.event_law.specs.spec_state.View.{View, cores_at, finished_at}
+use Rattle.event_law.specs.spec_state.Tasks.{is_dispatched}
+use Rattle.event_law.specs.spec_state.Queries.{IsFinished, IsLater, IsLatestFinished, IsOnCore}
+use Rattle.event_law.specs.spec_state.Stored.{HasCore}
+use Rattle.event_law.specs.spec_law.Sound.{Sound, StandsAs}
+use Rattle.event_law.proofs.Below.spec_law.Proved.{some_in}
+use Rattle.event_law.specs.event_def.Causes.{AllCoresHeld, IsCommitFull}
 
 module _ (image : ImageValue) (view : View) (sound : Sound image view) where
   -- a task on a core of a tile has a status with that core, and the tile

@@ -6,22 +6,23 @@ use Rattle.std.specs.Prelude.{◌↔◌, length}
 use Rattle.guest_image.specs.ImageValue.{ImageValue}
 use Rattle.run_journal.specs.declared.end.End.TheVariants as ends
 use Rattle.task_desc.specs.declared.desc.Name.{Name}
-use Rattle.spec_state.specs.declared.task.Creator.{Creator}
-use Rattle.spec_state.specs.declared.task.Creator.TheVariants.{Committed}
-use Rattle.spec_state.specs.declared.task.Status.{Status}
-use Rattle.spec_state.specs.declared.task.Status.TheVariants.{Idle, Running, Trapped, Finished}
-use Rattle.spec_state.specs.declared.task.Task.{Task}
-use Rattle.spec_state.specs.declared.task.TaskId.{TaskId}
-use Rattle.spec_state.specs.declared.task.Where.{Where}
-use Rattle.spec_state.specs.declared.task.Where.TheVariants as where_
-use Rattle.spec_state.specs.View.{View, task_at}
-use Rattle.spec_state.specs.Tasks.{trap_cause}
-use Rattle.spec_state.specs.Least.{Spot, Queued, Spilled_at, HasName, IsAllCommitted, IsFirm, IsLeast, IsLeastSpot}
-use Rattle.spec_state.specs.Least.{IsLeastTask, IsLeastSpilled, IsTheLeast}
-use Rattle.spec_state.proofs.Heirs.{one_least as one_least_id}
-use Rattle.event_def.specs.End.{HasEnd, IsOver}
-use Rattle.spec_law.specs.Sound.{Sound}
-use Rattle.spec_law.proofs.Proved.{least_is_one}
+use Rattle.event_law.specs.spec_state.declared.task.Creator.{Creator}
+use Rattle.event_law.specs.spec_state.declared.task.Creator.TheVariants.{Committed}
+use Rattle.event_law.specs.spec_state.declared.task.Status.{Status}
+use Rattle.event_law.specs.spec_state.declared.task.Status.TheVariants.{Idle, Running, Trapped, Finished}
+use Rattle.event_law.specs.spec_state.declared.task.Task.{Task}
+use Rattle.event_law.specs.spec_state.declared.task.TaskId.{TaskId}
+use Rattle.event_law.specs.spec_state.declared.task.Where.{Where}
+use Rattle.event_law.specs.spec_state.declared.task.Where.TheVariants as where_
+use Rattle.event_law.specs.spec_state.View.{View, task_at}
+use Rattle.event_law.specs.spec_state.Tasks.{trap_cause}
+use Rattle.event_law.specs.spec_state.Least.{Spot, Queued, Spilled_at, HasName, IsAllCommitted, IsFirm, IsLeast}
+use Rattle.event_law.specs.spec_state.Least.{IsLeastSpot}
+use Rattle.event_law.specs.spec_state.Least.{IsLeastTask, IsLeastSpilled, IsTheLeast}
+use Rattle.event_law.proofs.Below.spec_state.Heirs.{one_least as one_least_id}
+use Rattle.event_law.specs.event_def.End.{HasEnd, IsOver}
+use Rattle.event_law.specs.spec_law.Sound.{Sound}
+use Rattle.event_law.proofs.Below.spec_law.Proved.{least_is_one}
 use Rattle.event_law.proofs.Proved.{goes_on, not_all, not_both, one_least}
 use Rattle.event_basis.specs.Whereabouts.{IsUnfinished, IsUntrapped, queued_in, spilled_in}
 use Rattle.event_basis.proofs.Views.{least_is_committed, trap_ends}

@@ -5,13 +5,13 @@ use Rattle.std.specs.declared.cmp.Ordering.TheVariants.{Less, Greater}
 use Rattle.fractal_vt.specs.Keys.{key_cmp}
 use Rattle.fractal_vt.proofs.Proved.{less_of, then_equal}
 use Rattle.guest_image.specs.ImageValue.{ImageValue}
-use Rattle.spec_state.specs.declared.task.Status.TheVariants.{Idle}
-use Rattle.spec_state.specs.declared.task.Task.{Task}
-use Rattle.spec_state.specs.View.{View, queue_at}
-use Rattle.spec_state.specs.Least.{Queued, IsQueuedAt, IsLeastTask, ranked_cmp, spot_cmp}
-use Rattle.spec_state.specs.Queries.{IsLeastIdle}
-use Rattle.spec_law.specs.Sound.{Sound, SoundSizes}
-use Rattle.spec_law.proofs.Proved.{distinct_at, least_key, same_spot}
+use Rattle.event_law.specs.spec_state.declared.task.Status.TheVariants.{Idle}
+use Rattle.event_law.specs.spec_state.declared.task.Task.{Task}
+use Rattle.event_law.specs.spec_state.View.{View, queue_at}
+use Rattle.event_law.specs.spec_state.Least.{Queued, IsQueuedAt, IsLeastTask, ranked_cmp, spot_cmp}
+use Rattle.event_law.specs.spec_state.Queries.{IsLeastIdle}
+use Rattle.event_law.specs.spec_law.Sound.{Sound, SoundSizes}
+use Rattle.event_law.proofs.Below.spec_law.Proved.{distinct_at, least_key, same_spot}
 use Rattle.event_law.proofs.Proved.{is_idle}
 use Rattle.tile_queues.proofs.Proved.{one_place}
 

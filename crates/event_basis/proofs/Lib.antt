@@ -11,3 +11,4 @@ pub mod Falling
 pub mod Holders
 pub mod Cores
 pub mod Proved
+pub mod Below

@@ -2,12 +2,12 @@
 use Rattle.std.proofs.Common.{ℕ, ◌≡◌, List}
 use Rattle.guest_image.specs.ImageValue.{ImageValue}
 use Rattle.place_policy.specs.Policy.{Policy}
-use Rattle.spec_state.specs.View.{View}
-use Rattle.spec_law.specs.Sound.{Sound}
-use Rattle.event_def.specs.declared.event.Event.{Event}
-use Rattle.event_def.specs.Book.{BookView}
-use Rattle.event_def.specs.Causes.{IsGranted}
-use Rattle.event_def.specs.Events.{IsGiven, Makes}
+use Rattle.event_law.specs.spec_state.View.{View}
+use Rattle.event_law.specs.spec_law.Sound.{Sound}
+use Rattle.event_law.specs.event_def.declared.event.Event.{Event}
+use Rattle.event_law.specs.event_def.Book.{BookView}
+use Rattle.event_law.specs.event_def.Causes.{IsGranted}
+use Rattle.event_law.specs.event_def.Events.{IsGiven, Makes}
 use Rattle.event_law.proofs.Proved.{makes_leads}
 use Rattle.event_basis.specs.Laws.{MadeIsSound}
 

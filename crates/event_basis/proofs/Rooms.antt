@@ -8,21 +8,24 @@ use Rattle.fractal_vt.specs.declared.key.Key.{Key}
 use Rattle.fractal_vt.specs.Keys.{key_cmp}
 use Rattle.guest_image.specs.ImageValue.{ImageValue}
 use Rattle.rv_core.specs.LegValue.{LegValue}
-use Rattle.spec_state.specs.declared.task.Task.{Task}
-use Rattle.spec_state.specs.View.{View, task_at, block_at}
-use Rattle.spec_state.specs.Tasks.{is_dispatched, idle_again}
-use Rattle.spec_state.specs.Groups.{live_creator}
-use Rattle.spec_state.specs.Least.{IsFirm, IsHeir, IsLeastTask, IsLeastSpilled, IsTheLeast}
-use Rattle.spec_state.specs.Aborts.{Aborts, OnlyNode, is_marked, is_marked_creator, taken_back}
-use Rattle.spec_state.specs.Changes.{TakesLeg}
-use Rattle.spec_state.specs.Queries.{IsQueued}
-use Rattle.spec_state.specs.Room.{Asker, Enqueuer, Splitter, QueueHasRoom, IsLeastAsker, IsMovable, IsTakenFor}
-use Rattle.spec_state.specs.Room.{IsVictim, MakesRoom, NoneMoves, asker_of, queue_has_room, coalesces, aborts_victim}
-use Rattle.spec_state.specs.Room.{aborts_creator}
-use Rattle.spec_law.specs.RoomLaws.{AsksAsLeast, MayBeTaken}
-use Rattle.spec_law.specs.Sound.{Sound}
-use Rattle.spec_law.proofs.Proved.{abort_of_one_is_sound, cascade_spares_heir, heirs_are_one, not_below_least}
-use Rattle.spec_law.proofs.Proved.{victim_is_later}
+use Rattle.event_law.specs.spec_state.declared.task.Task.{Task}
+use Rattle.event_law.specs.spec_state.View.{View, task_at, block_at}
+use Rattle.event_law.specs.spec_state.Tasks.{is_dispatched, idle_again}
+use Rattle.event_law.specs.spec_state.Groups.{live_creator}
+use Rattle.event_law.specs.spec_state.Least.{IsFirm, IsHeir, IsLeastTask, IsLeastSpilled, IsTheLeast}
+use Rattle.event_law.specs.spec_state.Aborts.{Aborts, OnlyNode, is_marked, is_marked_creator, taken_back}
+use Rattle.event_law.specs.spec_state.Changes.{TakesLeg}
+use Rattle.event_law.specs.spec_state.Queries.{IsQueued}
+use Rattle.event_law.specs.spec_state.Room.{Asker, Enqueuer, Splitter, QueueHasRoom, IsLeastAsker, IsMovable}
+use Rattle.event_law.specs.spec_state.Room.{IsTakenFor}
+use Rattle.event_law.specs.spec_state.Room.{IsVictim, MakesRoom, NoneMoves, asker_of, queue_has_room, coalesces}
+use Rattle.event_law.specs.spec_state.Room.{aborts_victim}
+use Rattle.event_law.specs.spec_state.Room.{aborts_creator}
+use Rattle.event_law.specs.spec_law.RoomLaws.{AsksAsLeast, MayBeTaken}
+use Rattle.event_law.specs.spec_law.Sound.{Sound}
+use Rattle.event_law.proofs.Below.spec_law.Proved.{abort_of_one_is_sound, cascade_spares_heir, heirs_are_one}
+use Rattle.event_law.proofs.Below.spec_law.Proved.{not_below_least}
+use Rattle.event_law.proofs.Below.spec_law.Proved.{victim_is_later}
 use Rattle.event_law.proofs.Proved.{abort_leaves_heir, asker_is_there, least_is_heir, not_both, room_follows}
 use Rattle.event_law.proofs.Proved.{room_is_free, room_leaves_spilled, running_is_dispatched, spilled_asks}
 use Rattle.event_law.proofs.Proved.{spilled_no_heir}

@@ -9,16 +9,17 @@ use Rattle.fractal_vt.specs.Keys.{key_cmp}
 use Rattle.fractal_vt.proofs.Proved.{key_cmp_total}
 use Rattle.guest_image.specs.ImageValue.{ImageValue}
 use Rattle.rv_core.specs.LegValue.{LegValue}
-use Rattle.spec_state.specs.declared.task.Task.{Task}
-use Rattle.spec_state.specs.View.{View, task_at, finished_at}
-use Rattle.spec_state.specs.Aborts.{Aborts, OnlyNode, is_marked}
-use Rattle.spec_state.specs.Changes.{TakesLeg}
-use Rattle.spec_state.specs.Queries.{Conflicts, IsLater}
-use Rattle.spec_law.specs.Sound.{Sound}
-use Rattle.spec_law.proofs.Proved.{abort_of_conflicts_is_sound, abort_of_later_is_sound, cascade_is_later}
-use Rattle.spec_law.proofs.Proved.{conflicts_spare_asker, list_mapped}
-use Rattle.event_def.specs.Events.{FreesCommit, TakesConflicts}
-use Rattle.event_def.specs.Events as events
+use Rattle.event_law.specs.spec_state.declared.task.Task.{Task}
+use Rattle.event_law.specs.spec_state.View.{View, task_at, finished_at}
+use Rattle.event_law.specs.spec_state.Aborts.{Aborts, OnlyNode, is_marked}
+use Rattle.event_law.specs.spec_state.Changes.{TakesLeg}
+use Rattle.event_law.specs.spec_state.Queries.{Conflicts, IsLater}
+use Rattle.event_law.specs.spec_law.Sound.{Sound}
+use Rattle.event_law.proofs.Below.spec_law.Proved.{abort_of_conflicts_is_sound, abort_of_later_is_sound}
+use Rattle.event_law.proofs.Below.spec_law.Proved.{cascade_is_later}
+use Rattle.event_law.proofs.Below.spec_law.Proved.{conflicts_spare_asker, list_mapped}
+use Rattle.event_law.specs.event_def.Events.{FreesCommit, TakesConflicts}
+use Rattle.event_law.specs.event_def.Events as events
 use Rattle.event_law.proofs.Proved.{at_each_place, filter_fewer, FitsQueue, none_fit, spared_stays}
 use Rattle.event_basis.specs.Forcing.{TakesStill}
 use Rattle.event_basis.proofs.Forced.{abort_like, commit_like, takes_still}

@@ -5,18 +5,19 @@ use Rattle.guest_image.specs.ImageValue.{ImageValue}
 use Rattle.memory_law.specs.Tasks.{IsByKey}
 use Rattle.run_journal.specs.declared.end.End.TheVariants as ends
 use Rattle.spill_store.specs.SpilledTasks.{Spilled}
-use Rattle.spec_state.specs.declared.task.Creator.{Creator}
-use Rattle.spec_state.specs.declared.task.Creator.TheVariants.{Committed}
-use Rattle.spec_state.specs.declared.task.Status.TheVariants.{Trapped}
-use Rattle.spec_state.specs.declared.task.Task.{Task}
-use Rattle.spec_state.specs.View.{View, block_at}
-use Rattle.spec_state.specs.Groups.{all_spilled, logged_tasks}
-use Rattle.spec_state.specs.Least.{HasName, IsLeastTask}
-use Rattle.spec_state.specs.Numbers.{IsInUse, IsPathsOrTasks}
-use Rattle.event_def.specs.End.{HasEnd}
-use Rattle.spec_law.specs.Sound.{Sound}
-use Rattle.spec_law.proofs.Proved.{contains_get, get_contains, least_is_next, numbers_are_held, place_in_all}
-use Rattle.spec_law.proofs.Proved.{spilled_are_firm}
+use Rattle.event_law.specs.spec_state.declared.task.Creator.{Creator}
+use Rattle.event_law.specs.spec_state.declared.task.Creator.TheVariants.{Committed}
+use Rattle.event_law.specs.spec_state.declared.task.Status.TheVariants.{Trapped}
+use Rattle.event_law.specs.spec_state.declared.task.Task.{Task}
+use Rattle.event_law.specs.spec_state.View.{View, block_at}
+use Rattle.event_law.specs.spec_state.Groups.{all_spilled, logged_tasks}
+use Rattle.event_law.specs.spec_state.Least.{HasName, IsLeastTask}
+use Rattle.event_law.specs.spec_state.Numbers.{IsInUse, IsPathsOrTasks}
+use Rattle.event_law.specs.event_def.End.{HasEnd}
+use Rattle.event_law.specs.spec_law.Sound.{Sound}
+use Rattle.event_law.proofs.Below.spec_law.Proved.{contains_get, get_contains, least_is_next, numbers_are_held}
+use Rattle.event_law.proofs.Below.spec_law.Proved.{place_in_all}
+use Rattle.event_law.proofs.Below.spec_law.Proved.{spilled_are_firm}
 
 -- its dispatched tasks, in order of their keys
 pub sound_by_key : (image : ImageValue) (view : View) → Sound image view

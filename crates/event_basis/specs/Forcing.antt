@@ -3,14 +3,14 @@
 use Rattle.std.specs.Prelude.{◌≡◌, ℕ, length, Some}
 use Rattle.guest_image.specs.ImageValue.{ImageValue}
 use Rattle.rv_core.specs.LegValue.{LegValue}
-use Rattle.spec_state.specs.declared.task.Status.TheVariants.{Running}
-use Rattle.spec_state.specs.declared.task.Task.{Task}
-use Rattle.spec_state.specs.View.{View, task_at}
-use Rattle.spec_state.specs.Least.{IsLeastTask}
-use Rattle.spec_state.specs.Queries.{IsFreeCore, IsLeastIdle}
-use Rattle.spec_state.specs.Changes.{TakesLeg, request_of}
-use Rattle.spec_state.specs.Room.{Asker, Enqueuer, Splitter, QueueHasRoom}
-use Rattle.spec_law.specs.Sound.{Sound}
+use Rattle.event_law.specs.spec_state.declared.task.Status.TheVariants.{Running}
+use Rattle.event_law.specs.spec_state.declared.task.Task.{Task}
+use Rattle.event_law.specs.spec_state.View.{View, task_at}
+use Rattle.event_law.specs.spec_state.Least.{IsLeastTask}
+use Rattle.event_law.specs.spec_state.Queries.{IsFreeCore, IsLeastIdle}
+use Rattle.event_law.specs.spec_state.Changes.{TakesLeg, request_of}
+use Rattle.event_law.specs.spec_state.Room.{Asker, Enqueuer, Splitter, QueueHasRoom}
+use Rattle.event_law.specs.spec_law.Sound.{Sound}
 
 -- the view has the settings and the version of another, and as much memory
 pub record IsLike (old mid : View) : Type 0 where

@@ -3,21 +3,21 @@ use Rattle.std.specs.Prelude.{◌+◌, ℕ, Bool, List}
 use Rattle.guest_image.specs.ImageValue.{ImageValue}
 use Rattle.place_policy.specs.Policy.{Policy}
 use Rattle.rv_core.specs.LegValue.{LegValue}
-use Rattle.spec_state.specs.declared.task.Task.{Task}
-use Rattle.spec_state.specs.View.{View}
-use Rattle.spec_state.specs.Aborts.{Aborts, OnlyNode}
-use Rattle.spec_state.specs.Changes.{TakesLeg}
-use Rattle.spec_state.specs.Least.{IsFirm, IsTheLeast}
-use Rattle.spec_state.specs.Queries.{IsLeastIdle}
-use Rattle.spec_state.specs.Room.{Asker, Enqueuer, IsLeastAsker, IsMovable, IsVictim, MakesRoom}
-use Rattle.event_def.specs.declared.event.Event.{Event}
-use Rattle.event_def.specs.declared.event.Reply.TheVariants as reply
-use Rattle.event_def.specs.Advancing.{IsNextEvent, IsNoCommit}
-use Rattle.event_def.specs.Book.{BookView}
-use Rattle.event_def.specs.Causes.{AllCoresHeld, IsGranted}
-use Rattle.event_def.specs.Events.{FreesCommit, FreesCore, IsGiven, Makes, TakesConflicts}
-use Rattle.event_def.specs.Happens.{Happens}
-use Rattle.spec_law.specs.Sound.{Sound}
+use Rattle.event_law.specs.spec_state.declared.task.Task.{Task}
+use Rattle.event_law.specs.spec_state.View.{View}
+use Rattle.event_law.specs.spec_state.Aborts.{Aborts, OnlyNode}
+use Rattle.event_law.specs.spec_state.Changes.{TakesLeg}
+use Rattle.event_law.specs.spec_state.Least.{IsFirm, IsTheLeast}
+use Rattle.event_law.specs.spec_state.Queries.{IsLeastIdle}
+use Rattle.event_law.specs.spec_state.Room.{Asker, Enqueuer, IsLeastAsker, IsMovable, IsVictim, MakesRoom}
+use Rattle.event_law.specs.event_def.declared.event.Event.{Event}
+use Rattle.event_law.specs.event_def.declared.event.Reply.TheVariants as reply
+use Rattle.event_law.specs.event_def.Advancing.{IsNextEvent, IsNoCommit}
+use Rattle.event_law.specs.event_def.Book.{BookView}
+use Rattle.event_law.specs.event_def.Causes.{AllCoresHeld, IsGranted}
+use Rattle.event_law.specs.event_def.Events.{FreesCommit, FreesCore, IsGiven, Makes, TakesConflicts}
+use Rattle.event_law.specs.event_def.Happens.{Happens}
+use Rattle.event_law.specs.spec_law.Sound.{Sound}
 use Rattle.event_basis.specs.Falling.{RestIsWithin}
 use Rattle.event_basis.specs.Forcing.{LeavesIdle, LeavesRoom, RunsIfTask, TakesStill}
 

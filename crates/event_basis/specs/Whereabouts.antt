@@ -1,7 +1,7 @@
 -- What is read of where the least task stands.
 use Rattle.std.specs.Prelude.{ℕ, Option, Some, None}
-use Rattle.spec_state.specs.declared.task.Where.{Where}
-use Rattle.spec_state.specs.declared.task.Where.TheVariants as where_
+use Rattle.event_law.specs.spec_state.declared.task.Where.{Where}
+use Rattle.event_law.specs.spec_state.declared.task.Where.TheVariants as where_
 
 -- the id of the least task, where it is queued
 abbrev pub queued_in : Where → Option ℕ

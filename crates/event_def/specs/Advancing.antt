@@ -3,8 +3,8 @@ use Rattle.std.specs.Prelude.{◌≡◌, ◌⊎◌, ℕ, zero, suc, true, false}
 use Rattle.guest_image.specs.ImageValue.{ImageValue}
 use Rattle.rv_core.specs.LegValue.{LegValue}
 use Rattle.rv_core.specs.Legs.{IsLeg}
-use Rattle.task_law.specs.Advance.{Standing, rest_of_way}
-use Rattle.task_law.specs.Advance as standing
+use Rattle.spec_state.specs.task_law.Advance.{Standing, rest_of_way}
+use Rattle.spec_state.specs.task_law.Advance as standing
 use Rattle.spec_state.specs.declared.task.Status.TheVariants.{Idle, Running, Finished}
 use Rattle.spec_state.specs.declared.task.Task.{Task}
 use Rattle.spec_state.specs.View.{View}

@@ -4,11 +4,11 @@ use Rattle.std.specs.Prelude.{slice_get}
 use Rattle.run_journal.specs.declared.end.End.{End}
 use Rattle.run_journal.specs.declared.end.End.TheVariants as ends
 use Rattle.task_desc.specs.declared.desc.Name.{Name}
-use Rattle.spec_state.specs.declared.task.Creator.TheVariants.{Committed}
-use Rattle.spec_state.specs.declared.task.Status.TheVariants.{Trapped}
-use Rattle.spec_state.specs.declared.task.Task.{Task}
-use Rattle.spec_state.specs.View.{View, task_at, queue_at}
-use Rattle.spec_state.specs.Least.{Spot, Queued, IsAllCommitted, IsLeastTask, IsLeastSpot}
+use Rattle.event_def.specs.spec_state.declared.task.Creator.TheVariants.{Committed}
+use Rattle.event_def.specs.spec_state.declared.task.Status.TheVariants.{Trapped}
+use Rattle.event_def.specs.spec_state.declared.task.Task.{Task}
+use Rattle.event_def.specs.spec_state.View.{View, task_at, queue_at}
+use Rattle.event_def.specs.spec_state.Least.{Spot, Queued, IsAllCommitted, IsLeastTask, IsLeastSpot}
 use Rattle.event_def.specs.End.{HasEnd, LeastIsTrapped}
 use Rattle.event_law.specs.Laws.{EndIsOne}
 use Rattle.spec_law.proofs.Proved.{least_is_one}

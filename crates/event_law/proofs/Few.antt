@@ -3,8 +3,8 @@ use Rattle.std.proofs.Common.{ℕ, zero, suc, ◌+◌, ◌*◌, ◌≡◌, ◌�
 use Rattle.std.proofs.Math.Nat.{one-mul, suc-mul}
 use Rattle.std.proofs.lemmas.List.{length-append}
 use Rattle.guest_image.specs.ImageValue.{ImageValue}
-use Rattle.task_law.specs.Advance as standing
-use Rattle.spec_state.specs.View.{View}
+use Rattle.event_def.specs.task_law.Advance as standing
+use Rattle.event_def.specs.spec_state.View.{View}
 use Rattle.spec_law.specs.Sound.{Sound}
 use Rattle.event_def.specs.declared.event.Event.{Event}
 use Rattle.event_def.specs.declared.event.Event.TheVariants as event

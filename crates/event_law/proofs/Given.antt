@@ -9,7 +9,7 @@ use Rattle.rv_core.specs.LegValue.{LegValue, IsLegOfImage}
 use Rattle.rv_core.specs.Legs.{StopIsInData, IsLeg}
 use Rattle.rv_core.proofs.Proved.{next_at-inside, PlainInstruction-counted, PlainInstruction-within}
 use Rattle.rv_core.proofs.Proved.{PlainInstructions-within}
-use Rattle.serial_machine.proofs.Proved.{spent_traps}
+use Rattle.event_def.proofs.Below.serial_machine.Proved.{spent_traps}
 use Rattle.task_desc.specs.declared.desc.Ctx.{Ctx}
 use Rattle.task_request.specs.declared.request.Request.{Request}
 use Rattle.task_request.specs.declared.request.Request.TheVariants.{Load, Store, Trap}
@@ -18,14 +18,14 @@ use Rattle.task_request.specs.Requests.{request_at}
 use Rattle.task_request.specs.TaskState.{TaskState, task_at_start, context}
 use Rattle.task_request.proofs.Proved.{after_request-used, HasUsed}
 use Rattle.undo_log.specs.declared.access.Access.{Access}
-use Rattle.task_law.specs.Logged.{CoreAsks, LoggedRun, none, plain, call, load, store}
-use Rattle.spec_state.specs.declared.task.Status.TheVariants.{Running}
-use Rattle.spec_state.specs.declared.task.Task.{Task}
-use Rattle.spec_state.specs.View.{View, task_at, cores_at}
-use Rattle.spec_state.specs.Tasks.{start_context}
-use Rattle.spec_state.specs.Least.{IsLeastTask, IsLeastSpilled}
-use Rattle.spec_state.specs.Stored.{HasCore}
-use Rattle.spec_state.proofs.Proved.{at_within}
+use Rattle.event_def.specs.task_law.Logged.{CoreAsks, LoggedRun, none, plain, call, load, store}
+use Rattle.event_def.specs.spec_state.declared.task.Status.TheVariants.{Running}
+use Rattle.event_def.specs.spec_state.declared.task.Task.{Task}
+use Rattle.event_def.specs.spec_state.View.{View, task_at, cores_at}
+use Rattle.event_def.specs.spec_state.Tasks.{start_context}
+use Rattle.event_def.specs.spec_state.Least.{IsLeastTask, IsLeastSpilled}
+use Rattle.event_def.specs.spec_state.Stored.{HasCore}
+use Rattle.event_def.proofs.Below.spec_state.Proved.{at_within}
 use Rattle.spec_law.specs.Sound.{Sound, StandsAs}
 use Rattle.event_def.specs.declared.event.Event.{Event}
 use Rattle.event_def.specs.declared.event.Event.TheVariants as event

@@ -6,15 +6,15 @@ use Rattle.std.specs.Ordering.{ordering_reverse}
 use Rattle.std.specs.declared.cmp.Ordering.TheVariants.{Less, Greater}
 use Rattle.guest_image.specs.ImageValue.{ImageValue}
 use Rattle.rv_core.specs.LegValue.{LegValue}
-use Rattle.spec_state.specs.declared.task.Status.{Status}
-use Rattle.spec_state.specs.declared.task.Status.TheVariants.{Idle, Running, Finished}
-use Rattle.spec_state.specs.declared.task.Task.{Task}
-use Rattle.spec_state.specs.View.{View, task_at, queue_at, block_at, cores_at, finished_at}
-use Rattle.spec_state.specs.Tasks.{is_dispatched}
-use Rattle.spec_state.specs.Least.{Queued, IsQueuedAt, IsLeastTask, ranked_cmp}
-use Rattle.spec_state.specs.Queries.{IsIdle, IsFinished, IsLater}
-use Rattle.spec_state.specs.Changes.{TakesLeg}
-use Rattle.spec_state.specs.Stored.{HasCore}
+use Rattle.event_def.specs.spec_state.declared.task.Status.{Status}
+use Rattle.event_def.specs.spec_state.declared.task.Status.TheVariants.{Idle, Running, Finished}
+use Rattle.event_def.specs.spec_state.declared.task.Task.{Task}
+use Rattle.event_def.specs.spec_state.View.{View, task_at, queue_at, block_at, cores_at, finished_at}
+use Rattle.event_def.specs.spec_state.Tasks.{is_dispatched}
+use Rattle.event_def.specs.spec_state.Least.{Queued, IsQueuedAt, IsLeastTask, ranked_cmp}
+use Rattle.event_def.specs.spec_state.Queries.{IsIdle, IsFinished, IsLater}
+use Rattle.event_def.specs.spec_state.Changes.{TakesLeg}
+use Rattle.event_def.specs.spec_state.Stored.{HasCore}
 use Rattle.spec_law.specs.Sound.{Sound, SoundSizes, StandsAs}
 use Rattle.spec_law.proofs.Proved.{below_others, get_contains, least_key, queued_at, ranked_turned, some_in}
 use Rattle.event_def.specs.declared.event.Event.{Event}

@@ -5,9 +5,9 @@ use Rattle.std.specs.List.{enumerate_from}
 use Rattle.std.proofs.lemmas.List.Elements.{All-head, All-tail}
 use Rattle.guest_image.specs.ImageValue.{ImageValue}
 use Rattle.memory_law.proofs.Proved.{all_undone_is_serial}
-use Rattle.serial_machine.specs.Run.{IsRun}
-use Rattle.spec_state.specs.declared.settings.Settings.{Settings}
-use Rattle.spec_state.specs.Groups.{logged_tasks}
+use Rattle.event_def.specs.serial_machine.Run.{IsRun}
+use Rattle.event_def.specs.spec_state.declared.settings.Settings.{Settings}
+use Rattle.event_def.specs.spec_state.Groups.{logged_tasks}
 use Rattle.event_def.specs.declared.event.Applied.{Applied}
 use Rattle.event_def.specs.declared.event.Event.{Event}
 use Rattle.event_def.specs.declared.event.Reply.TheVariants as replies

@@ -13,3 +13,4 @@ pub mod Given
 pub mod Few
 pub mod Proved
 pub mod Stays
+pub mod Below

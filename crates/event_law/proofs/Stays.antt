@@ -6,13 +6,13 @@ use Rattle.rv_core.specs.LegValue.{LegValue}
 use Rattle.task_request.specs.declared.request.Request.{Request}
 use Rattle.task_request.specs.declared.request.Request.TheVariants.{Continue, Load, Store, Enqueue, MakeSub, Emit, End}
 use Rattle.task_request.specs.declared.request.Request.TheVariants.{Trap}
-use Rattle.spec_state.specs.declared.task.Task.{Task}
-use Rattle.spec_state.specs.View.{View}
-use Rattle.spec_state.specs.Aborts.{Aborts}
-use Rattle.spec_state.specs.Changes.{request_of}
-use Rattle.spec_state.specs.Numbers as numbers
-use Rattle.spec_state.specs.Room.{Asker, MakesRoom}
-use Rattle.spec_state.specs.Room as room
+use Rattle.event_def.specs.spec_state.declared.task.Task.{Task}
+use Rattle.event_def.specs.spec_state.View.{View}
+use Rattle.event_def.specs.spec_state.Aborts.{Aborts}
+use Rattle.event_def.specs.spec_state.Changes.{request_of}
+use Rattle.event_def.specs.spec_state.Numbers as numbers
+use Rattle.event_def.specs.spec_state.Room.{Asker, MakesRoom}
+use Rattle.event_def.specs.spec_state.Room as room
 use Rattle.event_def.specs.declared.event.Event.{Event}
 use Rattle.event_def.specs.declared.event.Event.TheVariants as event
 use Rattle.event_def.specs.Advancing.{IsNoCommit}

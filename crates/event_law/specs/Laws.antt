@@ -4,12 +4,12 @@ use Rattle.guest_image.specs.ImageValue.{ImageValue, IsImage}
 use Rattle.place_policy.specs.Policy.{Policy}
 use Rattle.trace_tap.specs.TapValue.{TapValue}
 use Rattle.run_journal.specs.declared.end.End.{End}
-use Rattle.serial_machine.specs.Run.{IsEnd, IsRun}
-use Rattle.serial_machine.specs.State.{SerialState}
-use Rattle.spec_state.specs.declared.settings.Settings.{Settings}
-use Rattle.spec_state.specs.Settings.{IsValid}
-use Rattle.spec_state.specs.View.{View}
-use Rattle.spec_state.specs.Aborts.{IsUndone}
+use Rattle.event_def.specs.serial_machine.Run.{IsEnd, IsRun}
+use Rattle.event_def.specs.serial_machine.State.{SerialState}
+use Rattle.event_def.specs.spec_state.declared.settings.Settings.{Settings}
+use Rattle.event_def.specs.spec_state.Settings.{IsValid}
+use Rattle.event_def.specs.spec_state.View.{View}
+use Rattle.event_def.specs.spec_state.Aborts.{IsUndone}
 use Rattle.event_def.specs.declared.event.Applied.{Applied}
 use Rattle.run_journal.specs.declared.closed.Closed.{Closed}
 use Rattle.event_def.specs.declared.event.Event.{Event}

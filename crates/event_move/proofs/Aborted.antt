@@ -3,22 +3,22 @@ use Rattle.std.proofs.Common.{ℕ, ◌≡◌, None, Some, refl, sym, ap, subst, 
 use Rattle.guest_image.specs.ImageValue.{ImageValue}
 use Rattle.trace_tap.specs.declared.record.Deed.TheVariants as deed
 use Rattle.trace_tap.specs.declared.record.Record.{Record}
-use Rattle.spec_state.specs.declared.task.Task.{Task}
-use Rattle.spec_state.specs.View.{View}
-use Rattle.spec_state.specs.Aborts.{Aborts, OnlyNode}
-use Rattle.spec_state.specs.Effects.{EffectValue, nothing}
-use Rattle.spec_state.specs.Least.{IsLeastTask, IsTheLeast}
-use Rattle.spec_state.specs.Queries.{IsLatestDispatched}
-use Rattle.spec_state.specs.Told.{TellsBack}
-use Rattle.spec_law.specs.Sound.{Sound}
-use Rattle.event_def.specs.declared.event.Came.TheVariants.{Made, Refused}
-use Rattle.event_def.specs.declared.event.Event.TheVariants as event
-use Rattle.event_def.specs.declared.event.Reply.TheVariants as reply
-use Rattle.event_def.specs.Causes.{LatestIsLeast}
-use Rattle.event_def.specs.End.{IsOver}
-use Rattle.event_def.specs.Trace.{record_of}
-use Rattle.event_def.specs.Book.{book_of}
-use Rattle.event_basis.proofs.Proved.{firm_is_refused, abort_is_granted, latest_is_not_least}
+use Rattle.event_prelude.specs.spec_state.declared.task.Task.{Task}
+use Rattle.event_prelude.specs.spec_state.View.{View}
+use Rattle.event_prelude.specs.spec_state.Aborts.{Aborts, OnlyNode}
+use Rattle.event_prelude.specs.spec_state.Effects.{EffectValue, nothing}
+use Rattle.event_prelude.specs.spec_state.Least.{IsLeastTask, IsTheLeast}
+use Rattle.event_prelude.specs.spec_state.Queries.{IsLatestDispatched}
+use Rattle.event_prelude.specs.spec_state.Told.{TellsBack}
+use Rattle.event_prelude.specs.spec_law.Sound.{Sound}
+use Rattle.event_prelude.specs.event_def.declared.event.Came.TheVariants.{Made, Refused}
+use Rattle.event_prelude.specs.event_def.declared.event.Event.TheVariants as event
+use Rattle.event_prelude.specs.event_def.declared.event.Reply.TheVariants as reply
+use Rattle.event_prelude.specs.event_def.Causes.{LatestIsLeast}
+use Rattle.event_prelude.specs.event_def.End.{IsOver}
+use Rattle.event_prelude.specs.event_def.Trace.{record_of}
+use Rattle.event_prelude.specs.event_def.Book.{book_of}
+use Rattle.event_prelude.proofs.Below.event_basis.Proved.{firm_is_refused, abort_is_granted, latest_is_not_least}
 use Rattle.event_move.specs.Moving.{ComesSo}
 
 module _ (N : Type 0) (view : View) (going : IsOver view → ⊥) (tile : ℕ) where

@@ -2,19 +2,19 @@
 use Rattle.std.proofs.Common.{ℕ, ◌≡◌, ◌≢◌, None, refl, sym, ap, subst, ◌∙◌}
 use Rattle.trace_tap.specs.declared.record.Deed.TheVariants as deed
 use Rattle.trace_tap.specs.declared.record.Record.{Record}
-use Rattle.spec_state.specs.declared.task.Status.TheVariants.{Finished}
-use Rattle.spec_state.specs.declared.task.Task.{Task}
-use Rattle.spec_state.specs.View.{View}
-use Rattle.spec_state.specs.Changes.{Commits}
-use Rattle.spec_state.specs.Effects.{EffectValue, nothing}
-use Rattle.spec_state.specs.Least.{IsLeastTask}
-use Rattle.event_def.specs.declared.event.Came.TheVariants.{Made, Refused}
-use Rattle.event_def.specs.declared.event.Reply.TheVariants as reply
-use Rattle.event_def.specs.declared.event.Event.TheVariants as event
-use Rattle.event_def.specs.End.{IsOver}
-use Rattle.event_def.specs.Trace.{record_of}
-use Rattle.event_def.specs.Book.{book_of}
-use Rattle.event_basis.proofs.Proved.{commit_is_granted, empty_is_refused}
+use Rattle.event_prelude.specs.spec_state.declared.task.Status.TheVariants.{Finished}
+use Rattle.event_prelude.specs.spec_state.declared.task.Task.{Task}
+use Rattle.event_prelude.specs.spec_state.View.{View}
+use Rattle.event_prelude.specs.spec_state.Changes.{Commits}
+use Rattle.event_prelude.specs.spec_state.Effects.{EffectValue, nothing}
+use Rattle.event_prelude.specs.spec_state.Least.{IsLeastTask}
+use Rattle.event_prelude.specs.event_def.declared.event.Came.TheVariants.{Made, Refused}
+use Rattle.event_prelude.specs.event_def.declared.event.Reply.TheVariants as reply
+use Rattle.event_prelude.specs.event_def.declared.event.Event.TheVariants as event
+use Rattle.event_prelude.specs.event_def.End.{IsOver}
+use Rattle.event_prelude.specs.event_def.Trace.{record_of}
+use Rattle.event_prelude.specs.event_def.Book.{book_of}
+use Rattle.event_prelude.proofs.Below.event_basis.Proved.{commit_is_granted, empty_is_refused}
 use Rattle.event_move.specs.Moving.{CommitComes}
 
 module _ (N : Type 0) (view : View) (going : IsOver view → ⊥) (effect : EffectValue) (fresh : effect ≡ nothing) where

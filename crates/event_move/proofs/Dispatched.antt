@@ -2,21 +2,21 @@
 use Rattle.std.proofs.Common.{ℕ, ◌≡◌, None, refl, sym, subst}
 use Rattle.trace_tap.specs.declared.record.Deed.TheVariants as deed
 use Rattle.trace_tap.specs.declared.record.Record.{Record}
-use Rattle.spec_state.specs.declared.task.Task.{Task}
-use Rattle.spec_state.specs.Effects.{EffectValue}
-use Rattle.spec_state.specs.View.{View}
-use Rattle.spec_state.specs.Least.{IsTheLeast}
-use Rattle.spec_state.specs.Queries.{IsLeastIdle}
+use Rattle.event_prelude.specs.spec_state.declared.task.Task.{Task}
+use Rattle.event_prelude.specs.spec_state.Effects.{EffectValue}
+use Rattle.event_prelude.specs.spec_state.View.{View}
+use Rattle.event_prelude.specs.spec_state.Least.{IsTheLeast}
+use Rattle.event_prelude.specs.spec_state.Queries.{IsLeastIdle}
 use Rattle.spec_dispatch.specs.Numbered.{NumbersAndDispatches}
-use Rattle.event_def.specs.declared.event.Came.TheVariants.{Made}
-use Rattle.event_def.specs.declared.event.Event.TheVariants as event
-use Rattle.event_def.specs.Causes.{AllCoresHeld}
-use Rattle.event_def.specs.End.{IsOver}
-use Rattle.event_def.specs.Events.{FreesCore}
-use Rattle.event_def.specs.Telling.{TellsCore}
-use Rattle.event_def.specs.Trace.{record_of}
-use Rattle.event_def.specs.Book.{book_of}
-use Rattle.event_basis.proofs.Proved.{dispatch_is_granted, least_is_not_busy}
+use Rattle.event_prelude.specs.event_def.declared.event.Came.TheVariants.{Made}
+use Rattle.event_prelude.specs.event_def.declared.event.Event.TheVariants as event
+use Rattle.event_prelude.specs.event_def.Causes.{AllCoresHeld}
+use Rattle.event_prelude.specs.event_def.End.{IsOver}
+use Rattle.event_prelude.specs.event_def.Events.{FreesCore}
+use Rattle.event_prelude.specs.event_def.Telling.{TellsCore}
+use Rattle.event_prelude.specs.event_def.Trace.{record_of}
+use Rattle.event_prelude.specs.event_def.Book.{book_of}
+use Rattle.event_prelude.proofs.Below.event_basis.Proved.{dispatch_is_granted, least_is_not_busy}
 use Rattle.event_move.specs.Moving.{ComesSo}
 
 module _ (N : Type 0) (view : View) (going : IsOver view → ⊥) (tile : ℕ) where

@@ -8,29 +8,30 @@ use Rattle.std.proofs.lemmas.List.Elements.{Contains-get_or}
 use Rattle.std.proofs.lemmas.Option.{slice_get-get_or, slice_get_within}
 use Rattle.fractal_vt.specs.Keys.{key_cmp}
 use Rattle.guest_image.specs.ImageValue.{ImageValue}
-use Rattle.spec_law.specs.Sound.{Sound}
+use Rattle.event_prelude.specs.spec_law.Sound.{Sound}
 use Rattle.place_policy.specs.Policy.{Policy}
 use Rattle.trace_tap.specs.TapValue.{TapValue}
 use Rattle.tile_queues.specs.Queue.{AreDistinct}
-use Rattle.spec_state.specs.declared.task.Status.{Status}
-use Rattle.spec_state.specs.declared.task.Status.TheVariants as status
-use Rattle.spec_state.specs.declared.task.Task.{Task}
-use Rattle.spec_state.specs.declared.task.TaskId.{TaskId}
-use Rattle.spec_state.specs.declared.task.Where.{Where}
-use Rattle.spec_state.specs.declared.task.Where.TheVariants as where_
-use Rattle.spec_state.specs.Least.{IsLeast, IsTheLeast}
-use Rattle.spec_state.specs.Picks.{IsIdleAt, IsIdlePick}
-use Rattle.spec_state.specs.Queries.{IsIdle, IsLeastIdle}
-use Rattle.spec_state.specs.Stored.{IsStored}
-use Rattle.spec_state.specs.View.{View, task_at, queue_at}
-use Rattle.spec_state.proofs.Idles.{idle_none, idle_some, keeps_first, no_idle, passes_busy, picks_lesser, picks_only}
-use Rattle.event_def.specs.declared.event.Event.TheVariants as event
-use Rattle.event_def.specs.declared.event.Reply.{Reply}
-use Rattle.event_def.specs.declared.event.Reply.TheVariants as replies
-use Rattle.event_def.specs.Book.{book_of}
-use Rattle.event_def.specs.Causes.{AllCoresHeld, Cause, IsBusy, IsRefused, refusal_rank}
-use Rattle.event_def.specs.End.{IsOver}
-use Rattle.event_basis.proofs.Proved.{least_idle, least_where}
+use Rattle.event_prelude.specs.spec_state.declared.task.Status.{Status}
+use Rattle.event_prelude.specs.spec_state.declared.task.Status.TheVariants as status
+use Rattle.event_prelude.specs.spec_state.declared.task.Task.{Task}
+use Rattle.event_prelude.specs.spec_state.declared.task.TaskId.{TaskId}
+use Rattle.event_prelude.specs.spec_state.declared.task.Where.{Where}
+use Rattle.event_prelude.specs.spec_state.declared.task.Where.TheVariants as where_
+use Rattle.event_prelude.specs.spec_state.Least.{IsLeast, IsTheLeast}
+use Rattle.event_prelude.specs.spec_state.Picks.{IsIdleAt, IsIdlePick}
+use Rattle.event_prelude.specs.spec_state.Queries.{IsIdle, IsLeastIdle}
+use Rattle.event_prelude.specs.spec_state.Stored.{IsStored}
+use Rattle.event_prelude.specs.spec_state.View.{View, task_at, queue_at}
+use Rattle.event_prelude.proofs.Below.spec_state.Idles.{idle_none, idle_some, keeps_first, no_idle, passes_busy}
+use Rattle.event_prelude.proofs.Below.spec_state.Idles.{picks_lesser, picks_only}
+use Rattle.event_prelude.specs.event_def.declared.event.Event.TheVariants as event
+use Rattle.event_prelude.specs.event_def.declared.event.Reply.{Reply}
+use Rattle.event_prelude.specs.event_def.declared.event.Reply.TheVariants as replies
+use Rattle.event_prelude.specs.event_def.Book.{book_of}
+use Rattle.event_prelude.specs.event_def.Causes.{AllCoresHeld, Cause, IsBusy, IsRefused, refusal_rank}
+use Rattle.event_prelude.specs.event_def.End.{IsOver}
+use Rattle.event_prelude.proofs.Below.event_basis.Proved.{least_idle, least_where}
 use Rattle.event_move.specs.Idling.{NoIdleIsLeast}
 
 -- a task is idle, or it isn't

@@ -4,20 +4,20 @@ use Rattle.std.specs.declared.option.Option.{Option}
 use Rattle.std.specs.Prelude.{Result, Ok, Err, IsOk, OnOk}
 use Rattle.trace_tap.specs.declared.record.Deed.TheVariants as deed
 use Rattle.trace_tap.specs.declared.record.Record.{Record}
-use Rattle.spec_state.specs.declared.task.TaskId.{TaskId}
-use Rattle.spec_state.specs.Effects.{EffectValue, nothing}
-use Rattle.spec_state.specs.View.{View, block_at}
-use Rattle.spec_state.specs.Least.{IsLeastSpilled}
-use Rattle.spec_state.specs.Room.{Coalesces, IsMovable, MakesRoom, QueueHasRoom, Splits, Splitter}
-use Rattle.spec_state.specs.Told.{told_spilled}
-use Rattle.event_def.specs.declared.event.Came.TheVariants.{Made, Refused}
-use Rattle.event_def.specs.declared.event.Event.TheVariants as event
-use Rattle.event_def.specs.declared.event.Reply.TheVariants as reply
-use Rattle.event_def.specs.End.{IsOver}
-use Rattle.event_def.specs.Telling.{TellsRoom}
-use Rattle.event_def.specs.Trace.{record_of}
-use Rattle.event_def.specs.Book.{book_of}
-use Rattle.event_basis.proofs.Proved.{split_is_granted, coalesce_is_granted}
+use Rattle.event_prelude.specs.spec_state.declared.task.TaskId.{TaskId}
+use Rattle.event_prelude.specs.spec_state.Effects.{EffectValue, nothing}
+use Rattle.event_prelude.specs.spec_state.View.{View, block_at}
+use Rattle.event_prelude.specs.spec_state.Least.{IsLeastSpilled}
+use Rattle.event_prelude.specs.spec_state.Room.{Coalesces, IsMovable, MakesRoom, QueueHasRoom, Splits, Splitter}
+use Rattle.event_prelude.specs.spec_state.Told.{told_spilled}
+use Rattle.event_prelude.specs.event_def.declared.event.Came.TheVariants.{Made, Refused}
+use Rattle.event_prelude.specs.event_def.declared.event.Event.TheVariants as event
+use Rattle.event_prelude.specs.event_def.declared.event.Reply.TheVariants as reply
+use Rattle.event_prelude.specs.event_def.End.{IsOver}
+use Rattle.event_prelude.specs.event_def.Telling.{TellsRoom}
+use Rattle.event_prelude.specs.event_def.Trace.{record_of}
+use Rattle.event_prelude.specs.event_def.Book.{book_of}
+use Rattle.event_prelude.proofs.Below.event_basis.Proved.{split_is_granted, coalesce_is_granted}
 use Rattle.event_prelude.proofs.Proved.{room_told}
 use Rattle.event_move.specs.Moving.{ComesSo}
 

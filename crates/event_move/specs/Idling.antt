@@ -1,9 +1,9 @@
 -- Idle tasks of a tile beside the least task.
 use Rattle.std.specs.Prelude.{ℕ}
-use Rattle.spec_state.specs.declared.task.Task.{Task}
-use Rattle.spec_state.specs.Least.{IsTheLeast}
-use Rattle.spec_state.specs.Queries.{IsIdle}
-use Rattle.spec_state.specs.View.{View}
+use Rattle.event_prelude.specs.spec_state.declared.task.Task.{Task}
+use Rattle.event_prelude.specs.spec_state.Least.{IsTheLeast}
+use Rattle.event_prelude.specs.spec_state.Queries.{IsIdle}
+use Rattle.event_prelude.specs.spec_state.View.{View}
 
 -- no idle task of the tile is the least task
 abbrev pub NoIdleIsLeast : View → ℕ → Type 0

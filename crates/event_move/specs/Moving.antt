@@ -2,14 +2,14 @@
 use Rattle.std.specs.Prelude.{ℕ, List, length}
 use Rattle.place_policy.specs.Policy.{Policy}
 use Rattle.trace_tap.specs.TapValue.{TapValue}
-use Rattle.spec_state.specs.Effects.{EffectValue}
-use Rattle.spec_state.specs.View.{View}
-use Rattle.event_def.specs.declared.event.Came.{Came}
-use Rattle.event_def.specs.declared.event.Came.TheVariants.{Made, Refused}
-use Rattle.event_def.specs.declared.event.Event.{Event}
-use Rattle.event_def.specs.declared.event.Event.TheVariants as event
-use Rattle.event_def.specs.Book.{book_of, placers_after_commit}
-use Rattle.event_def.specs.Telling.{ComesTelling}
+use Rattle.event_prelude.specs.spec_state.Effects.{EffectValue}
+use Rattle.event_prelude.specs.spec_state.View.{View}
+use Rattle.event_prelude.specs.event_def.declared.event.Came.{Came}
+use Rattle.event_prelude.specs.event_def.declared.event.Came.TheVariants.{Made, Refused}
+use Rattle.event_prelude.specs.event_def.declared.event.Event.{Event}
+use Rattle.event_prelude.specs.event_def.declared.event.Event.TheVariants as event
+use Rattle.event_prelude.specs.event_def.Book.{book_of, placers_after_commit}
+use Rattle.event_prelude.specs.event_def.Telling.{ComesTelling}
 
 -- from a view an event leads to another one and tells what it did, or is refused, as a book's does, and the placers
 -- stay

@@ -1,22 +1,22 @@
 //! The abort of the latest dispatched task of a tile.
 
 ghost use Rattle.std.specs.Prelude.{◌≡◌, ◌<◌};
-ghost use Rattle.spec_law.specs.Sound.{Sound};
-ghost use Rattle.spec_state.specs.declared.task.Task.{Task};
-ghost use Rattle.spec_state.specs.Effects.{nothing};
-ghost use Rattle.spec_state.specs.Least.{IsTheLeast};
-ghost use Rattle.spec_state.specs.Queries.{IsLatestDispatched};
-ghost use Rattle.event_def.specs.declared.event.Came.TheVariants.{Made};
-ghost use Rattle.event_def.specs.declared.event.Event.TheVariants as event;
-ghost use Rattle.event_def.specs.End.{IsOver};
+ghost use Rattle.event_prelude.specs.spec_law.Sound.{Sound};
+ghost use Rattle.event_prelude.specs.spec_state.declared.task.Task.{Task};
+ghost use Rattle.event_prelude.specs.spec_state.Effects.{nothing};
+ghost use Rattle.event_prelude.specs.spec_state.Least.{IsTheLeast};
+ghost use Rattle.event_prelude.specs.spec_state.Queries.{IsLatestDispatched};
+ghost use Rattle.event_prelude.specs.event_def.declared.event.Came.TheVariants.{Made};
+ghost use Rattle.event_prelude.specs.event_def.declared.event.Event.TheVariants as event;
+ghost use Rattle.event_prelude.specs.event_def.End.{IsOver};
 ghost use Rattle.event_move.specs.Moving.{ComesSo};
 
 use crate::recording::record_of;
-use event_def::{Came, Reply};
+use event_prelude::event_def::{Came, Reply};
+use event_prelude::spec_rollback::abort as take_back;
+use event_prelude::spec_state::{State, TaskId};
 use event_prelude::{is_at, least_going};
 use rv_core::Naming;
-use spec_rollback::abort as take_back;
-use spec_state::{State, TaskId};
 use trace_tap::{Deed, Record};
 
 /// Takes the latest dispatched task of a tile back, which is not the least task, and the run isn't over.

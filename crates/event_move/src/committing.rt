@@ -1,20 +1,20 @@
 //! The commit of the least task.
 
 ghost use Rattle.std.specs.Prelude.{◌≡◌, IsNone, IfSome};
-ghost use Rattle.spec_law.specs.Sound.{Sound};
-ghost use Rattle.spec_state.specs.declared.task.Where.TheVariants.{Finished};
-ghost use Rattle.spec_state.specs.Effects.{nothing};
-ghost use Rattle.spec_state.specs.Least.{IsLeast};
-ghost use Rattle.event_basis.specs.Whereabouts.{IsUnfinished};
-ghost use Rattle.event_def.specs.End.{IsOver};
+ghost use Rattle.event_prelude.specs.spec_law.Sound.{Sound};
+ghost use Rattle.event_prelude.specs.spec_state.declared.task.Where.TheVariants.{Finished};
+ghost use Rattle.event_prelude.specs.spec_state.Effects.{nothing};
+ghost use Rattle.event_prelude.specs.spec_state.Least.{IsLeast};
+ghost use Rattle.event_prelude.specs.event_basis.Whereabouts.{IsUnfinished};
+ghost use Rattle.event_prelude.specs.event_def.End.{IsOver};
 ghost use Rattle.event_move.specs.Moving.{CommitComes};
 
 use crate::recording::record_of;
-use event_def::{Came, Reply};
+use event_prelude::event_def::{Came, Reply};
 use event_prelude::least_going;
+use event_prelude::spec_commit::commit_task;
+use event_prelude::spec_state::{State, TaskId, Where};
 use rv_core::Naming;
-use spec_commit::commit_task;
-use spec_state::{State, TaskId, Where};
 use trace_tap::Deed;
 
 /// The id of a finished least task.

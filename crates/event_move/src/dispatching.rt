@@ -1,29 +1,29 @@
 //! The dispatch of the least idle task of a tile.
 
 ghost use Rattle.std.specs.Prelude.{◌≡◌, ◌<◌, ◌↔◌, ℕ, Contains, IsTrue, IsFalse, IsSome, IsNone, IfSome, None, length};
-ghost use Rattle.spec_law.specs.Sound.{Sound};
-ghost use Rattle.spec_state.specs.declared.task.Task.{Task};
-ghost use Rattle.spec_state.specs.Effects.{nothing};
-ghost use Rattle.spec_state.specs.Least.{IsLeast, IsTheLeast};
-ghost use Rattle.spec_state.specs.Picks.{IsIdleAt, IsIdlePick};
-ghost use Rattle.spec_state.specs.Queries.{IsIdle, IsLeastIdle};
-ghost use Rattle.spec_state.specs.View.{task_at};
-ghost use Rattle.event_def.specs.declared.event.Came.TheVariants.{Made};
-ghost use Rattle.event_def.specs.declared.event.Event.TheVariants as event;
-ghost use Rattle.event_def.specs.Causes.{AllCoresHeld};
-ghost use Rattle.event_def.specs.End.{IsOver};
-ghost use Rattle.event_def.specs.Events.{FreesCore};
-ghost use Rattle.event_def.specs.Telling.{TellsCore};
+ghost use Rattle.event_prelude.specs.spec_law.Sound.{Sound};
+ghost use Rattle.event_prelude.specs.spec_state.declared.task.Task.{Task};
+ghost use Rattle.event_prelude.specs.spec_state.Effects.{nothing};
+ghost use Rattle.event_prelude.specs.spec_state.Least.{IsLeast, IsTheLeast};
+ghost use Rattle.event_prelude.specs.spec_state.Picks.{IsIdleAt, IsIdlePick};
+ghost use Rattle.event_prelude.specs.spec_state.Queries.{IsIdle, IsLeastIdle};
+ghost use Rattle.event_prelude.specs.spec_state.View.{task_at};
+ghost use Rattle.event_prelude.specs.event_def.declared.event.Came.TheVariants.{Made};
+ghost use Rattle.event_prelude.specs.event_def.declared.event.Event.TheVariants as event;
+ghost use Rattle.event_prelude.specs.event_def.Causes.{AllCoresHeld};
+ghost use Rattle.event_prelude.specs.event_def.End.{IsOver};
+ghost use Rattle.event_prelude.specs.event_def.Events.{FreesCore};
+ghost use Rattle.event_prelude.specs.event_def.Telling.{TellsCore};
 ghost use Rattle.event_move.specs.Idling.{NoIdleIsLeast};
 ghost use Rattle.event_move.specs.Moving.{ComesSo};
 
 use crate::recording::record_of;
-use event_def::{Came, Reply};
+use event_prelude::event_def::{Came, Reply};
 use event_prelude::least_going;
+use event_prelude::spec_rollback::abort;
+use event_prelude::spec_state::{State, Status, Task, TaskId, Where};
 use rv_core::Naming;
 use spec_dispatch::{dispatch_task, free_core};
-use spec_rollback::abort;
-use spec_state::{State, Status, Task, TaskId, Where};
 use trace_tap::{Deed, Record};
 
 /// Whether the task waits for a core.

@@ -1,10 +1,10 @@
 //! What taps note.
 
 ghost use Rattle.std.specs.Prelude.{◌≡◌, None};
-ghost use Rattle.event_def.specs.Trace.{record_of};
+ghost use Rattle.event_prelude.specs.event_def.Trace.{record_of};
 
+use event_prelude::spec_state::State;
 use rv_core::Naming;
-use spec_state::State;
 use trace_tap::{Deed, Record};
 
 /// The record of a deed of a tile, which took so many tasks back and left this state.

@@ -1,24 +1,24 @@
 //! Coalescing, by which tasks go into a tile's block, and splits, by which they come back.
 
 ghost use Rattle.std.specs.Prelude.{◌≡◌, ◌≢◌, ◌<◌, ◌⊎◌, [], ℕ};
-ghost use Rattle.spec_law.specs.Sound.{Sound};
-ghost use Rattle.spec_state.specs.declared.reserving.TheConstants.{MAX_MOVED};
-ghost use Rattle.spec_state.specs.Effects.{nothing};
-ghost use Rattle.spec_state.specs.View.{block_at};
-ghost use Rattle.spec_state.specs.StateValue.{CoversPushes};
-ghost use Rattle.spec_state.specs.Least.{IsLeastSpilled};
-ghost use Rattle.spec_state.specs.Room.{QueueHasRoom, IsMovable};
-ghost use Rattle.event_def.specs.declared.event.Came.TheVariants.{Made};
-ghost use Rattle.event_def.specs.declared.event.Event.TheVariants as event;
-ghost use Rattle.event_def.specs.End.{IsOver};
+ghost use Rattle.event_prelude.specs.spec_law.Sound.{Sound};
+ghost use Rattle.event_prelude.specs.spec_state.declared.reserving.TheConstants.{MAX_MOVED};
+ghost use Rattle.event_prelude.specs.spec_state.Effects.{nothing};
+ghost use Rattle.event_prelude.specs.spec_state.View.{block_at};
+ghost use Rattle.event_prelude.specs.spec_state.StateValue.{CoversPushes};
+ghost use Rattle.event_prelude.specs.spec_state.Least.{IsLeastSpilled};
+ghost use Rattle.event_prelude.specs.spec_state.Room.{QueueHasRoom, IsMovable};
+ghost use Rattle.event_prelude.specs.event_def.declared.event.Came.TheVariants.{Made};
+ghost use Rattle.event_prelude.specs.event_def.declared.event.Event.TheVariants as event;
+ghost use Rattle.event_prelude.specs.event_def.End.{IsOver};
 ghost use Rattle.event_move.specs.Moving.{ComesSo};
 
 use crate::recording::record_of;
-use event_def::{Came, Reply};
+use event_prelude::event_def::{Came, Reply};
+use event_prelude::spec_commit::{coalesce as spill, split as return_least};
+use event_prelude::spec_state::State;
 use event_prelude::{end_of, least_going, make_room, may_return};
 use rv_core::Naming;
-use spec_commit::{coalesce as spill, split as return_least};
-use spec_state::State;
 use trace_tap::{Deed, Record};
 
 /// Moves idle firm tasks of a tile, which has one, into its block, where the run isn't over. Refused with `Memory`

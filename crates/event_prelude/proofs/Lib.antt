@@ -1,3 +1,4 @@
 pub mod Standing
 pub mod Victims
 pub mod Proved
+pub mod Below

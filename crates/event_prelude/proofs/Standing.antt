@@ -1,10 +1,10 @@
 -- Whether the least task is a given one, by a test of where it stands.
 use Rattle.std.proofs.Common.{ℕ, ◌≡◌, ◌⊎◌, inl, inr, Bool, false, Some, sym, ◌∙◌}
 use Rattle.std.specs.Prelude.{◌↔◌, IsTrue}
-use Rattle.spec_state.specs.declared.task.Where.{Where}
-use Rattle.spec_state.specs.View.{View}
-use Rattle.spec_state.specs.Least.{IsLeast, IsLeastSpilled, IsTheLeast}
-use Rattle.spec_state.specs.Room.{QueueHasRoom}
+use Rattle.event_basis.specs.spec_state.declared.task.Where.{Where}
+use Rattle.event_basis.specs.spec_state.View.{View}
+use Rattle.event_basis.specs.spec_state.Least.{IsLeast, IsLeastSpilled, IsTheLeast}
+use Rattle.event_basis.specs.spec_state.Room.{QueueHasRoom}
 use Rattle.event_basis.specs.Whereabouts.{queued_in, spilled_in}
 use Rattle.event_basis.proofs.Proved.{least_where, spilled_where}
 

@@ -4,20 +4,21 @@ use Rattle.std.specs.declared.option.Option.{Option}
 use Rattle.std.specs.Prelude.{◌↔◌, IfSome, IsSome, IsTrue, is_some}
 use Rattle.guest_image.specs.ImageValue.{ImageValue}
 use Rattle.memory_law.specs.Tasks.{IsByKey}
-use Rattle.spec_state.specs.declared.effect.TakenTask.{TakenTask}
-use Rattle.spec_state.specs.declared.task.Task.{Task}
-use Rattle.spec_state.specs.declared.task.TaskId.{TaskId}
-use Rattle.spec_state.specs.View.{View, task_at}
-use Rattle.spec_state.specs.Aborts.{Aborts, OnlyNode}
-use Rattle.spec_state.specs.Effects.{EffectValue, nothing}
-use Rattle.spec_state.specs.Groups.{logged_tasks, live_creator}
-use Rattle.spec_state.specs.Least.{IsFirm}
-use Rattle.spec_state.specs.Queries.{IsIdleFirm}
-use Rattle.spec_state.specs.Room.{Asker, Coalesces, QueueHasRoom, IsFull, IsLeastAsker, IsMovable, IsVictim}
-use Rattle.spec_state.specs.Room.{MakesRoom, NoneMoves, queue_has_room, coalesces, aborts_victim, aborts_creator}
-use Rattle.spec_state.specs.Told.{TellsBack}
-use Rattle.spec_law.specs.Sound.{Sound}
-use Rattle.event_def.specs.Telling.{TellsRoom, TellsSpilled}
+use Rattle.event_basis.specs.spec_state.declared.effect.TakenTask.{TakenTask}
+use Rattle.event_basis.specs.spec_state.declared.task.Task.{Task}
+use Rattle.event_basis.specs.spec_state.declared.task.TaskId.{TaskId}
+use Rattle.event_basis.specs.spec_state.View.{View, task_at}
+use Rattle.event_basis.specs.spec_state.Aborts.{Aborts, OnlyNode}
+use Rattle.event_basis.specs.spec_state.Effects.{EffectValue, nothing}
+use Rattle.event_basis.specs.spec_state.Groups.{logged_tasks, live_creator}
+use Rattle.event_basis.specs.spec_state.Least.{IsFirm}
+use Rattle.event_basis.specs.spec_state.Queries.{IsIdleFirm}
+use Rattle.event_basis.specs.spec_state.Room.{Asker, Coalesces, QueueHasRoom, IsFull, IsLeastAsker, IsMovable, IsVictim}
+use Rattle.event_basis.specs.spec_state.Room.{MakesRoom, NoneMoves, queue_has_room, coalesces, aborts_victim}
+use Rattle.event_basis.specs.spec_state.Room.{aborts_creator}
+use Rattle.event_basis.specs.spec_state.Told.{TellsBack}
+use Rattle.event_basis.specs.spec_law.Sound.{Sound}
+use Rattle.event_basis.specs.event_def.Telling.{TellsRoom, TellsSpilled}
 use Rattle.event_basis.specs.Forcing.{RunsIfTask}
 use Rattle.event_prelude.specs.Entering.{MayEnter}
 use Rattle.event_basis.proofs.Proved.{sound_by_key, taken_is_live, victim_moves}

@@ -1,7 +1,7 @@
 -- To whom a tile's task queue gives room.
 use Rattle.std.specs.Prelude.{◌⊎◌, ℕ}
-use Rattle.spec_state.specs.View.{View}
-use Rattle.spec_state.specs.Room.{Asker, QueueHasRoom, IsMovable, IsLeastAsker}
+use Rattle.event_basis.specs.spec_state.View.{View}
+use Rattle.event_basis.specs.spec_state.Room.{Asker, QueueHasRoom, IsMovable, IsLeastAsker}
 
 -- the tile's task queue has a free place or holds an idle firm task, or who asks for a place does so as the least task
 abbrev pub MayEnter : View → ℕ → Asker → Type 0

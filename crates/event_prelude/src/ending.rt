@@ -1,16 +1,16 @@
 //! Whether a run is over, and how it ended. No call takes memory.
 
 ghost use Rattle.std.specs.Prelude.{◌≡◌, ◌≢◌, ◌↔◌, IsTrue, IsNone, IfSome, length};
-ghost use Rattle.spec_law.specs.Sound.{Sound};
-ghost use Rattle.spec_state.specs.declared.task.Where.TheVariants.{Trapped};
-ghost use Rattle.spec_state.specs.Least.{IsLeast, IsTheLeast, IsAllCommitted, HasName};
-ghost use Rattle.spec_state.specs.View.{task_at};
+ghost use Rattle.event_basis.specs.spec_law.Sound.{Sound};
+ghost use Rattle.event_basis.specs.spec_state.declared.task.Where.TheVariants.{Trapped};
+ghost use Rattle.event_basis.specs.spec_state.Least.{IsLeast, IsTheLeast, IsAllCommitted, HasName};
+ghost use Rattle.event_basis.specs.spec_state.View.{task_at};
 ghost use Rattle.event_basis.specs.Whereabouts.{IsUntrapped};
-ghost use Rattle.event_def.specs.End.{HasEnd, IsOver};
+ghost use Rattle.event_basis.specs.event_def.End.{HasEnd, IsOver};
 
+use event_basis::serial_machine::End;
+use event_basis::spec_state::{State, Status, TaskId, Where};
 use rv_core::Naming;
-use serial_machine::End;
-use spec_state::{State, Status, TaskId, Where};
 use task_desc::Name;
 
 /// Whether as many tasks have committed as may.

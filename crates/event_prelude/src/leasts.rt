@@ -1,11 +1,11 @@
 //! Whether the least task is a given one, or is spilled in a given tile. No call takes memory.
 
 ghost use Rattle.std.specs.Prelude.{◌≡◌, ◌↔◌, IsTrue, Some, option_map};
-ghost use Rattle.spec_state.specs.Least.{IsTheLeast, IsLeastSpilled};
+ghost use Rattle.event_basis.specs.spec_state.Least.{IsTheLeast, IsLeastSpilled};
 ghost use Rattle.event_basis.specs.Whereabouts.{queued_in, spilled_in};
 
+use event_basis::spec_state::{State, TaskId, Where};
 use rv_core::Naming;
-use spec_state::{State, TaskId, Where};
 
 /// The id of the least task, where it is queued.
 fn queued_in(least: Where) -> Option<TaskId>

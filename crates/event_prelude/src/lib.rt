@@ -11,5 +11,8 @@ mod leasts;
 mod rooming;
 
 pub use ending::{end_of, end_with, least_going};
+pub use event_basis::{event_def, serial_machine, spec_state};
 pub use leasts::is_at;
 pub use rooming::{make_room, may_return, stalls};
+pub use spec_commit;
+pub use spec_rollback;

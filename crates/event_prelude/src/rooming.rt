@@ -1,23 +1,24 @@
 //! A free place in a task queue, for a child or for a spilled task that comes back.
 
 ghost use Rattle.std.specs.Prelude.{◌≡◌, ◌<◌, ◌⊎◌, ◌↔◌, ℕ, IsTrue, IsFalse, None, option_map};
-ghost use Rattle.spec_law.specs.Sound.{Sound};
+ghost use Rattle.event_basis.specs.spec_law.Sound.{Sound};
 ghost use Rattle.spec_commit.specs.Spilling.{KeepsOtherSpare};
-ghost use Rattle.spec_state.specs.declared.reserving.TheConstants.{MAX_MOVED};
-ghost use Rattle.spec_state.specs.StateValue.{CoversPushes};
-ghost use Rattle.spec_state.specs.Least.{IsLeast, IsLeastSpilled};
-ghost use Rattle.spec_state.specs.Room.{IsFull, IsMovable, NoneMoves, IsLeastAsker, Stalls, Coalesces, MakesRoom};
-ghost use Rattle.spec_state.specs.Room.{QueueHasRoom, asker_of};
-ghost use Rattle.spec_state.specs.Effects.{nothing};
-ghost use Rattle.event_def.specs.Telling.{TellsRoom, TellsSpilled};
+ghost use Rattle.event_basis.specs.spec_state.declared.reserving.TheConstants.{MAX_MOVED};
+ghost use Rattle.event_basis.specs.spec_state.StateValue.{CoversPushes};
+ghost use Rattle.event_basis.specs.spec_state.Least.{IsLeast, IsLeastSpilled};
+ghost use Rattle.event_basis.specs.spec_state.Room.{IsFull, IsMovable, NoneMoves, IsLeastAsker, Stalls, Coalesces};
+ghost use Rattle.event_basis.specs.spec_state.Room.{MakesRoom};
+ghost use Rattle.event_basis.specs.spec_state.Room.{QueueHasRoom, asker_of};
+ghost use Rattle.event_basis.specs.spec_state.Effects.{nothing};
+ghost use Rattle.event_basis.specs.event_def.Telling.{TellsRoom, TellsSpilled};
 ghost use Rattle.event_basis.specs.Forcing.{RunsIfTask};
 ghost use Rattle.event_prelude.specs.Entering.{MayEnter};
 
 use crate::leasts::{is_least, is_least_spilled, is_spilled_at};
+use event_basis::spec_state::{State, TaskId, Where};
 use rv_core::Naming;
 use spec_commit::{coalesce, creator_of, victim_of};
 use spec_rollback::abort;
-use spec_state::{State, TaskId, Where};
 
 /// Whether who asks for room is the least task, or asks for it.
 fn asks_as_least<N: Naming>(state: &State<N>, tile: u32, asker: Option<TaskId>) -> bool

@@ -6,20 +6,20 @@ use Rattle.guest_image.specs.ImageValue.{ImageValue}
 use Rattle.rv_core.specs.LegValue.{LegValue}
 use Rattle.rv_table.specs.declared.instr.LoadWidth.{LoadWidth}
 use Rattle.task_request.specs.declared.request.Request.{Request}
-use Rattle.spec_state.specs.declared.task.Task.{Task}
-use Rattle.spec_state.specs.View.{View, task_at}
-use Rattle.spec_state.specs.StateValue.{StateValue, CoversLog, CoversChild}
-use Rattle.spec_state.specs.Changes.{LoadsFrom, StoresTo}
-use Rattle.spec_state.specs.Effects.{EffectValue, nothing}
+use Rattle.event_prelude.specs.spec_state.declared.task.Task.{Task}
+use Rattle.event_prelude.specs.spec_state.View.{View, task_at}
+use Rattle.event_prelude.specs.spec_state.StateValue.{StateValue, CoversLog, CoversChild}
+use Rattle.event_prelude.specs.spec_state.Changes.{LoadsFrom, StoresTo}
+use Rattle.event_prelude.specs.spec_state.Effects.{EffectValue, nothing}
 use Rattle.spec_access.specs.Asking.{Asks, OfTaker}
-use Rattle.spec_state.specs.Aborts.{Aborts}
-use Rattle.spec_state.specs.Groups.{logged_tasks}
-use Rattle.spec_state.specs.Queries.{Conflicts}
-use Rattle.spec_state.specs.Told.{TellsBack}
+use Rattle.event_prelude.specs.spec_state.Aborts.{Aborts}
+use Rattle.event_prelude.specs.spec_state.Groups.{logged_tasks}
+use Rattle.event_prelude.specs.spec_state.Queries.{Conflicts}
+use Rattle.event_prelude.specs.spec_state.Told.{TellsBack}
 use Rattle.memory_law.specs.Tasks.{IsByKey}
-use Rattle.spec_law.specs.Sound.{Sound}
-use Rattle.event_basis.specs.Forcing.{TakesStill}
-use Rattle.event_basis.proofs.Proved.{sound_by_key}
+use Rattle.event_prelude.specs.spec_law.Sound.{Sound}
+use Rattle.event_prelude.specs.event_basis.Forcing.{TakesStill}
+use Rattle.event_prelude.proofs.Below.event_basis.Proved.{sound_by_key}
 use Rattle.event_step.specs.Accessing.{TakesTelling, LoadsTelling, StoresTelling}
 use Rattle.event_step.proofs.Stepping.{asks_still}
 

@@ -11,29 +11,30 @@ use Rattle.trace_tap.specs.declared.record.Record.{Record}
 use Rattle.trace_tap.specs.TapValue.{TapValue}
 use Rattle.rv_core.specs.LegValue.{LegValue}
 use Rattle.task_request.specs.declared.request.Request.TheVariants.{End}
-use Rattle.spec_state.specs.declared.task.Task.{Task}
-use Rattle.spec_state.specs.Effects.{EffectValue, nothing}
-use Rattle.spec_state.specs.Told.{TellsBack}
-use Rattle.spec_state.specs.View.{View, task_at, finished_at}
-use Rattle.spec_state.specs.Aborts.{Aborts, OnlyNode}
-use Rattle.spec_state.specs.Changes.{TakesLeg, Finishes}
-use Rattle.spec_state.specs.Groups.{logged_tasks}
-use Rattle.spec_state.specs.Queries.{IsFinished, IsLatestFinished}
+use Rattle.event_prelude.specs.spec_state.declared.task.Task.{Task}
+use Rattle.event_prelude.specs.spec_state.Effects.{EffectValue, nothing}
+use Rattle.event_prelude.specs.spec_state.Told.{TellsBack}
+use Rattle.event_prelude.specs.spec_state.View.{View, task_at, finished_at}
+use Rattle.event_prelude.specs.spec_state.Aborts.{Aborts, OnlyNode}
+use Rattle.event_prelude.specs.spec_state.Changes.{TakesLeg, Finishes}
+use Rattle.event_prelude.specs.spec_state.Groups.{logged_tasks}
+use Rattle.event_prelude.specs.spec_state.Queries.{IsFinished, IsLatestFinished}
 use Rattle.spec_access.specs.Asking.{Asks, CommitQueueHasRoom}
-use Rattle.spec_law.specs.Sound.{Sound}
-use Rattle.event_def.specs.declared.event.Came.TheVariants.{Made, Refused}
-use Rattle.event_def.specs.declared.event.Event.TheVariants as event
-use Rattle.event_def.specs.declared.event.Reply.TheVariants as reply
-use Rattle.event_def.specs.Causes.{IsCommitFull, StallsAtEnd}
-use Rattle.event_def.specs.End.{IsOver}
-use Rattle.event_def.specs.Events.{FreesCommit}
-use Rattle.event_def.specs.Events as events
-use Rattle.event_def.specs.Telling.{ComesTelling, TellsCommit}
-use Rattle.event_def.specs.Trace.{record_of}
-use Rattle.event_def.specs.Book.{book_of}
-use Rattle.event_basis.specs.Forcing.{TakesStill}
-use Rattle.event_basis.proofs.Proved.{commit_leaves_taker, commit_leaves_place, finished_is_later, no_child_no_stall}
-use Rattle.event_basis.proofs.Proved.{none_is_later, sound_by_key, stall_is_refused}
+use Rattle.event_prelude.specs.spec_law.Sound.{Sound}
+use Rattle.event_prelude.specs.event_def.declared.event.Came.TheVariants.{Made, Refused}
+use Rattle.event_prelude.specs.event_def.declared.event.Event.TheVariants as event
+use Rattle.event_prelude.specs.event_def.declared.event.Reply.TheVariants as reply
+use Rattle.event_prelude.specs.event_def.Causes.{IsCommitFull, StallsAtEnd}
+use Rattle.event_prelude.specs.event_def.End.{IsOver}
+use Rattle.event_prelude.specs.event_def.Events.{FreesCommit}
+use Rattle.event_prelude.specs.event_def.Events as events
+use Rattle.event_prelude.specs.event_def.Telling.{ComesTelling, TellsCommit}
+use Rattle.event_prelude.specs.event_def.Trace.{record_of}
+use Rattle.event_prelude.specs.event_def.Book.{book_of}
+use Rattle.event_prelude.specs.event_basis.Forcing.{TakesStill}
+use Rattle.event_prelude.proofs.Below.event_basis.Proved.{commit_leaves_taker, commit_leaves_place, finished_is_later}
+use Rattle.event_prelude.proofs.Below.event_basis.Proved.{no_child_no_stall}
+use Rattle.event_prelude.proofs.Below.event_basis.Proved.{none_is_later, sound_by_key, stall_is_refused}
 use Rattle.event_step.specs.Ending.{EndsTelling, HasLater, HasNoLater, SaysLater}
 use Rattle.event_step.proofs.Stepping.{asks_same, granted, made_granted, tells_neither}
 

@@ -9,29 +9,30 @@ use Rattle.trace_tap.specs.TapValue.{TapValue}
 use Rattle.rv_core.specs.LegValue.{LegValue}
 use Rattle.task_desc.specs.declared.desc.Spawn.{Spawn}
 use Rattle.task_request.specs.declared.request.Request.TheVariants.{Enqueue}
-use Rattle.spec_state.specs.declared.settings.Settings.{Settings}
-use Rattle.spec_state.specs.declared.task.Task.{Task}
-use Rattle.spec_state.specs.declared.task.TaskId.{TaskId}
-use Rattle.spec_state.specs.Effects.{EffectValue, nothing}
-use Rattle.spec_state.specs.View.{View}
-use Rattle.spec_state.specs.Changes.{TakesLeg, request_of}
-use Rattle.spec_state.specs.Room as room
-use Rattle.spec_state.specs.Room.{Asker, Enqueuer, QueueHasRoom, MakesRoom, Stalls}
+use Rattle.event_prelude.specs.spec_state.declared.settings.Settings.{Settings}
+use Rattle.event_prelude.specs.spec_state.declared.task.Task.{Task}
+use Rattle.event_prelude.specs.spec_state.declared.task.TaskId.{TaskId}
+use Rattle.event_prelude.specs.spec_state.Effects.{EffectValue, nothing}
+use Rattle.event_prelude.specs.spec_state.View.{View}
+use Rattle.event_prelude.specs.spec_state.Changes.{TakesLeg, request_of}
+use Rattle.event_prelude.specs.spec_state.Room as room
+use Rattle.event_prelude.specs.spec_state.Room.{Asker, Enqueuer, QueueHasRoom, MakesRoom, Stalls}
 use Rattle.spec_access.specs.Asking.{Asks}
 use Rattle.spec_access.specs.Telling.{EnqueuesTold}
-use Rattle.spec_law.specs.Sound.{Sound}
-use Rattle.event_def.specs.declared.event.Came.TheVariants.{Made, Refused}
-use Rattle.event_def.specs.declared.event.Event.TheVariants as event
-use Rattle.event_def.specs.declared.event.Reply.TheVariants as reply
-use Rattle.event_def.specs.Book.{picked_tile, book_of}
-use Rattle.event_def.specs.Causes.{IsGranted}
-use Rattle.event_def.specs.End.{IsOver}
-use Rattle.event_def.specs.Events.{EnqueueEvent}
-use Rattle.event_def.specs.Telling.{ComesTelling, TellsRoom}
-use Rattle.event_def.specs.Trace.{record_of}
-use Rattle.event_basis.specs.Forcing.{TakesStill, LeavesRoom}
-use Rattle.event_basis.proofs.Proved.{child_no_stall, no_end_no_stall, room_leaves, room_leaves_asker}
-use Rattle.event_basis.proofs.Proved.{stall_is_refused, taker_asks}
+use Rattle.event_prelude.specs.spec_law.Sound.{Sound}
+use Rattle.event_prelude.specs.event_def.declared.event.Came.TheVariants.{Made, Refused}
+use Rattle.event_prelude.specs.event_def.declared.event.Event.TheVariants as event
+use Rattle.event_prelude.specs.event_def.declared.event.Reply.TheVariants as reply
+use Rattle.event_prelude.specs.event_def.Book.{picked_tile, book_of}
+use Rattle.event_prelude.specs.event_def.Causes.{IsGranted}
+use Rattle.event_prelude.specs.event_def.End.{IsOver}
+use Rattle.event_prelude.specs.event_def.Events.{EnqueueEvent}
+use Rattle.event_prelude.specs.event_def.Telling.{ComesTelling, TellsRoom}
+use Rattle.event_prelude.specs.event_def.Trace.{record_of}
+use Rattle.event_prelude.specs.event_basis.Forcing.{TakesStill, LeavesRoom}
+use Rattle.event_prelude.proofs.Below.event_basis.Proved.{child_no_stall, no_end_no_stall, room_leaves}
+use Rattle.event_prelude.proofs.Below.event_basis.Proved.{room_leaves_asker}
+use Rattle.event_prelude.proofs.Below.event_basis.Proved.{stall_is_refused, taker_asks}
 use Rattle.event_step.specs.Placing.{PlacesTelling}
 use Rattle.event_step.proofs.Stepping.{asks_same, granted, made_granted, wants_memory}
 

@@ -8,22 +8,22 @@ use Rattle.trace_tap.specs.TapValue.{TapValue}
 use Rattle.rv_core.specs.LegValue.{LegValue}
 use Rattle.task_request.specs.declared.request.Request.{Request}
 use Rattle.task_request.specs.declared.request.Request.TheVariants.{Enqueue, End}
-use Rattle.spec_state.specs.declared.task.Task.{Task}
-use Rattle.spec_state.specs.Effects.{EffectValue, nothing}
-use Rattle.spec_state.specs.View.{View}
-use Rattle.spec_state.specs.Changes.{TakesLeg, request_of}
+use Rattle.event_prelude.specs.spec_state.declared.task.Task.{Task}
+use Rattle.event_prelude.specs.spec_state.Effects.{EffectValue, nothing}
+use Rattle.event_prelude.specs.spec_state.View.{View}
+use Rattle.event_prelude.specs.spec_state.Changes.{TakesLeg, request_of}
 use Rattle.spec_access.specs.Asking.{Asks}
-use Rattle.event_def.specs.declared.event.Came.TheVariants.{Made, Refused}
-use Rattle.event_def.specs.declared.event.Event.TheVariants as event
-use Rattle.event_def.specs.declared.event.Reply.TheVariants as reply
-use Rattle.event_def.specs.Book.{BookView, book_of}
-use Rattle.event_def.specs.Causes.{IsGranted, RequestTakesMemory, StallsAtEnqueue, StallsAtEnd}
-use Rattle.event_def.specs.End.{IsOver}
-use Rattle.event_def.specs.Events.{ComesTo, StepEvent}
-use Rattle.event_def.specs.Telling.{ComesTelling, TellsNeither, TellsRequest}
-use Rattle.event_def.specs.Trace.{deed_of, line_of_request, record_of}
-use Rattle.event_basis.specs.Forcing.{TakesStill}
-use Rattle.event_basis.proofs.Proved.{no_child_no_stall, no_end_no_stall, step_is_granted}
+use Rattle.event_prelude.specs.event_def.declared.event.Came.TheVariants.{Made, Refused}
+use Rattle.event_prelude.specs.event_def.declared.event.Event.TheVariants as event
+use Rattle.event_prelude.specs.event_def.declared.event.Reply.TheVariants as reply
+use Rattle.event_prelude.specs.event_def.Book.{BookView, book_of}
+use Rattle.event_prelude.specs.event_def.Causes.{IsGranted, RequestTakesMemory, StallsAtEnqueue, StallsAtEnd}
+use Rattle.event_prelude.specs.event_def.End.{IsOver}
+use Rattle.event_prelude.specs.event_def.Events.{ComesTo, StepEvent}
+use Rattle.event_prelude.specs.event_def.Telling.{ComesTelling, TellsNeither, TellsRequest}
+use Rattle.event_prelude.specs.event_def.Trace.{deed_of, line_of_request, record_of}
+use Rattle.event_prelude.specs.event_basis.Forcing.{TakesStill}
+use Rattle.event_prelude.proofs.Below.event_basis.Proved.{no_child_no_stall, no_end_no_stall, step_is_granted}
 
 -- a step may stall at an enqueue and at an end call
 abbrev pub MayStall : Request → Type 0

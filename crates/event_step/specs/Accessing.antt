@@ -2,11 +2,11 @@
 use Rattle.std.specs.Prelude.{◌≡◌, ℕ, Bool, None}
 use Rattle.rv_core.specs.LegValue.{LegValue}
 use Rattle.rv_table.specs.declared.instr.LoadWidth.{LoadWidth}
-use Rattle.spec_state.specs.declared.task.Task.{Task}
-use Rattle.spec_state.specs.Effects.{EffectValue}
-use Rattle.spec_state.specs.View.{View}
-use Rattle.event_def.specs.Events.{TakesConflicts, LoadEvent, StoreEvent}
-use Rattle.event_def.specs.Telling.{TellsAbort}
+use Rattle.event_prelude.specs.spec_state.declared.task.Task.{Task}
+use Rattle.event_prelude.specs.spec_state.Effects.{EffectValue}
+use Rattle.event_prelude.specs.spec_state.View.{View}
+use Rattle.event_prelude.specs.event_def.Events.{TakesConflicts, LoadEvent, StoreEvent}
+use Rattle.event_prelude.specs.event_def.Telling.{TellsAbort}
 
 -- what conflicts with an access is taken back, and it alone is told
 abbrev pub TakesTelling : Task → ℕ → Bool → View → ℕ → View → EffectValue → Type 0

@@ -3,13 +3,13 @@ use Rattle.std.specs.Prelude.{ℕ, List}
 use Rattle.place_policy.specs.Policy.{Policy}
 use Rattle.trace_tap.specs.TapValue.{TapValue}
 use Rattle.rv_core.specs.LegValue.{LegValue}
-use Rattle.spec_state.specs.Effects.{EffectValue}
-use Rattle.spec_state.specs.View.{View}
+use Rattle.event_prelude.specs.spec_state.Effects.{EffectValue}
+use Rattle.event_prelude.specs.spec_state.View.{View}
 use Rattle.spec_access.specs.Asking.{OfTakerIn}
-use Rattle.event_def.specs.declared.event.Came.{Came}
-use Rattle.event_def.specs.declared.event.Event.TheVariants as event
-use Rattle.event_def.specs.Book.{book_of}
-use Rattle.event_def.specs.Telling.{ComesTelling}
+use Rattle.event_prelude.specs.event_def.declared.event.Came.{Came}
+use Rattle.event_prelude.specs.event_def.declared.event.Event.TheVariants as event
+use Rattle.event_prelude.specs.event_def.Book.{book_of}
+use Rattle.event_prelude.specs.event_def.Telling.{ComesTelling}
 
 -- what comes of a step on this core of this tile, and what it tells, whatever taps there are and however many events
 -- were made

@@ -3,12 +3,12 @@ use Rattle.std.specs.Prelude.{◌≡◌, ◌↔◌, ℕ, Bool, None, IsTrue, IfS
 use Rattle.std.specs.declared.cmp.Ordering.TheVariants.{Less}
 use Rattle.fractal_vt.specs.Keys.{key_cmp}
 use Rattle.rv_core.specs.LegValue.{LegValue}
-use Rattle.spec_state.specs.declared.task.Task.{Task}
-use Rattle.spec_state.specs.Effects.{EffectValue}
-use Rattle.spec_state.specs.View.{View, task_at}
-use Rattle.spec_state.specs.Queries.{IsFinished, IsLater, IsLatestFinished}
-use Rattle.event_def.specs.Events.{EndEvent}
-use Rattle.event_def.specs.Telling.{TellsCommit}
+use Rattle.event_prelude.specs.spec_state.declared.task.Task.{Task}
+use Rattle.event_prelude.specs.spec_state.Effects.{EffectValue}
+use Rattle.event_prelude.specs.spec_state.View.{View, task_at}
+use Rattle.event_prelude.specs.spec_state.Queries.{IsFinished, IsLater, IsLatestFinished}
+use Rattle.event_prelude.specs.event_def.Events.{EndEvent}
+use Rattle.event_prelude.specs.event_def.Telling.{TellsCommit}
 
 -- the task of this id is the latest one in the commit queue of the tile, and is later than the given one
 abbrev pub HasLater : View → ℕ → ℕ → Task → Type 0

@@ -2,12 +2,12 @@
 use Rattle.std.specs.Prelude.{◌≡◌, ℕ, Some}
 use Rattle.rv_core.specs.LegValue.{LegValue}
 use Rattle.task_desc.specs.declared.desc.Spawn.{Spawn}
-use Rattle.spec_state.specs.declared.task.Task.{Task}
-use Rattle.spec_state.specs.Effects.{EffectValue}
-use Rattle.spec_state.specs.View.{View}
-use Rattle.spec_state.specs.Room.{Enqueuer, MakesRoom}
-use Rattle.spec_state.specs.Changes.{Enqueues}
-use Rattle.event_def.specs.Telling.{TellsRoom}
+use Rattle.event_prelude.specs.spec_state.declared.task.Task.{Task}
+use Rattle.event_prelude.specs.spec_state.Effects.{EffectValue}
+use Rattle.event_prelude.specs.spec_state.View.{View}
+use Rattle.event_prelude.specs.spec_state.Room.{Enqueuer, MakesRoom}
+use Rattle.event_prelude.specs.spec_state.Changes.{Enqueues}
+use Rattle.event_prelude.specs.event_def.Telling.{TellsRoom}
 
 -- the tile makes room for the child of this task, and then the child stands there
 pub record PlacesChild (tile id : ℕ) (task : Task) (leg : LegValue) (spawn : Spawn) (old : View) (aborted : ℕ)

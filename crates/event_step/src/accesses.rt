@@ -2,22 +2,22 @@
 
 ghost use Rattle.std.specs.Prelude.{◌≡◌, ◌/◌};
 ghost use Rattle.task_request.specs.declared.request.Request.TheVariants.{Load, Store};
-ghost use Rattle.spec_state.specs.Effects.{nothing};
-ghost use Rattle.spec_state.specs.StateValue.{CoversLog};
+ghost use Rattle.event_prelude.specs.spec_state.Effects.{nothing};
+ghost use Rattle.event_prelude.specs.spec_state.StateValue.{CoversLog};
 ghost use Rattle.spec_access.specs.Asking.{Asks, HasTaker, OfTaker};
-ghost use Rattle.spec_law.specs.Sound.{Sound};
-ghost use Rattle.event_def.specs.End.{IsOver};
-ghost use Rattle.event_basis.specs.Forcing.{TakesStill};
+ghost use Rattle.event_prelude.specs.spec_law.Sound.{Sound};
+ghost use Rattle.event_prelude.specs.event_def.End.{IsOver};
+ghost use Rattle.event_prelude.specs.event_basis.Forcing.{TakesStill};
 ghost use Rattle.event_step.specs.Accessing.{TakesTelling, LoadsTelling, StoresTelling};
 ghost use Rattle.event_step.specs.Coming.{QuietlyComes};
 
 use crate::recording::record_of;
-use event_def::{Came, Reply};
+use event_prelude::event_def::{Came, Reply};
+use event_prelude::spec_rollback::abort_conflicts;
+use event_prelude::spec_state::{State, TaskId};
 use rv_core::{Leg, Naming};
 use rv_table::{LoadWidth, Reg};
 use spec_access::{load_reserved, reserve_access, store_reserved};
-use spec_rollback::abort_conflicts;
-use spec_state::{State, TaskId};
 use trace_tap::Deed;
 
 /// The line of an offset in the data.

@@ -4,17 +4,17 @@
 ghost use Rattle.std.specs.Prelude.{◌≡◌};
 ghost use Rattle.task_request.specs.declared.request.Request.TheVariants.{Continue, MakeSub};
 ghost use Rattle.task_request.specs.declared.request.Request.TheVariants.{Emit, Trap};
-ghost use Rattle.spec_state.specs.Effects.{nothing};
+ghost use Rattle.event_prelude.specs.spec_state.Effects.{nothing};
 ghost use Rattle.spec_access.specs.Asking.{Asks};
-ghost use Rattle.event_def.specs.End.{IsOver};
+ghost use Rattle.event_prelude.specs.event_def.End.{IsOver};
 ghost use Rattle.event_step.specs.Coming.{QuietlyComes};
 
 use crate::recording::record_of;
-use event_def::Came;
+use event_prelude::event_def::Came;
+use event_prelude::spec_state::{State, TaskId};
 use guest_image::Kind;
 use rv_core::{Leg, Naming};
 use spec_access::{call_trap, end_quantum, open_sub, put_byte};
-use spec_state::{State, TaskId};
 use trace_tap::Deed;
 
 /// A task that did its quantum goes on from the end of its leg.

@@ -2,22 +2,22 @@
 
 ghost use Rattle.std.specs.Prelude.{◌≡◌, ◌<◌, IsSome, IsNone, IfSome};
 ghost use Rattle.task_request.specs.declared.request.Request.TheVariants.{End};
-ghost use Rattle.spec_state.specs.Effects.{nothing};
-ghost use Rattle.spec_state.specs.View.{task_at};
+ghost use Rattle.event_prelude.specs.spec_state.Effects.{nothing};
+ghost use Rattle.event_prelude.specs.spec_state.View.{task_at};
 ghost use Rattle.spec_access.specs.Asking.{Asks, HasTakerIn, OfTakerIn};
-ghost use Rattle.spec_law.specs.Sound.{Sound};
-ghost use Rattle.event_def.specs.Causes.{IsCommitFull};
-ghost use Rattle.event_def.specs.End.{IsOver};
+ghost use Rattle.event_prelude.specs.spec_law.Sound.{Sound};
+ghost use Rattle.event_prelude.specs.event_def.Causes.{IsCommitFull};
+ghost use Rattle.event_prelude.specs.event_def.End.{IsOver};
 ghost use Rattle.event_step.specs.Coming.{QuietlyComes};
 ghost use Rattle.event_step.specs.Ending.{EndsTelling, HasLater, HasNoLater, SaysLater};
 
 use crate::recording::record_of;
-use event_def::{Came, Reply};
+use event_prelude::event_def::{Came, Reply};
+use event_prelude::spec_rollback::abort;
+use event_prelude::spec_state::{State, TaskId};
 use fractal_vt::cmp;
 use rv_core::{Leg, Naming};
 use spec_access::finish;
-use spec_rollback::abort;
-use spec_state::{State, TaskId};
 use trace_tap::Deed;
 
 /// Whether the other task's key is the greater one.

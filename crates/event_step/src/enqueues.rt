@@ -3,24 +3,24 @@
 ghost use Rattle.std.specs.Prelude.{◌≡◌, ◌<◌, Some, map};
 ghost use Rattle.place_policy.specs.Serving.{serving_tile};
 ghost use Rattle.task_request.specs.declared.request.Request.TheVariants.{Enqueue};
-ghost use Rattle.spec_state.specs.View.{loads};
-ghost use Rattle.spec_state.specs.Effects.{nothing};
-ghost use Rattle.spec_state.specs.StateValue.{Covers};
-ghost use Rattle.spec_state.specs.Room.{Enqueuer};
+ghost use Rattle.event_prelude.specs.spec_state.View.{loads};
+ghost use Rattle.event_prelude.specs.spec_state.Effects.{nothing};
+ghost use Rattle.event_prelude.specs.spec_state.StateValue.{Covers};
+ghost use Rattle.event_prelude.specs.spec_state.Room.{Enqueuer};
 ghost use Rattle.spec_access.specs.Asking.{Asks, OfTaker};
-ghost use Rattle.spec_law.specs.Sound.{Sound};
-ghost use Rattle.event_def.specs.End.{IsOver};
+ghost use Rattle.event_prelude.specs.spec_law.Sound.{Sound};
+ghost use Rattle.event_prelude.specs.event_def.End.{IsOver};
 ghost use Rattle.event_prelude.specs.Entering.{MayEnter};
 ghost use Rattle.event_step.specs.Coming.{TaskComes};
 ghost use Rattle.event_step.specs.Placing.{PlacesTelling};
 
 use crate::recording::record_of;
-use event_def::{Came, Reply};
+use event_prelude::event_def::{Came, Reply};
+use event_prelude::spec_state::{State, TaskId};
 use event_prelude::{make_room, stalls};
 use place_policy::{Placer, serving_pick, serving_placed};
 use rv_core::{Leg, Naming};
 use spec_access::enqueue_child;
-use spec_state::{State, TaskId};
 use task_desc::Spawn;
 use trace_tap::Deed;
 

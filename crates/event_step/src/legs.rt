@@ -1,26 +1,26 @@
 //! A leg that a running task takes.
 
 ghost use Rattle.std.specs.Prelude.{◌≡◌, ◌<◌, ◌↔◌, IsTrue, IsNone, IfSome, map};
-ghost use Rattle.spec_state.specs.declared.task.Status.TheVariants.{Running};
-ghost use Rattle.spec_state.specs.declared.task.Task.{Task};
-ghost use Rattle.spec_state.specs.Changes.{TakesLeg};
-ghost use Rattle.spec_state.specs.Effects.{nothing};
+ghost use Rattle.event_prelude.specs.spec_state.declared.task.Status.TheVariants.{Running};
+ghost use Rattle.event_prelude.specs.spec_state.declared.task.Task.{Task};
+ghost use Rattle.event_prelude.specs.spec_state.Changes.{TakesLeg};
+ghost use Rattle.event_prelude.specs.spec_state.Effects.{nothing};
 ghost use Rattle.spec_access.specs.Asking.{HasTakerIn};
-ghost use Rattle.spec_law.specs.Sound.{Sound};
-ghost use Rattle.event_def.specs.Causes.{IsStale};
-ghost use Rattle.event_def.specs.End.{IsOver};
+ghost use Rattle.event_prelude.specs.spec_law.Sound.{Sound};
+ghost use Rattle.event_prelude.specs.event_def.Causes.{IsStale};
+ghost use Rattle.event_prelude.specs.event_def.End.{IsOver};
 ghost use Rattle.event_step.specs.Coming.{StepComes, TaskComes};
 
 use crate::accesses::{load, store};
 use crate::calls::{emit_byte, go_on, keep_trap, make_subdomain};
 use crate::ends::end;
 use crate::enqueues::enqueue;
-use event_def::{Came, Reply};
 use event_prelude::end_of;
+use event_prelude::event_def::{Came, Reply};
+use event_prelude::spec_state::{State, Status, Task, TaskId};
 use place_policy::Placer;
 use rv_core::{Leg, Naming, Stop};
 use spec_access::request_of_task;
-use spec_state::{State, Status, Task, TaskId};
 use task_request::Request;
 
 /// Whether a task runs on this core of its tile and the leg begins at its kept core.

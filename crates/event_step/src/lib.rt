@@ -17,4 +17,8 @@ mod enqueues;
 mod legs;
 mod recording;
 
+pub use event_prelude;
+pub use event_prelude::{event_def, serial_machine, spec_commit, spec_rollback, spec_state};
 pub use legs::{make_step, step, taker};
+pub use spec_access;
+pub use spec_access::spec_dispatch;

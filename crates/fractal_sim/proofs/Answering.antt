@@ -9,8 +9,8 @@ use Rattle.sim_io.specs.Parts.{TakesFront}
 use Rattle.sim_io.specs.Streams.{SinkState}
 use Rattle.guest_image.specs.ImageValue.{ImageValue}
 use Rattle.run_journal.specs.declared.end.End.{End}
-use Rattle.serial_machine.specs.WholeRun.{IsRunOf}
-use Rattle.serial_machine.specs.declared.whole_run.SerialRun.{SerialRun}
+use Rattle.machine_run.specs.serial_machine.WholeRun.{IsRunOf}
+use Rattle.machine_run.specs.serial_machine.declared.whole_run.SerialRun.{SerialRun}
 use Rattle.machine_run.specs.Played.{IsPlayedRun, IsTracedRun}
 use Rattle.machine_run.specs.declared.left.Ran.{Ran}
 use Rattle.machine_run.specs.declared.playing.Played.{Played}
@@ -24,14 +24,14 @@ use Rattle.fractal_sim.specs.declared.finding.Finding.TheVariants as finding
 use Rattle.fractal_sim.specs.declared.finding.Loading.{Loading}
 use Rattle.guest_image.specs.Writing.{image_bytes}
 use Rattle.resume_image.specs.Saved.{saved_image}
-use Rattle.spec_state.specs.declared.pending.Pending.{Pending}
+use Rattle.machine_run.specs.spec_state.declared.pending.Pending.{Pending}
 use Rattle.program_call.specs.declared.outcome.Outcome.{Outcome}
 use Rattle.program_call.specs.Call.{Call, Input}
 use Rattle.program_call.specs.Given.{ReadsAsAsked}
 use Rattle.program_call.specs.Outcomes.{closed_of}
 use Rattle.program_call.specs.Program.{IsDue, TellsOutcome}
 use Rattle.program_call.specs.Runs.{HoldsRunOfInput, HoldsRunOrNothing}
-use Rattle.program_call.proofs.Proved.{holds_lawful, left_alone, read_as_asked}
+use Rattle.program_call.proofs.Proved.{holds_lawful, left_alone, no_image, read_as_asked}
 use Rattle.fractal_sim.specs.declared.finding.Saving.{Saving}
 use Rattle.fractal_sim.specs.declared.finding.Saving.TheVariants as saving
 use Rattle.fractal_sim.specs.Given.{HasImage, IsRead, IsGenerated, front}
@@ -47,7 +47,7 @@ use Rattle.fractal_sim.specs.Finding.{IsFound, IsRan, IsLoaded, IsPlayed, IsStop
 use Rattle.fractal_sim.specs.Finding.{OutcomeKeeps, TakesText, TellsFinding, saving_status, saving_text, status_by}
 use Rattle.fractal_sim.specs.Finding.{status_of, text_of}
 use Rattle.fractal_sim.proofs.Completing.{is_due}
-use Rattle.fractal_sim.proofs.Counting.{steps_told}
+use Rattle.fractal_sim.proofs.Counting.{image_of_found, steps_told}
 
 -- ---- runs that are held
 
@@ -55,47 +55,49 @@ use Rattle.fractal_sim.proofs.Counting.{steps_told}
 abbrev holds_kept : (input : Input) (request : Request) (image : ImageValue) (run : SerialRun) (steps : Option ℕ) (o : Outcome)
     → HasImage input request image
     → IsRunOf image request.settings.commits request.settings.budget run → HoldsRun run steps o
-    → HoldsRunOfInput front HasImage input o
+    → HoldsRunOfInput front HasImage image input o
 holds_kept input request image run steps o given is_run kept = record {
   asked = request;
-  image = image;
   given = given;
   run = subst (IsRunOf image request.settings.commits request.settings.budget) (sym kept.run_is) is_run;
 }
 
 abbrev ran_held : (input : Input) (image : ImageValue) (ran : Ran) (steps : Option ℕ) (o : Outcome)
-    → IsRan input image ran steps → HoldsRun (run_with_end ran) steps o → HoldsRunOfInput front HasImage input o
+    → IsRan input image ran steps → HoldsRun (run_with_end ran) steps o → HoldsRunOfInput front HasImage image input o
 ran_held input image ran steps o found kept =
     holds_kept input found.request image (run_with_end ran) steps o (IsRead found.bytes_behind found.given) found.made.run kept
 
 abbrev stopped_held : (input : Input) (ran : Ran) (steps : Option ℕ) (made : Saving) (o : Outcome)
-    → IsStopped input ran steps made → HoldsRun (run_with_end ran) steps o → HoldsRunOfInput front HasImage input o
+    → (found : IsStopped input ran steps made) → HoldsRun (run_with_end ran) steps o
+    → HoldsRunOfInput front HasImage found.image input o
 stopped_held input ran steps made o found kept =
     holds_kept input found.request found.image (run_with_end ran) steps o (IsRead found.bytes_behind found.given) found.stopped.run.run kept
 
 abbrev loaded_held : (input : Input) (load : Loading) (image : ImageValue) (ran : Ran) (steps : Option ℕ) (o : Outcome)
     → IsLoaded input load image ran steps → HoldsRun (run_with_end ran) steps o
-    → HoldsRunOfInput front HasImage input o
+    → HoldsRunOfInput front HasImage image input o
 loaded_held input load image ran steps o found kept =
     holds_kept input found.request image (run_with_end ran) steps o (IsGenerated load.load load.seed load.size found.given) found.made.run kept
 
 abbrev played_held : (input : Input) (image : ImageValue) (p : Played) (o : Outcome) → IsPlayed input image p
-    → HoldsRun (run_with_end p.ran) (Some p.ran.closed.steps) o → HoldsRunOfInput front HasImage input o
+    → HoldsRun (run_with_end p.ran) (Some p.ran.closed.steps) o → HoldsRunOfInput front HasImage image input o
 played_held input image p o found kept =
     holds_kept input found.request image (run_with_end p.ran) (Some p.ran.closed.steps) o (IsRead found.bytes_behind found.given) found.made.run kept
 
-abbrev traced_held : (input : Input) (t : Traced) (o : Outcome) → IsTraced input t
-    → HoldsRun (run_with_end t.ran) (Some t.ran.closed.steps) o → HoldsRunOfInput front HasImage input o
+abbrev traced_held : (input : Input) (t : Traced) (o : Outcome) → (found : IsTraced input t)
+    → HoldsRun (run_with_end t.ran) (Some t.ran.closed.steps) o → HoldsRunOfInput front HasImage found.image input o
 traced_held input t o found kept =
     holds_kept input found.request found.image (run_with_end t.ran) (Some t.ran.closed.steps) o (IsRead found.bytes_behind found.given) found.made.run kept
 
-pub holds : (input : Input) (f : Finding) (o : Outcome) → IsFound input f → OutcomeKeeps f o
-    → HoldsRunOrNothing front HasImage input o
+pub holds : (input : Input) (f : Finding) (o : Outcome) (found : IsFound input f) → OutcomeKeeps f o
+    → HoldsRunOrNothing front HasImage (image_of_found input f found) input o
 holds input finding.Memory o found kept = inl kept
 holds input (finding.Refused line) o found kept = inl kept
 holds input (finding.NoScript line) o found kept = inl kept
 holds input (finding.Accepted closed) o found kept =
-    inr (holds_kept input found.request found.image closed None o (IsRead found.bytes_behind found.given) found.run kept)
+    let accepted = found.1 in
+    inr (holds_kept input accepted.request found.0 closed None o (IsRead accepted.bytes_behind accepted.given)
+    accepted.run kept)
 holds input (finding.Ran image ran steps) o found kept = inr (ran_held input image ran steps o found kept)
 holds input (finding.Stopped ran steps made) o found kept = inr (stopped_held input ran steps made o found kept)
 holds input (finding.Loaded load image ran steps) o found kept =
@@ -186,24 +188,25 @@ traced_to_end input t o end is found kept =
 -- ---- the table of answers
 
 -- what was found, with its status and its text, is an answer
-answers : (input : Input) (f : Finding) (o : Outcome) (text : List ℕ) → IsFound input f → OutcomeKeeps f o
-    → text_of f ≡ Some text → IsAnswer input o (status_of f) text
+answers : (input : Input) (f : Finding) (o : Outcome) (text : List ℕ) (found : IsFound input f) → OutcomeKeeps f o
+    → text_of f ≡ Some text → IsAnswer (image_of_found input f found) input o (status_of f) text
 answers input finding.Memory o text found kept is = let z : ⊥ = cc in absurd z
 answers input (finding.Refused line) o text found kept is =
-    subst (IsAnswer input o 8) (same_Some _ text is) (table.Refused line found kept)
+    subst (IsAnswer no_image input o 8) (same_Some _ text is) (table.Refused line found kept)
 answers input (finding.NoScript line) o text found kept is =
-    subst (IsAnswer input o 9) (same_Some _ text is) (table.NoScript line found kept)
+    subst (IsAnswer no_image input o 9) (same_Some _ text is) (table.NoScript line found kept)
 answers input (finding.Accepted closed) o text found kept is =
     let line : accepted_line (length o.journal) ≡ text = ap (λ c. accepted_line (length c.journal)) kept.run_is ∙ same_Some _ text is in
-    subst (IsAnswer input o 0) line (table.Accepted (subst (IsAcceptedReport input) (sym kept.run_is) found))
+    subst (IsAnswer found.0 input o 0) line
+    (table.Accepted (subst (IsAcceptedReport input found.0) (sym kept.run_is) found.1))
 answers input (finding.Ran image ran steps) o text found kept is = go ran.end refl is where
   go : (e : Option End) → ran.end ≡ e → option_map (run_text image (run_with_end ran)) e ≡ Some text
-      → IsAnswer input o (status_by end_status e) text
+      → IsAnswer image input o (status_by end_status e) text
   go None at t = let z : ⊥ = cc in absurd z
   go (Some end) at t =
       let told : run_text image (closed_of o) end ≡ text = ap (λ c. run_text image c end) kept.run_is ∙ same_Some _ text t in
       let made : RunsToEnd input image end (closed_of o) = subst (RunsToEnd input image end) (sym kept.run_is) (ran_to_end input image ran steps end at found) in
-      subst (IsAnswer input o (end_status end)) told (table.Ended image end made)
+      subst (IsAnswer image input o (end_status end)) told (table.Ended end made)
 answers input (finding.Stopped ran steps made) o text found kept is =
     go made refl (same_Some _ text is) found.stopped.saves where
       pendings : List Pending
@@ -213,59 +216,67 @@ answers input (finding.Stopped ran steps made) o text found kept is =
       stops = subst (StopsAtLimit input found.image pendings) (sym kept.run_is) (stops_at_limit input ran steps made found)
 
       go : (m : Saving) → made ≡ m → saving_text m ≡ text → Saves found.image ran.closed.memory pendings m
-          → IsAnswer input o (saving_status m) text
+          → IsAnswer found.image input o (saving_status m) text
       go (saving.Bytes bytes) at told saves =
           let memory : o.memory ≡ ran.closed.memory = ap (λ c. c.memory) kept.run_is in
-          subst (IsAnswer input o 4) (ap (λ m. image_bytes (saved_image found.image m pendings)) memory ∙ sym saves.2 ∙ told)
-          (table.Saved found.image pendings stops saves.0 saves.1)
+          subst (IsAnswer found.image input o 4)
+          (ap (λ m. image_bytes (saved_image found.image m pendings)) memory ∙ sym saves.2 ∙ told)
+          (table.Saved pendings stops saves.0 saves.1)
       go (saving.Nested depth) at told saves =
-          subst (IsAnswer input o 12) told (table.Nested found.image pendings depth stops saves.0 saves.1)
+          subst (IsAnswer found.image input o 12) told (table.Nested pendings depth stops saves.0 saves.1)
       go (saving.TooMany count) at told saves =
-          subst (IsAnswer input o 13) (ap tasks_line (sym saves.2) ∙ told) (table.TooMany found.image pendings stops saves.0 saves.1)
+          subst (IsAnswer found.image input o 13) (ap tasks_line (sym saves.2) ∙ told)
+          (table.TooMany pendings stops saves.0 saves.1)
 answers input (finding.Loaded load image ran steps) o text found kept is = go ran.end refl is where
   go : (e : Option End) → ran.end ≡ e
       → option_map (load_text load.load load.seed load.size image (run_with_end ran)) e ≡ Some text
-      → IsAnswer input o (status_by end_status e) text
+      → IsAnswer image input o (status_by end_status e) text
   go None at t = let z : ⊥ = cc in absurd z
   go (Some end) at t =
       let told : load_text load.load load.seed load.size image (closed_of o) end ≡ text = ap (λ c. load_text load.load load.seed load.size image c end) kept.run_is ∙ same_Some _ text t in
       let made : LoadsToEnd input load.load load.seed load.size image end (closed_of o) =
       subst (LoadsToEnd input load.load load.seed load.size image end) (sym kept.run_is) (loaded_to_end input load image ran steps end at found) in
-      subst (IsAnswer input o (end_status end)) told (table.Loaded load.load load.seed load.size image end made)
+      subst (IsAnswer image input o (end_status end)) told (table.Loaded load.load load.seed load.size end made)
 answers input (finding.Played image p) o text found kept is = go p.ran.end refl is where
   go : (e : Option End) → p.ran.end ≡ e → option_map (played_text p.said.items image (run_with_end p.ran)) e ≡ Some text
-      → IsAnswer input o (status_by played_status e) text
+      → IsAnswer image input o (status_by played_status e) text
   go None at t = let z : ⊥ = cc in absurd z
   go (Some end) at t =
       let told : played_text p.said.items image (closed_of o) end ≡ text = ap (λ c. played_text p.said.items image c end) kept.run_is ∙ same_Some _ text t in
-      subst (IsAnswer input o (played_status end)) told (table.Played image p.said.items end (played_to_end input image p o end at found kept))
+      subst (IsAnswer image input o (played_status end)) told
+      (table.Played p.said.items end (played_to_end input image p o end at found kept))
 answers input (finding.Traced t) o text found kept is = go t.ran.end refl is where
   go : (e : Option End) → t.ran.end ≡ e → option_map (λ end. trace_text (lists_of_traced t)) e ≡ Some text
-      → IsAnswer input o (status_by (λ end. 0) e) text
+      → IsAnswer found.image input o (status_by (λ end. 0) e) text
   go None at told = let z : ⊥ = cc in absurd z
   go (Some end) at told =
-      subst (IsAnswer input o 0) (same_Some _ text told) (table.Traced found.image (lists_of_traced t) end (traced_to_end input t o end at found kept))
+      subst (IsAnswer found.image input o 0) (same_Some _ text told)
+      (table.Traced (lists_of_traced t) end (traced_to_end input t o end at found kept))
 
 -- ---- what is told
 
 -- a finding with a text that was written
-took : (call : Call) (f : Finding) (o : Outcome) (text : List ℕ) → IsFound call.input f → OutcomeKeeps f o
+took : (call : Call) (f : Finding) (o : Outcome) (text : List ℕ) (found : IsFound call.input f) → OutcomeKeeps f o
     → text_of f ≡ Some text → o.status ≡ status_of f → TakesText call.sink_before call.sink_after (text_of f)
-    → TellsOutcome program call o
+    → TellsOutcome program (image_of_found call.input f found) call o
 took call f o text found kept is status written = inr (inr (inr record {
   text = text;
-  answer = inr (subst (λ n. IsAnswer call.input o n text) (sym status) (answers call.input f o text found kept is));
+  answer = inr (subst (λ n. IsAnswer (image_of_found call.input f found) call.input o n text) (sym status)
+      (answers call.input f o text found kept is));
   took = subst (TakesText call.sink_before call.sink_after) is written;
 }))
 
 -- a run that is told by its end; without one, memory ran out
 by_end : (call : Call) (f : Finding) (o : Outcome) (text : End → List ℕ) (status : End → ℕ) (ran : Ran)
-    (steps : Option ℕ) → text_of f ≡ option_map text ran.end → status_of f ≡ status_by status ran.end
-    → (held : HoldsRunOfInput front HasImage call.input o) → (held.asked.command ≡ commands.Check → ⊥)
-    → HoldsRun (run_with_end ran) steps o → ReadsAsAsked front call.input → IsFound call.input f → OutcomeKeeps f o
-    → o.status ≡ status_of f → TakesText call.sink_before call.sink_after (text_of f) → TellsOutcome program call o
-by_end call f o text status ran steps text_is status_is held makes holding read found kept s w = go ran.end refl where
-  go : (e : Option End) → ran.end ≡ e → TellsOutcome program call o
+    (steps : Option ℕ) (found : IsFound call.input f) → text_of f ≡ option_map text ran.end
+    → status_of f ≡ status_by status ran.end
+    → (held : HoldsRunOfInput front HasImage (image_of_found call.input f found) call.input o)
+    → (held.asked.command ≡ commands.Check → ⊥)
+    → HoldsRun (run_with_end ran) steps o → ReadsAsAsked front call.input → OutcomeKeeps f o
+    → o.status ≡ status_of f → TakesText call.sink_before call.sink_after (text_of f)
+    → TellsOutcome program (image_of_found call.input f found) call o
+by_end call f o text status ran steps found text_is status_is held makes holding read kept s w = go ran.end refl where
+  go : (e : Option End) → ran.end ≡ e → TellsOutcome program (image_of_found call.input f found) call o
   go None is = inl record {
     status_is = s ∙ status_is ∙ ap (status_by status) is;
     want = inr record {
@@ -287,8 +298,9 @@ runs_no_check : (command : Command) → RunsRead command → command ≡ command
 runs_no_check command runs check = subst RunsRead check runs
 
 -- where the sink didn't fail
-well_told : (call : Call) (f : Finding) (o : Outcome) → IsFound call.input f → OutcomeKeeps f o
-    → o.status ≡ status_of f → TakesText call.sink_before call.sink_after (text_of f) → TellsOutcome program call o
+well_told : (call : Call) (f : Finding) (o : Outcome) (found : IsFound call.input f) → OutcomeKeeps f o
+    → o.status ≡ status_of f → TakesText call.sink_before call.sink_after (text_of f)
+    → TellsOutcome program (image_of_found call.input f found) call o
 well_told call finding.Memory o found kept s w =
     inl record { status_is = s; want = inl record { empty = kept; read = found; untouched = w } }
 well_told call (finding.Refused line) o found kept s w = took call (finding.Refused line) o _ found kept refl s w
@@ -297,28 +309,29 @@ well_told call (finding.Accepted closed) o found kept s w = took call (finding.A
 well_told call (finding.Ran image ran steps) o found kept s w =
     let held = ran_held call.input image ran steps o found kept in
     let read = read_as_asked front call.input found.request found.given.bytes found.given.read in
-    by_end call (finding.Ran image ran steps) o (run_text image (run_with_end ran)) end_status ran steps refl refl held
-    (runs_no_check found.request.command found.command) kept read found kept s w
+    by_end call (finding.Ran image ran steps) o (run_text image (run_with_end ran)) end_status ran steps found refl refl
+    held
+    (runs_no_check found.request.command found.command) kept read kept s w
 well_told call (finding.Stopped ran steps made) o found kept s w =
     took call (finding.Stopped ran steps made) o _ found kept refl s w
 well_told call (finding.Loaded load image ran steps) o found kept s w =
     let held = loaded_held call.input load image ran steps o found kept in
     let read = left_alone front call.input found.given.untouched in
     by_end call (finding.Loaded load image ran steps) o
-    (load_text load.load load.seed load.size image (run_with_end ran)) end_status ran steps refl refl held
+    (load_text load.load load.seed load.size image (run_with_end ran)) end_status ran steps found refl refl held
     (no_check found.request (commands.Load load.load load.seed load.size) found.given.command (λ clash. cc))
-    kept read found kept s w
+    kept read kept s w
 well_told call (finding.Played image p) o found kept s w =
     let held = played_held call.input image p o found kept in
     let read = read_as_asked front call.input found.request found.given.bytes found.given.read in
     by_end call (finding.Played image p) o (played_text p.said.items image (run_with_end p.ran)) played_status p.ran
-    (Some p.ran.closed.steps) refl refl held (no_check found.request commands.Steps found.command (λ clash. cc))
-    kept read found kept s w
+    (Some p.ran.closed.steps) found refl refl held (no_check found.request commands.Steps found.command (λ clash. cc))
+    kept read kept s w
 well_told call (finding.Traced t) o found kept s w =
     let held = traced_held call.input t o found kept in
     let read = read_as_asked front call.input found.request found.given.bytes found.given.read in
     by_end call (finding.Traced t) o (λ end. trace_text (lists_of_traced t)) (λ end. 0) t.ran (Some t.ran.closed.steps)
-    refl refl held (no_check found.request commands.Trace found.command (λ clash. cc)) kept read found kept s w
+    found refl refl held (no_check found.request commands.Trace found.command (λ clash. cc)) kept read kept s w
 
 -- there is a text, of which the sink took a front
 record HasFront (old new : SinkState) (text : Option (List ℕ)) : Type 0 where
@@ -331,10 +344,11 @@ front_of old new None h = absurd h
 front_of old new (Some whole_text) h = record { whole_text = whole_text; is = refl; taken = h }
 
 -- what was found is told
-told : (call : Call) (f : Finding) (o : Outcome) → IsFound call.input f
-    → TellsFinding f call.sink_before call.sink_after o → TellsOutcome program call o
+told : (call : Call) (f : Finding) (o : Outcome) (found : IsFound call.input f)
+    → TellsFinding f call.sink_before call.sink_after o
+    → TellsOutcome program (image_of_found call.input f found) call o
 told call f o found tells = go (cases_eq o.status 7) where
-  go : (o.status ≡ 7) ⊎ (o.status ≢ 7) → TellsOutcome program call o
+  go : (o.status ≡ 7) ⊎ (o.status ≢ 7) → TellsOutcome program (image_of_found call.input f found) call o
   go (inl seven) =
       let failed = tells.failed seven in
       let text = front_of call.sink_before call.sink_after (text_of f) failed.1 in
@@ -352,8 +366,9 @@ pub finding_answers : (call : Call) (f : Finding) (o : Outcome) → IsFound call
     → TellsFinding f call.sink_before call.sink_after o → AnswersAndCounts call o
 finding_answers call f o found tells = record {
   answers = record {
+    image = image_of_found call.input f found;
     run = holds call.input f o found tells.kept;
-    laws = holds_lawful program call.input o;
+    laws = holds_lawful program (image_of_found call.input f found) call.input o;
     told = told call f o found tells;
     complete = λ bytes known well.
         let status : o.status ≡ status_of f = (tells.told (λ seven. well.sink (tells.failed seven).0)).0 in

@@ -29,9 +29,10 @@ is_due input bytes (finding.NoScript line) known found =
     let begun = begins front input bytes found.request found.image found.bytes_behind known found.given in
     inr (inr (due.NoScript found.request found.image found.bytes_behind line begun found.command found.wrong))
 is_due input bytes (finding.Accepted closed) known found =
-    let begun = begins front input bytes found.request found.image found.bytes_behind known found.given in
-    inr (inr (due.Checked found.request found.image found.bytes_behind found.report begun found.command found.report_is
-    found.accepted))
+    let accepted = found.1 in
+    let begun = begins front input bytes accepted.request found.0 accepted.bytes_behind known accepted.given in
+    inr (inr (due.Checked accepted.request found.0 accepted.bytes_behind accepted.report begun accepted.command
+    accepted.report_is accepted.accepted))
 is_due input bytes (finding.Ran image ran steps) known found = go ran.end refl where
   go : (e : Option End) → ran.end ≡ e
       → (status_by end_status e ≡ 5) ⊎ IsDue program input.words bytes (status_by end_status e)

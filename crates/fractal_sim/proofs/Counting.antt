@@ -8,7 +8,7 @@ use Rattle.std.proofs.lemmas.Grind.{common_steps}
 use Rattle.std.proofs.lemmas.Option.{same_Some}
 use Rattle.guest_image.specs.ImageValue.{ImageValue}
 use Rattle.run_journal.specs.declared.end.End.{End}
-use Rattle.serial_machine.specs.declared.whole_run.SerialRun.{SerialRun}
+use Rattle.machine_run.specs.serial_machine.declared.whole_run.SerialRun.{SerialRun}
 use Rattle.machine_run.specs.Least.{IsLeastRun}
 use Rattle.machine_run.specs.Played.{IsPlayedRun, IsTracedRun}
 use Rattle.machine_run.specs.declared.left.Ran.{Ran}
@@ -18,6 +18,7 @@ use Rattle.fractal_sim.specs.declared.finding.Finding.{Finding}
 use Rattle.fractal_sim.specs.declared.finding.Finding.TheVariants as finding
 use Rattle.program_call.specs.declared.outcome.Outcome.{Outcome}
 use Rattle.program_call.specs.Call.{Input}
+use Rattle.program_call.proofs.Proved.{no_image}
 use Rattle.fractal_sim.specs.Given.{HasImage, IsRead, IsGenerated}
 use Rattle.fractal_sim.specs.Runs as runs
 use Rattle.program_call.specs.Outcomes.{IsEmpty, closed_of}
@@ -26,6 +27,18 @@ use Rattle.command_line.specs.declared.request.Command.{Command}
 use Rattle.command_line.specs.declared.request.Command.TheVariants as commands
 use Rattle.fractal_sim.specs.Deciding.{run_with_end, lists_of_traced, event_count, IsRunSo}
 use Rattle.fractal_sim.specs.Finding.{IsFound, HoldsRun, OutcomeKeeps}
+
+-- the image of what was found; any where nothing was found of one
+abbrev pub image_of_found : (input : Input) (f : Finding) → IsFound input f → ImageValue
+image_of_found input finding.Memory found = no_image
+image_of_found input (finding.Refused line) found = no_image
+image_of_found input (finding.NoScript line) found = no_image
+image_of_found input (finding.Accepted closed) found = found.0
+image_of_found input (finding.Ran image ran steps) found = image
+image_of_found input (finding.Stopped ran steps made) found = found.image
+image_of_found input (finding.Loaded load image ran steps) found = image
+image_of_found input (finding.Played image played) found = image
+image_of_found input (finding.Traced traced) found = found.image
 
 -- one list of words asks for one thing
 pub same_request : (words : List (List ℕ)) (a b : Request) → request_of_words words ≡ Some a
@@ -40,9 +53,9 @@ counts_same words a b ha hb =
     subst (λ (r : Request). Counts r.settings.workers r.command) (sym (same_request words a b ha hb))
 
 -- an outcome without a run tells no count, and is empty
-pub none_told : (input : Input) (o : Outcome) → IsEmpty o → CountsEvents input o
-none_told input o empty = record {
-  made = subst (λ s. IfSome s (λ events. MakesRun input events (closed_of o))) (sym empty.steps) tt;
+pub none_told : (image : ImageValue) (input : Input) (o : Outcome) → IsEmpty o → CountsEvents image input o
+none_told image input o empty = record {
+  made = subst (λ s. IfSome s (λ events. MakesRun image input events (closed_of o))) (sym empty.steps) tt;
   told = λ request asked counts none. empty;
 }
 
@@ -65,21 +78,20 @@ run_told : (input : Input) (o : Outcome) (request : Request) (image : ImageValue
     → RunsImage request.command → (Counts request.settings.workers request.command → request.settings.workers ≡ 0)
     → HasImage input request image
     → IsRunSo image request.settings input.placers input.taps ran steps → HoldsRun (run_with_end ran) steps o
-    → CountsEvents input o
+    → CountsEvents image input o
 run_told input o request image ran steps asked runs_image plain given made kept =
     let workers = request.settings.workers in
     let events = ran.closed.steps in
     let told_is : o.steps ≡ event_count workers events = kept.steps_is ∙ made.steps_is in
-    let least : workers ≡ 0 → MakesRun input events (closed_of o) = λ none. record {
+    let least : workers ≡ 0 → MakesRun image input events (closed_of o) = λ none. record {
       request = request;
       asked = asked;
-      image = image;
       made =
           runs.ByLeast runs_image none given (subst (IsLeastRun Brand image request.settings input.placers input.taps events) (sym kept.run_is) (made.least none));
     } in
     record {
       made =
-          subst (λ s. IfSome s (λ events. MakesRun input events (closed_of o))) (sym told_is) (counted workers events (λ events. MakesRun input events (closed_of o)) least);
+          subst (λ s. IfSome s (λ events. MakesRun image input events (closed_of o))) (sym told_is) (counted workers events (λ events. MakesRun image input events (closed_of o)) least);
       told =
           λ other asks counts none. absurd (is_told workers events (plain (counts_same input.words request other asked asks counts)) (sym told_is ∙ none));
     }
@@ -87,10 +99,10 @@ run_told input o request image ran steps asked runs_image plain given made kept 
 -- a script was played, and this is its count
 script_told : (input : Input) (o : Outcome) (request : Request) (image : ImageValue) (run : SerialRun) (events : ℕ)
     → request_of_words input.words ≡ Some request
-    → HoldsRun run (Some events) o → IsRunMadeBy input request image events run → CountsEvents input o
+    → HoldsRun run (Some events) o → IsRunMadeBy input request image events run → CountsEvents image input o
 script_told input o request image run events asked kept made = record {
-  made = subst (λ s. IfSome s (λ events. MakesRun input events (closed_of o))) (sym kept.steps_is)
-      (record { request = request; asked = asked; image = image; made = subst (IsRunMadeBy input request image events) (sym kept.run_is) made });
+  made = subst (λ s. IfSome s (λ events. MakesRun image input events (closed_of o))) (sym kept.steps_is)
+      (record { request = request; asked = asked; made = subst (IsRunMadeBy input request image events) (sym kept.run_is) made });
   told = λ other asks counts none. (let clash : Some events ≡ None = sym kept.steps_is ∙ none in absurd (cc (clash)));
 }
 
@@ -111,16 +123,21 @@ read_counts workers commands.Trace runs counts = absurd runs
 read_counts workers commands.Check runs counts = absurd runs
 read_counts workers (commands.Load load seed size) runs counts = absurd runs
 
--- what was found tells the events of its run
-pub steps_told : (input : Input) (f : Finding) (o : Outcome) → IsFound input f → OutcomeKeeps f o → CountsEvents input o
-steps_told input finding.Memory o found kept = none_told input o kept
-steps_told input (finding.Refused line) o found kept = none_told input o kept
-steps_told input (finding.NoScript line) o found kept = none_told input o kept
-steps_told input (finding.Accepted closed) o found kept = record {
-  made = subst (λ s. IfSome s (λ events. MakesRun input events (closed_of o))) (sym kept.steps_is) tt;
-  told = λ request asked counts none.
-      absurd (subst (Counts found.request.settings.workers) found.command (counts_same input.words found.request request found.given.read.asks asked counts));
-}
+-- what was found has the count of its run's events
+pub steps_told : (input : Input) (f : Finding) (o : Outcome) (found : IsFound input f) → OutcomeKeeps f o
+    → CountsEvents (image_of_found input f found) input o
+steps_told input finding.Memory o found kept = none_told no_image input o kept
+steps_told input (finding.Refused line) o found kept = none_told no_image input o kept
+steps_told input (finding.NoScript line) o found kept = none_told no_image input o kept
+steps_told input (finding.Accepted closed) o found kept =
+    let accepted = found.1 in
+    let request_is = counts_same input.words accepted.request in
+    record {
+      made = subst (λ s. IfSome s (λ events. MakesRun found.0 input events (closed_of o))) (sym kept.steps_is) tt;
+      told = λ request asked counts none.
+          absurd (subst (Counts accepted.request.settings.workers) accepted.command
+          (request_is request accepted.given.read.asks asked counts));
+    }
 steps_told input (finding.Ran image ran steps) o found kept =
     run_told input o found.request image ran steps found.given.read.asks (read_runs found.request.command found.command)
     (read_counts found.request.settings.workers found.request.command found.command) (IsRead found.bytes_behind found.given) found.made kept

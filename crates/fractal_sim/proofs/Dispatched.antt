@@ -11,35 +11,35 @@ use Rattle.memory_law.specs.Tasks.{In, Logged}
 use Rattle.trace_tap.specs.declared.record.Deed.TheVariants as deed
 use Rattle.run_journal.specs.declared.end.End.{End}
 use Rattle.run_journal.specs.declared.end.End.TheVariants as ends
-use Rattle.serial_machine.specs.Run as serial
-use Rattle.serial_machine.specs.WholeRun.{IsRunOf}
-use Rattle.serial_machine.specs.declared.whole_run.SerialRun.{SerialRun}
-use Rattle.spec_state.specs.declared.settings.Settings.{Settings}
-use Rattle.spec_state.specs.declared.task.Creator.TheVariants.{Committed}
-use Rattle.spec_state.specs.declared.task.Status.TheVariants.{Running, Trapped}
-use Rattle.spec_state.specs.declared.task.Task.{Task}
-use Rattle.spec_state.specs.View.{View}
-use Rattle.spec_state.specs.Tasks.{idle_task, start_core}
-use Rattle.spec_state.specs.Groups.{logged_task, logged_tasks}
-use Rattle.spec_state.specs.Least.{Queued, Precedes}
-use Rattle.spec_state.specs.Queries.{IsIdle}
-use Rattle.spec_state.specs.Numbers as numbers
-use Rattle.spec_state.specs.Changes.{Dispatches}
-use Rattle.spec_state.specs.Aborts.{IsUndone}
-use Rattle.event_def.specs.declared.event.Event.TheVariants as event
-use Rattle.event_def.specs.declared.event.Reply.{Reply}
-use Rattle.event_def.specs.declared.event.Reply.TheVariants as reply
-use Rattle.event_def.specs.Book.{BookView, book_of}
-use Rattle.event_def.specs.Causes.{Cause}
-use Rattle.event_def.specs.End.{HasEnd, IsOver}
-use Rattle.event_def.specs.Events as events
-use Rattle.event_def.specs.Happens.{IsMade}
-use Rattle.event_def.specs.Opening.{IsOpening, PlacesImageTask, image_descriptor, opening_book}
-use Rattle.event_def.specs.Trace.{record_of}
-use Rattle.step_script.specs.declared.act.Act.{Act}
-use Rattle.step_script.specs.declared.act.Act.TheVariants as acts
-use Rattle.step_script.specs.declared.saying.Said.{Said}
-use Rattle.step_script.specs.Playing.{Plays, plainly}
+use Rattle.machine_run.specs.serial_machine.Run as serial
+use Rattle.machine_run.specs.serial_machine.WholeRun.{IsRunOf}
+use Rattle.machine_run.specs.serial_machine.declared.whole_run.SerialRun.{SerialRun}
+use Rattle.machine_run.specs.spec_state.declared.settings.Settings.{Settings}
+use Rattle.machine_run.specs.spec_state.declared.task.Creator.TheVariants.{Committed}
+use Rattle.machine_run.specs.spec_state.declared.task.Status.TheVariants.{Running, Trapped}
+use Rattle.machine_run.specs.spec_state.declared.task.Task.{Task}
+use Rattle.machine_run.specs.spec_state.View.{View}
+use Rattle.machine_run.specs.spec_state.Tasks.{idle_task, start_core}
+use Rattle.machine_run.specs.spec_state.Groups.{logged_task, logged_tasks}
+use Rattle.machine_run.specs.spec_state.Least.{Queued, Precedes}
+use Rattle.machine_run.specs.spec_state.Queries.{IsIdle}
+use Rattle.machine_run.specs.spec_state.Numbers as numbers
+use Rattle.machine_run.specs.spec_state.Changes.{Dispatches}
+use Rattle.machine_run.specs.spec_state.Aborts.{IsUndone}
+use Rattle.machine_run.specs.event_def.declared.event.Event.TheVariants as event
+use Rattle.machine_run.specs.event_def.declared.event.Reply.{Reply}
+use Rattle.machine_run.specs.event_def.declared.event.Reply.TheVariants as reply
+use Rattle.machine_run.specs.event_def.Book.{BookView, book_of}
+use Rattle.machine_run.specs.event_def.Causes.{Cause}
+use Rattle.machine_run.specs.event_def.End.{HasEnd, IsOver}
+use Rattle.machine_run.specs.event_def.Events as events
+use Rattle.machine_run.specs.event_def.Happens.{IsMade}
+use Rattle.machine_run.specs.event_def.Opening.{IsOpening, PlacesImageTask, image_descriptor, opening_book}
+use Rattle.machine_run.specs.event_def.Trace.{record_of}
+use Rattle.machine_run.specs.step_script.declared.act.Act.{Act}
+use Rattle.machine_run.specs.step_script.declared.act.Act.TheVariants as acts
+use Rattle.machine_run.specs.step_script.declared.saying.Said.{Said}
+use Rattle.machine_run.specs.step_script.Playing.{Plays, plainly}
 use Rattle.machine_run.specs.Played.{IsPlayedRun}
 
 -- ---- the image, its task, and the machine

@@ -3,11 +3,11 @@ use Rattle.std.specs.Prelude.{◌≢◌, IfSome}
 use Rattle.std.proofs.Common.{◌≡◌, ℕ, ◌≤◌, List, length, refl, sym, ap, subst, Some, None}
 use Rattle.std.specs.declared.option.Option.{Option}
 use Rattle.guest_image.specs.ImageValue.{ImageValue}
-use Rattle.serial_machine.specs.Run.{IsRun}
-use Rattle.serial_machine.specs.WholeRun.{IsRunOf}
-use Rattle.serial_machine.specs.declared.whole_run.SerialRun.{SerialRun}
-use Rattle.report_text.specs.declared.report.Report.{Report}
-use Rattle.report_text.specs.Check.{IsReportOf}
+use Rattle.machine_run.specs.serial_machine.Run.{IsRun}
+use Rattle.machine_run.specs.serial_machine.WholeRun.{IsRunOf}
+use Rattle.machine_run.specs.serial_machine.declared.whole_run.SerialRun.{SerialRun}
+use Rattle.script_text.specs.report_text.declared.report.Report.{Report}
+use Rattle.script_text.specs.report_text.Check.{IsReportOf}
 use Rattle.command_line.specs.declared.request.Command.TheVariants as commands
 use Rattle.command_line.specs.declared.request.Request.{Request}
 use Rattle.machine_run.specs.declared.left.Ran.{Ran}
@@ -51,19 +51,21 @@ found_given input request image rest (finding.Refused line) g h =
     record { request = request; image = image; bytes_behind = rest; given = g; command = h.0; wrong = h.1 }
 found_given input request image rest (finding.NoScript line) g h =
     record { request = request; image = image; bytes_behind = rest; given = g; command = h.0; wrong = h.1 }
-found_given input request image rest (finding.Accepted closed) g h = record {
-  request = request;
-  image = image;
-  bytes_behind = rest;
-  report = h.1.report;
-  given = g;
-  command = h.0;
-  report_is = h.1.report_is;
-  accepted = h.1.accepted;
-  run = holds-report image request.settings.commits request.settings.budget h.1.report closed h.1.accepted h.1.kept;
-  journal_is = h.1.kept.journal_is;
-  end_is = h.1.kept.end_is;
-}
+found_given input request image rest (finding.Accepted closed) g h = (
+  image,
+  record {
+    request = request;
+    bytes_behind = rest;
+    report = h.1.report;
+    given = g;
+    command = h.0;
+    report_is = h.1.report_is;
+    accepted = h.1.accepted;
+    run = holds-report image request.settings.commits request.settings.budget h.1.report closed h.1.accepted h.1.kept;
+    journal_is = h.1.kept.journal_is;
+    end_is = h.1.kept.end_is;
+  },
+)
 found_given input request image rest (finding.Ran image' ran steps) g h =
     let same : IsRan input image ran steps = record { request = request; bytes_behind = rest; given = g; command = h.0; made = h.2; told = h.3 } in
     subst (λ i. IsRan input i ran steps) (sym h.1) same

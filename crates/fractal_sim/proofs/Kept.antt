@@ -10,11 +10,11 @@ use Rattle.place_policy.specs.Policy.{Policy}
 use Rattle.trace_tap.specs.TapValue.{TapValue}
 use Rattle.run_journal.specs.declared.end.End.TheVariants as ends
 use Rattle.run_journal.specs.declared.end.End.{End}
-use Rattle.serial_machine.specs.WholeRun.{IsRunOf}
-use Rattle.spec_state.specs.declared.settings.Settings.{Settings}
-use Rattle.spec_state.specs.declared.pending.Pending.{Pending}
-use Rattle.spec_state.specs.Pendings.{RunLeaves}
-use Rattle.conflict_book.specs.declared.freezing.Frozen.{Frozen}
+use Rattle.machine_run.specs.serial_machine.WholeRun.{IsRunOf}
+use Rattle.machine_run.specs.spec_state.declared.settings.Settings.{Settings}
+use Rattle.machine_run.specs.spec_state.declared.pending.Pending.{Pending}
+use Rattle.machine_run.specs.spec_state.Pendings.{RunLeaves}
+use Rattle.machine_run.specs.conflict_book.declared.freezing.Frozen.{Frozen}
 use Rattle.machine_run.specs.Halted.{IsLeftOf, IsMachineRun, KeepsPending}
 use Rattle.machine_run.specs.Least.{IsLeastRun, run_of_closed}
 use Rattle.machine_run.specs.Played.{IsPlayedOrPart, IsTracedOrPart}
@@ -23,7 +23,7 @@ use Rattle.machine_run.specs.declared.left.Ran.{Ran}
 use Rattle.machine_run.specs.declared.left.Stopped.{Stopped}
 use Rattle.machine_run.specs.declared.playing.Played.{Played}
 use Rattle.machine_run.specs.declared.playing.Traced.{Traced}
-use Rattle.step_script.specs.declared.act.Act.{Act}
+use Rattle.machine_run.specs.step_script.declared.act.Act.{Act}
 use Rattle.command_line.specs.declared.request.Command.TheVariants as commands
 use Rattle.command_line.specs.declared.request.Request.{Request}
 use Rattle.load_gen.specs.Generated.{load_image}

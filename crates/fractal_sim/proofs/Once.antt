@@ -9,7 +9,7 @@ use Rattle.guest_image.specs.Reading.{whole_length, words_from}
 use Rattle.guest_image.specs.Writing.{image_bytes}
 use Rattle.run_journal.specs.declared.end.End.TheVariants as ends
 use Rattle.text_lines.specs.Numerals.{number_below}
-use Rattle.step_script.specs.Grammar.{act_at, act_in, acts_of}
+use Rattle.machine_run.specs.step_script.Grammar.{act_at, act_in, acts_of}
 use Rattle.command_line.specs.declared.request.Command.TheVariants as commands
 use Rattle.command_line.specs.declared.request.Request.{Request}
 use Rattle.command_line.specs.Requests.{IsLimited, command_by, request_by, request_of_words, settings_by}
@@ -130,15 +130,16 @@ plays = record {
 
 pub script_calls_end_well : ScriptCallsEndWell
 script_calls_end_well = (
+  image,
   call,
   outcome,
   record {
     asks = record { request = asked_for; asked = asks; plays = tt };
     same = record { words = refl; placers = refl; taps = refl; bytes = bytes; has = refl; other_has = refl };
-    plays = record { image = image; said = said; end = ends.Unfinished; played = plays; some = omega arith };
+    plays = record { said = said; end = ends.Unfinished; played = plays; some = omega arith };
     tells = inr (inr (inr record {
       text = answer;
-      answer = inr (answers.Played image said ends.Unfinished plays);
+      answer = inr (answers.Played said ends.Unfinished plays);
       took = refl;
     }));
     well = record {

@@ -7,10 +7,10 @@ use Rattle.guest_image.specs.ImageValue.{ImageValue, IsImage}
 use Rattle.guest_image.specs.Reading.{image_of}
 use Rattle.guest_image.specs.declared.fault.ImageFault.{ImageFault}
 use Rattle.run_journal.specs.declared.end.End.{End}
-use Rattle.spec_state.specs.Settings.{IsValid}
-use Rattle.step_script.specs.declared.act.Act.{Act}
-use Rattle.step_script.specs.declared.saying.Said.{Said}
-use Rattle.step_script.proofs.Proved.{acts_within}
+use Rattle.machine_run.specs.spec_state.Settings.{IsValid}
+use Rattle.machine_run.specs.step_script.declared.act.Act.{Act}
+use Rattle.machine_run.specs.step_script.declared.saying.Said.{Said}
+use Rattle.machine_run.proofs.Below.step_script.Proved.{acts_within}
 use Rattle.place_policy.specs.Policy.{Policy}
 use Rattle.trace_tap.specs.TapValue.{TapValue}
 use Rattle.machine_run.specs.Played.{IsPlayedRun, IsTracedRun}
@@ -205,7 +205,8 @@ module _ (input : Input) (bytes : List ℕ) (request : Request) (o : Outcome)
       }
 
   -- what an answer says of the bytes
-  says : {n : ℕ} {text : List ℕ} → IsAnswer input o n text → Says input bytes request o n text
+  says : {image : ImageValue} {n : ℕ} {text : List ℕ} → IsAnswer image input o n text
+      → Says input bytes request o n text
   says (table.Refused line is empty) = absurd (asks_so is.request commands.Check is.given.read.asks is.command)
   says (table.NoScript line is empty) =
       let begun = begins front input bytes is.request is.image is.bytes_behind (inl has) is.given in
@@ -220,18 +221,18 @@ module _ (input : Input) (bytes : List ℕ) (request : Request) (o : Outcome)
         tells = record { empty = empty; status_is = refl; text_is = refl };
       }
   says (table.Accepted is) = absurd (asks_so is.request commands.Check is.given.read.asks is.command)
-  says (table.Ended image end is) =
+  says (table.Ended end is) =
       let command = is.request.command in
       absurd (not_reported command end (asks_so is.request command is.given.read.asks refl) is.told)
-  says (table.Saved image pendings is rooted few) =
+  says (table.Saved pendings is rooted few) =
       absurd (asks_so is.request commands.Save is.given.read.asks is.command)
-  says (table.Nested image pendings depth is deep over) =
+  says (table.Nested pendings depth is deep over) =
       absurd (asks_so is.request commands.Save is.given.read.asks is.command)
-  says (table.TooMany image pendings is rooted many) =
+  says (table.TooMany pendings is rooted many) =
       absurd (asks_so is.request commands.Save is.given.read.asks is.command)
-  says (table.Loaded load seed size image end is) =
+  says (table.Loaded load seed size end is) =
       absurd (asks_so is.request (commands.Load load seed size) is.given.asked is.given.command)
-  says (table.Played image said end is) =
+  says {image} (table.Played said end is) =
       let begun = begins front input bytes is.request image is.bytes_behind (inl has) is.given in
       let one = same_request input.words is.request request begun.asks asked in
       let rest = drop begun.size bytes in
@@ -258,7 +259,7 @@ module _ (input : Input) (bytes : List ℕ) (request : Request) (o : Outcome)
           },
         );
       }
-  says (table.Traced image lists end is) =
+  says {image} (table.Traced lists end is) =
       let begun = begins front input bytes is.request image is.bytes_behind (inl has) is.given in
       let one = same_request input.words is.request request begun.asks asked in
       let rest = drop begun.size bytes in
@@ -287,7 +288,8 @@ module _ (input : Input) (bytes : List ℕ) (request : Request) (o : Outcome)
       }
 
   -- what is found says something of the bytes
-  found_says : {n : ℕ} {text : List ℕ} → IsToldBy program input o n text → Says input bytes request o n text
+  found_says : {image : ImageValue} {n : ℕ} {text : List ℕ} → IsToldBy program image input o n text
+      → Says input bytes request o n text
   found_says (inl refused) = refusal_says refused.0 refused.1
   found_says (inr answer) = says answer
 
@@ -375,16 +377,17 @@ module _ (o other : Outcome) (n m : ℕ) (text other_text : List ℕ) where
 -- ---- calls
 
 -- a call that ended well has an answer
-answered : (call : Call) (o : Outcome) → EndsWell o → TellsOutcome program call o → TellsAnswer program call o
-answered call o well (inl want) = absurd (well.memory want.status_is)
-answered call o well (inr (inl fault)) = absurd (well.source fault.status_is)
-answered call o well (inr (inr (inl fault))) = absurd (well.sink fault.status_is)
-answered call o well (inr (inr (inr answer))) = answer
+answered : (image : ImageValue) (call : Call) (o : Outcome) → EndsWell o → TellsOutcome program image call o
+    → TellsAnswer program image call o
+answered image call o well (inl want) = absurd (well.memory want.status_is)
+answered image call o well (inr (inl fault)) = absurd (well.source fault.status_is)
+answered image call o well (inr (inr (inl fault))) = absurd (well.sink fault.status_is)
+answered image call o well (inr (inr (inr answer))) = answer
 
 pub script_calls_are_one : ScriptCallsAreOne
-script_calls_are_one call other o other_o asks given tells other_tells well other_well =
-    let first = answered call o well tells in
-    let second = answered other other_o other_well other_tells in
+script_calls_are_one call other o other_o image other_image asks given tells other_tells well other_well =
+    let first = answered image call o well tells in
+    let second = answered other_image other other_o other_well other_tells in
     let bytes = given.bytes in
     let request = asks.request in
     let input = call.input in

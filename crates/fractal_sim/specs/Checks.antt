@@ -1,15 +1,15 @@
--- Texts behind an image: reports that are checked, and scripts that are no scripts.
+-- Texts after an image: reports that are checked, and texts that aren't scripts.
 use Rattle.std.specs.Prelude.{◌≡◌, ℕ, List, Some, Ok, Err}
 use Rattle.std.specs.declared.option.Option.{Option}
 use Rattle.guest_image.specs.ImageValue.{ImageValue}
-use Rattle.serial_machine.specs.declared.fault.TurnFault.{TurnFault}
-use Rattle.serial_machine.specs.declared.whole_run.SerialRun.{SerialRun}
-use Rattle.serial_machine.specs.WholeRun.{IsRunOf}
-use Rattle.report_text.specs.declared.report.Report.{Report}
-use Rattle.report_text.specs.declared.verdict.Verdict.TheVariants as verdicts
-use Rattle.report_text.specs.Grammar.{report_of}
-use Rattle.report_text.specs.Check.{IsReportOf, IsVerdict}
-use Rattle.step_script.specs.Grammar.{acts_of}
+use Rattle.machine_run.specs.serial_machine.declared.fault.TurnFault.{TurnFault}
+use Rattle.machine_run.specs.serial_machine.declared.whole_run.SerialRun.{SerialRun}
+use Rattle.machine_run.specs.serial_machine.WholeRun.{IsRunOf}
+use Rattle.script_text.specs.report_text.declared.report.Report.{Report}
+use Rattle.script_text.specs.report_text.declared.verdict.Verdict.TheVariants as verdicts
+use Rattle.script_text.specs.report_text.Grammar.{report_of}
+use Rattle.script_text.specs.report_text.Check.{IsReportOf, IsVerdict}
+use Rattle.machine_run.specs.step_script.Grammar.{acts_of}
 use Rattle.command_line.specs.declared.request.Command.TheVariants.{Check}
 use Rattle.command_line.specs.declared.request.Request.{Request}
 use Rattle.program_call.specs.Call.{Input}
@@ -17,7 +17,7 @@ use Rattle.program_call.specs.Given.{ReadsImage}
 use Rattle.fractal_sim.specs.Given.{front}
 use Rattle.fractal_sim.specs.Runs.{PlaysScript}
 
--- the first wrong line of a report behind the image: the first outside the grammar, or else the first that isn't the
+-- the first wrong line of a report after the image: the first outside the grammar, or else the first that isn't the
 -- run's
 pub data IsWrongLine (image : ImageValue) (request : Request) (rest : List ℕ) : ℕ → Type 0 where
   Outside : {line : ℕ} → report_of rest ≡ Err line → IsWrongLine image request rest line
@@ -25,10 +25,9 @@ pub data IsWrongLine (image : ImageValue) (request : Request) (rest : List ℕ) 
       → IsVerdict image request.settings.commits request.settings.budget report (verdicts.Illegal line why)
       → IsWrongLine image request rest line
 
--- the words ask for a check, and the report behind the image is accepted; this is its run
-pub record IsAcceptedReport (input : Input) (closed : SerialRun) : Type 0 where
+-- the arguments ask for a check, and the report after this image is accepted; this is its run
+pub record IsAcceptedReport (input : Input) (image : ImageValue) (closed : SerialRun) : Type 0 where
   pub request : Request
-  pub image : ImageValue
   pub bytes_behind : List ℕ
   pub report : Report
   pub given : ReadsImage front input request image bytes_behind
@@ -39,7 +38,7 @@ pub record IsAcceptedReport (input : Input) (closed : SerialRun) : Type 0 where
   pub journal_is : closed.journal ≡ report.journal
   pub end_is : closed.end ≡ Some report.end
 
--- the words ask for a check, and the report behind the image is refused at a line
+-- the arguments request a check, and the report after the image is refused at a line
 pub record IsRefusedReport (input : Input) (line : ℕ) : Type 0 where
   pub request : Request
   pub image : ImageValue
@@ -48,12 +47,12 @@ pub record IsRefusedReport (input : Input) (line : ℕ) : Type 0 where
   pub command : request.command ≡ Check
   pub wrong : IsWrongLine image request bytes_behind line
 
--- this is the first line of the text behind the image that is outside the grammar of scripts, for the machine of these
+-- this is the first line of the text after the image that is outside the grammar of scripts, for the machine of these
 -- settings
 abbrev pub IsNoScriptAt : Request → List ℕ → ℕ → Type 0
 IsNoScriptAt request rest line = acts_of rest request.settings.tiles request.settings.cores ≡ Err line
 
--- the words ask for a script to be played, and the text behind the image is none, from this line on
+-- the arguments request that a script is played, and the text after the image is none, from this line on
 pub record IsNoScript (input : Input) (line : ℕ) : Type 0 where
   pub request : Request
   pub image : ImageValue

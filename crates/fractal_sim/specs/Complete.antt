@@ -4,10 +4,10 @@ use Rattle.guest_image.specs.ImageValue.{ImageValue}
 use Rattle.run_journal.specs.declared.end.End.{End}
 use Rattle.run_journal.specs.declared.end.End.TheVariants as ends
 use Rattle.load_gen.specs.declared.making.Load.{Load}
-use Rattle.report_text.specs.declared.report.Report.{Report}
-use Rattle.report_text.specs.Grammar.{report_of}
-use Rattle.report_text.specs.Check.{IsReportOf}
-use Rattle.step_script.specs.declared.act.Act.{Act}
+use Rattle.script_text.specs.report_text.declared.report.Report.{Report}
+use Rattle.script_text.specs.report_text.Grammar.{report_of}
+use Rattle.script_text.specs.report_text.Check.{IsReportOf}
+use Rattle.machine_run.specs.step_script.declared.act.Act.{Act}
 use Rattle.command_line.specs.declared.request.Command.TheVariants as commands
 use Rattle.command_line.specs.declared.request.Request.{Request}
 use Rattle.command_line.specs.Requests.{request_of_words}
@@ -17,8 +17,7 @@ use Rattle.fractal_sim.specs.Checks.{IsNoScriptAt, IsWrongLine}
 use Rattle.fractal_sim.specs.Runs.{IsReported, IsScript, PlaysScript}
 use Rattle.fractal_sim.specs.Texts.{end_status, played_status}
 
--- the status that is due to words and to bytes that are all there is; which of its ends a run has is told by its
--- journal
+-- the status that is due to arguments and to these bytes as the whole input; the end of a run follows from its journal
 pub data IsDueBehind (words : List (List ℕ)) (bytes : List ℕ) : ℕ → Type 0 where
   Ended : (request : Request) (image : ImageValue) (rest : List ℕ) (end : End)
       → BeginsWithImage front words bytes request image rest → IsReported request.command end

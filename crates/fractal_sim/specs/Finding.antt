@@ -1,4 +1,4 @@
--- What is found before anything is written, and how it is told.
+-- What is found before anything is written, and how it is reported.
 use Rattle.std.specs.Prelude.{◌≡◌, ◌≢◌, ℕ, List, length, Some, None, IfSome, IsSomeAnd, MatchResult, Result, option_map}
 use Rattle.std.specs.declared.option.Option.{Option}
 use Rattle.sim_io.specs.Causes.{Rose}
@@ -6,7 +6,7 @@ use Rattle.sim_io.specs.Parts.{SinkTakes, TakesFront}
 use Rattle.sim_io.specs.Streams.{SinkState}
 use Rattle.guest_image.specs.ImageValue.{ImageValue}
 use Rattle.run_journal.specs.declared.end.End.{End}
-use Rattle.serial_machine.specs.declared.whole_run.SerialRun.{SerialRun}
+use Rattle.machine_run.specs.serial_machine.declared.whole_run.SerialRun.{SerialRun}
 use Rattle.machine_run.specs.declared.left.Ran.{Ran}
 use Rattle.machine_run.specs.declared.playing.Played.{Played}
 use Rattle.machine_run.specs.declared.playing.Traced.{Traced}
@@ -32,7 +32,7 @@ use Rattle.fractal_sim.specs.Deciding.{run_with_end, lists_of_traced, IsRunSo, I
 
 -- ---- why something was found
 
--- the words ask for a run, and this is one of the image that was read
+-- the arguments request a run, and this is one of the image that was read
 pub record IsRan (input : Input) (image : ImageValue) (ran : Ran) (steps : Option ℕ) : Type 0 where
   pub request : Request
   pub bytes_behind : List ℕ
@@ -41,7 +41,7 @@ pub record IsRan (input : Input) (image : ImageValue) (ran : Ran) (steps : Optio
   pub made : IsRunSo image request.settings input.placers input.taps ran steps
   pub told : IfSome ran.end (IsReported request.command)
 
--- the words ask for a run that can go on, and the image that was read was run to the commit limit
+-- the arguments request a run that can be continued, and the image that was read was run to the commit limit
 pub record IsStopped (input : Input) (ran : Ran) (steps : Option ℕ) (made : Saving) : Type 0 where
   pub request : Request
   pub image : ImageValue
@@ -50,13 +50,13 @@ pub record IsStopped (input : Input) (ran : Ran) (steps : Option ℕ) (made : Sa
   pub command : request.command ≡ Save
   pub stopped : IsStoppedSo image request.settings input.placers input.taps ran steps made
 
--- the words ask for the run of a generated image, and this is one
+-- the arguments request the run of a generated image, and this is one
 pub record IsLoaded (input : Input) (load : Loading) (image : ImageValue) (ran : Ran) (steps : Option ℕ) : Type 0 where
   pub request : Request
   pub given : Generates input request load.load load.seed load.size image
   pub made : IsRunSo image request.settings input.placers input.taps ran steps
 
--- the words ask for a script to be played, and the one behind the image that was read was played so
+-- the arguments request that a script is played, and this is the result of the one after the image that was read
 pub record IsPlayed (input : Input) (image : ImageValue) (played : Played) : Type 0 where
   pub request : Request
   pub bytes_behind : List ℕ
@@ -64,7 +64,7 @@ pub record IsPlayed (input : Input) (image : ImageValue) (played : Played) : Typ
   pub command : request.command ≡ Steps
   pub made : IsPlayedSo request image bytes_behind input.placers input.taps played
 
--- the words ask what the taps see, and the script behind the image that was read was played so
+-- the arguments request what the taps see, and this is the result of the script after the image that was read
 pub record IsTraced (input : Input) (traced : Traced) : Type 0 where
   pub request : Request
   pub image : ImageValue
@@ -78,37 +78,38 @@ abbrev pub IsFound : Input → Finding → Type 0
 IsFound input finding.Memory = ReadsAsAsked front input
 IsFound input (finding.Refused line) = IsRefusedReport input line
 IsFound input (finding.NoScript line) = IsNoScript input line
-IsFound input (finding.Accepted closed) = IsAcceptedReport input closed
+IsFound input (finding.Accepted closed) = (image : ImageValue) × IsAcceptedReport input image closed
 IsFound input (finding.Ran image ran steps) = IsRan input image ran steps
 IsFound input (finding.Stopped ran steps made) = IsStopped input ran steps made
 IsFound input (finding.Loaded load image ran steps) = IsLoaded input load image ran steps
 IsFound input (finding.Played image played) = IsPlayed input image played
 IsFound input (finding.Traced traced) = IsTraced input traced
 
--- why it was, or why the call comes to no image
+-- why it was, or why the call finds no image
 abbrev pub IsFoundOrFault : Input → Result Finding FrontFault → Type 0
 IsFoundOrFault input found = MatchResult found (IsFound input) (IsFrontFault front input)
 
--- ---- how it is told
+-- ---- how it is reported
 
 -- the status of a run: 5 where it has no end
 abbrev pub status_by : (End → ℕ) → Option End → ℕ
 status_by status None = 5
 status_by status (Some end) = status end
 
--- the status that tells what was made of a run that can go on
+-- the status of what was made of a run that can be continued
 abbrev pub saving_status : Saving → ℕ
 saving_status (saving.Bytes bytes) = 4
 saving_status (saving.Nested depth) = 12
 saving_status (saving.TooMany count) = 13
 
--- and the text: the bytes of the image, or the line that says why there is none
+-- the text of what was made of a run that can be continued: the bytes of the image, or the line that says why there is
+-- none
 abbrev pub saving_text : Saving → List ℕ
 saving_text (saving.Bytes bytes) = bytes.items
 saving_text (saving.Nested depth) = nested_line depth
 saving_text (saving.TooMany count) = tasks_line count
 
--- the status that tells what was found
+-- the status of what was found
 abbrev pub status_of : Finding → ℕ
 status_of finding.Memory = 5
 status_of (finding.Refused line) = 8
@@ -120,7 +121,7 @@ status_of (finding.Loaded load image ran steps) = status_by end_status ran.end
 status_of (finding.Played image played) = status_by played_status played.ran.end
 status_of (finding.Traced traced) = status_by (λ end. 0) traced.ran.end
 
--- the text that tells what was found; none where memory ran out
+-- the text of what was found; none if memory ran out
 abbrev pub text_of : Finding → Option (List ℕ)
 text_of finding.Memory = None
 text_of (finding.Refused line) = Some (journal_fault_line line)

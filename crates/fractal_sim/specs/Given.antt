@@ -1,4 +1,4 @@
--- What words may ask of the program, and the image that they ask for.
+-- What arguments may request of the program, and the image that they request.
 use Rattle.std.specs.Prelude.{◌≡◌, ℕ, List, Some, codes}
 use Rattle.guest_image.specs.ImageValue.{ImageValue}
 use Rattle.load_gen.specs.declared.making.Load.{Load}
@@ -17,7 +17,7 @@ abbrev pub Reads : Command → Type 0
 Reads (commands.Load load seed size) = ⊥
 Reads other = Unit {0}
 
--- the program's front: words ask for a request
+-- the program's front end: how arguments are read as a request
 abbrev pub front : Front
 front = record {
   Asked = Request;
@@ -31,7 +31,7 @@ front = record {
   image_line = image_fault_line;
 }
 
--- the words ask for a generated image, which is this one, and the source was left alone
+-- the arguments request a generated image, which is this one, and the source was not read
 pub record Generates (input : Input) (request : Request) (load : Load) (seed size : ℕ) (image : ImageValue)
     : Type 0 where
   pub asked : request_of_words input.words ≡ Some request
@@ -39,7 +39,7 @@ pub record Generates (input : Input) (request : Request) (load : Load) (seed siz
   pub image_is : image ≡ load_image load seed size
   pub untouched : input.source_after ≡ input.source_before
 
--- the image that the words ask for: the one at the front of the source, or a generated one
+-- the image that the arguments request: the one at the front of the source, or a generated one
 pub data HasImage (input : Input) (request : Request) (image : ImageValue) : Type 0 where
   IsRead : (behind : List ℕ) → ReadsImage front input request image behind → HasImage input request image
   IsGenerated : (load : Load) (seed size : ℕ) → Generates input request load seed size image

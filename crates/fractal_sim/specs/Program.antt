@@ -1,4 +1,4 @@
--- What an answer of the program says of its call: what that of either program does, and what made the run.
+-- What an answer of the program means for its call: what holds of either program, and what made the run.
 use Rattle.program_call.specs.declared.outcome.Outcome.{Outcome}
 use Rattle.program_call.specs.Call.{Call}
 use Rattle.program_call.specs.Program.{Answers, Program}
@@ -18,7 +18,7 @@ program = record {
   IsDueBehind = IsDueBehind;
 }
 
--- a call is answered as this program does, and the count (`steps`) is of the events that made the run
+-- a call is answered as this program does, and the count (`steps`) is of the events that made the run of that image
 pub record AnswersAndCounts (call : Call) (o : Outcome) : Type 0 where
   pub answers : Answers program call o
-  pub steps : CountsEvents call.input o
+  pub steps : CountsEvents answers.image call.input o

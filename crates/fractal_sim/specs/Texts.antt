@@ -1,4 +1,4 @@
--- The texts and the statuses that tell what was found.
+-- The texts and the statuses of what was found.
 use Rattle.std.specs.Prelude.{ℕ, List, ◌++◌, length, codes, decimal}
 use Rattle.guest_image.specs.ImageValue.{ImageValue}
 use Rattle.guest_image.specs.Fault.{fault_number, fault_offset}
@@ -7,14 +7,14 @@ use Rattle.run_journal.specs.declared.end.End.{End}
 use Rattle.run_journal.specs.declared.end.End.TheVariants as ends
 use Rattle.load_gen.specs.declared.making.Load.{Load}
 use Rattle.load_gen.specs.declared.making.Load.TheVariants.{Walk, Nest}
-use Rattle.serial_machine.specs.declared.whole_run.SerialRun.{SerialRun}
-use Rattle.report_text.specs.Report.{body_lines, end_line, report}
-use Rattle.step_script.specs.declared.saying.Said.{Said}
+use Rattle.machine_run.specs.serial_machine.declared.whole_run.SerialRun.{SerialRun}
+use Rattle.script_text.specs.report_text.Report.{body_lines, end_line, report}
+use Rattle.machine_run.specs.step_script.declared.saying.Said.{Said}
 use Rattle.script_text.specs.Replies.{reply_lines}
 
 -- ---- statuses
 
--- the status of a run to its end; the 5 of one that isn't over stands for none, as no such run is told by it
+-- the status of a run to its end; the 5 of one that isn't over is never used, as no such run is reported by it
 abbrev pub end_status : End → ℕ
 end_status ends.Normal = 0
 end_status (ends.Trap name cause pc) = 3
@@ -26,26 +26,26 @@ abbrev pub played_status : End → ℕ
 played_status ends.Unfinished = 0
 played_status end = end_status end
 
--- ---- lines that tell a fault
+-- ---- lines that report a fault
 
--- the line that tells a fault of the image
+-- the line that reports a fault of the image
 abbrev pub image_fault_line : ImageFault → List ℕ
 image_fault_line fault =
     codes "fault image " ++ decimal (fault_number fault) ++ codes " " ++ decimal (fault_offset fault) ++ codes "\n"
 
--- the line that tells the first wrong line of a report
+-- the line that reports the first wrong line of a report
 abbrev pub journal_fault_line : ℕ → List ℕ
 journal_fault_line line = codes "fault journal " ++ decimal line ++ codes "\n"
 
--- the line that tells the first wrong line of a script
+-- the line that reports the first wrong line of a script
 abbrev pub script_fault_line : ℕ → List ℕ
 script_fault_line line = codes "fault script " ++ decimal line ++ codes "\n"
 
--- the line that tells how deep a task pends that can't be saved
+-- the line that reports at which depth a task is pending that can't be saved
 abbrev pub nested_line : ℕ → List ℕ
 nested_line depth = codes "fault nested " ++ decimal depth ++ codes "\n"
 
--- the line that tells how many tasks pend, which are too many to be saved
+-- the line that reports how many tasks are pending, which are too many to be saved
 abbrev pub tasks_line : ℕ → List ℕ
 tasks_line count = codes "fault tasks " ++ decimal count ++ codes "\n"
 
@@ -64,12 +64,12 @@ unfoldable pub load_word : Load → List ℕ
 load_word Walk = codes "walk"
 load_word Nest = codes "nest"
 
--- the line that tells which image was generated
+-- the line that names the generated image
 abbrev pub load_line : Load → ℕ → ℕ → List ℕ
 load_line load seed size =
     codes "load " ++ load_word load ++ codes " " ++ decimal seed ++ codes " " ++ decimal size ++ codes "\n"
 
--- the line that tells how many tasks committed
+-- the line that reports how many tasks committed
 abbrev pub commits_line : ℕ → List ℕ
 commits_line commits = codes "commits " ++ decimal commits ++ codes "\n"
 

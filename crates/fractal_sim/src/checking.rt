@@ -1,9 +1,9 @@
-//! A report behind an image is checked.
+//! A report after an image is checked.
 
 ghost use Rattle.std.specs.Prelude.{◌≡◌, ◌≤◌, ◌<◌, length, List};
 ghost use Rattle.place_policy.specs.Policy.{Policy};
 ghost use Rattle.trace_tap.specs.TapValue.{TapValue};
-ghost use Rattle.report_text.specs.Check.{IsReportOf};
+ghost use Rattle.script_text.specs.report_text.Check.{IsReportOf};
 ghost use Rattle.command_line.specs.Requests.{IsLimited};
 ghost use Rattle.fractal_sim.specs.Deciding.{IsClosedReport, IsFoundBehind};
 ghost use Rattle.fractal_sim.specs.Finding.{IsWritable};
@@ -12,12 +12,12 @@ ghost use Rattle.program_call.specs.Call.{input_limit};
 use crate::finding::Finding;
 use command_line::{Command, Request};
 use guest_image::Image;
-use report_text::{Examined, JournalFault, Report, examine, read_journal};
-use serial_machine::{Serial, SerialRun};
-use spec_state::Settings;
+use machine_run::serial_machine::{Serial, SerialRun};
+use machine_run::spec_state::Settings;
+use script_text::report_text::{Examined, JournalFault, Report, examine, read_journal};
 use std::alloc::Global;
 
-/// Checks the report behind an image.
+/// Checks the report after an image.
 pub(crate) fn check_report(alloc: Global, request: Request, image: &Image, rest: &[u8]) -> Finding
     requires command { request.command ≡ Command.Check }
     requires limits { IsLimited request }

@@ -15,16 +15,16 @@ use crate::running::{run_finding, run_image, run_load};
 use crate::saving::save_image;
 use command_line::{Command, Refusal, Request, read_words};
 use guest_image::Image;
+use machine_run::tile_worker::Gate;
 use place_policy::Placer;
 use program_call::{FrontFault, Opened, read_input};
 use sim_io::Source;
 use std::alloc::Global;
 use std::sync::Wait;
 use std::thread::Threads;
-use tile_worker::Gate;
 use trace_tap::Tap;
 
-/// Reads the words and the input, and does what they ask for.
+/// Reads the arguments and the input, and does what they request.
 pub(crate) fn find<
     R: Threads + Wait + Sync,
     S: Source,
@@ -63,7 +63,7 @@ pub(crate) fn find<
     Ok(find_behind(rt, alloc, request, image, rest, gate, placers, taps))
 }
 
-/// Does what is asked for with an image and the bytes behind it.
+/// Does what is requested with an image and the bytes after it.
 fn find_behind<R: Threads + Wait + Sync, G: Gate + Sync, P: Placer + Send, T: Tap + Send>(
     rt: &R,
     alloc: Global,

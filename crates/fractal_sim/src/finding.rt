@@ -2,8 +2,8 @@
 
 use guest_image::Image;
 use load_gen::Load;
+use machine_run::serial_machine::SerialRun;
 use machine_run::{Played, Ran, Traced};
-use serial_machine::SerialRun;
 
 /// Which image is generated.
 #[derive(Clone, Copy)]
@@ -16,14 +16,14 @@ pub(crate) struct Loading {
     pub(crate) size: u32,
 }
 
-/// What was made of the tasks that pend where a run met its commit limit.
+/// What was made of the tasks that are pending when a run met its commit limit.
 #[derive(Drop)]
 pub(crate) enum Saving {
-    /// The bytes of the image from which the run goes on.
+    /// The bytes of the image from which the run continues.
     Bytes(Vec<u8>),
-    /// Nothing, as a task pends this deep in another task's domain.
+    /// Nothing, since a task is pending this deep in another task's domain.
     Nested(u8),
-    /// Nothing, as so many tasks pend, more than an image has.
+    /// Nothing, since so many tasks are pending, more than an image has.
     TooMany(u32),
 }
 
@@ -40,8 +40,8 @@ pub(crate) enum Finding {
     Accepted(SerialRun),
     /// The image that was read was run, by so many events where no workers made them.
     Ran(Image, Ran, Option<u64>),
-    /// The image that was read was run to its commit limit, by so many events where no workers made them, and this was
-    /// made of the tasks that pend.
+    /// The image that was read was run to its commit limit, by so many events if no workers made them, and this was
+    /// made of the pending tasks.
     Stopped(Ran, Option<u64>, Saving),
     /// The image that was generated was run, by so many events where no workers made them.
     Loaded(Loading, Image, Ran, Option<u64>),

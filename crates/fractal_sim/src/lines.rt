@@ -1,4 +1,4 @@
-//! The lines that tell a fault by its numbers, that accept a report, and that begin the report of a generated image.
+//! The lines that report a fault by its numbers, that accept a report, and that begin the report of a generated image.
 
 ghost use Rattle.std.specs.Prelude.{◌≡◌, ◌++◌, ◌<◌, ◌≤◌, ◌-◌, ◌^◌, codes, decimal, length};
 ghost use Rattle.fractal_sim.specs.Texts.{accepted_line, commits_line, image_fault_line, journal_fault_line};
@@ -8,9 +8,9 @@ use crate::finding::Loading;
 use guest_image::ImageFault;
 use itoa::Buffer;
 use load_gen::Load;
-use report_text::{Line, put};
+use script_text::report_text::{Line, put};
 
-/// The line that tells a fault of the image.
+/// The line that reports a fault of the image.
 pub(crate) fn image_line(fault: ImageFault) -> Line
     ensures { result.items ≡ image_fault_line fault }
 {
@@ -25,7 +25,7 @@ pub(crate) fn image_line(fault: ImageFault) -> Line
     line
 }
 
-/// The line that tells the first wrong line of a report.
+/// The line that reports the first wrong line of a report.
 pub(crate) fn journal_line(wrong: u32) -> Line
     ensures { result.items ≡ journal_fault_line wrong }
 {
@@ -37,7 +37,7 @@ pub(crate) fn journal_line(wrong: u32) -> Line
     line
 }
 
-/// The line that tells the first wrong line of a script.
+/// The line that reports the first wrong line of a script.
 pub(crate) fn script_line(wrong: u32) -> Line
     ensures { result.items ≡ script_fault_line wrong }
 {
@@ -49,7 +49,7 @@ pub(crate) fn script_line(wrong: u32) -> Line
     line
 }
 
-/// The line that tells how deep a task pends that can't be saved.
+/// The line that reports at which depth a task is pending that can't be saved.
 pub(crate) fn nested_line(depth: u8) -> Line
     ensures { result.items ≡ nested_line depth }
 {
@@ -61,7 +61,7 @@ pub(crate) fn nested_line(depth: u8) -> Line
     line
 }
 
-/// The line that tells how many tasks pend, which are too many to be saved.
+/// The line that reports how many tasks are pending, which are too many to be saved.
 pub(crate) fn tasks_line(count: u32) -> Line
     ensures { result.items ≡ tasks_line count }
 {
@@ -96,7 +96,7 @@ fn load_word(load: Load) -> &'static [u8]
     }
 }
 
-/// The line that tells which image was generated.
+/// The line that names the generated image.
 pub(crate) fn load_line(which: Loading) -> Line
     ensures { result.items ≡ load_line which.load which.seed which.size }
 {
@@ -113,7 +113,7 @@ pub(crate) fn load_line(which: Loading) -> Line
     line
 }
 
-/// The line that tells how many tasks committed.
+/// The line that reports how many tasks committed.
 pub(crate) fn commits_line(commits: u64) -> Line
     ensures { result.items ≡ commits_line commits }
 {

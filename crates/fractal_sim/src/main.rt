@@ -1,12 +1,12 @@
-//! Runs a guest program on the speculative machine, plays a script on it, saves a run that is to go on later, or checks
-//! the report of a run: the image comes from standard input or is generated. The report, behind the replies where a
-//! script is played, goes to standard output; so does what stands in its place: the lists of the taps, the saved image,
-//! the verdict on a report, or a line that says what is wrong. Everything is found before anything is written; a run
-//! takes memory for its tasks, its journal and its output, and one copy of the data memory.
+//! Runs a guest program on the speculative machine, plays a script on it, saves a run for later, or checks the report
+//! of a run: the image comes from standard input or is generated. The report, after the replies if a script is played,
+//! is written to standard output, or instead of it the lists of the taps, the saved image, the verdict on a report, or
+//! a line that says what is wrong. Nothing is written before the result is complete; a run takes memory for its tasks,
+//! its journal and its output, and one copy of the data memory.
 //!
-//! It stands on `machine_run`, on the readers of words, images, scripts and reports, on `load_gen` and `resume_image`,
-//! and on the writers of texts. A person, the launcher or a tool calls it. It costs what the run does, and a look at
-//! each byte of the input and of the text.
+//! It depends on `machine_run`, on the readers of command lines, images, scripts and reports, on `load_gen` and
+//! `resume_image`, and on the writers of texts. A person, the launcher or a tool calls it. It costs what the run does,
+//! and a look at each byte of the input and of the text.
 #![tactic(auto)]
 
 mod checking;
@@ -23,6 +23,7 @@ mod telling;
 #[cfg(test)]
 mod tests;
 
+use machine_run::tile_worker::OpenGate;
 use place_policy::{ByHint, LeastLoaded, Placer, RoundRobin};
 use program::top;
 use program_call::{exit_code, process_words, texts_of};
@@ -33,7 +34,6 @@ use std::io::Read;
 use std::process::ExitCode;
 use std::sync::Wait;
 use std::thread::Threads;
-use tile_worker::OpenGate;
 use trace_tap::{LastN, LineProfile, Tap};
 
 /// How many events the first tap keeps, and how many lines the second one counts by.
@@ -43,7 +43,7 @@ fn main(rt: HostRuntime) -> ExitCode {
     exit_code(answer(&rt))
 }
 
-/// Does what the words of the process ask for, on the standard streams, and tells the exit status.
+/// Does what the arguments of the process request, on the standard streams, and returns the exit status.
 fn answer<
     I: Read + Drop,
     R: Threads + Wait + Sync + Env + Alloc<A = Global> + Input<Reader = I> + Print,

@@ -1,4 +1,4 @@
-//! A script behind an image is played.
+//! A script after an image is played.
 
 ghost use Rattle.std.specs.Prelude.{◌≡◌, ◌≤◌, length, map};
 ghost use Rattle.guest_image.specs.ImageValue.{IsImage};
@@ -10,14 +10,14 @@ ghost use Rattle.program_call.specs.Call.{input_limit};
 use crate::finding::Finding;
 use command_line::{Command, Request};
 use guest_image::Image;
+use machine_run::step_script::{ScriptFault, read_script};
 use machine_run::{Played, Traced, play_script, trace_script};
 use place_policy::Placer;
 use std::alloc::{AllocError, Global};
 use std::marker::Brand;
-use step_script::{ScriptFault, read_script};
 use trace_tap::Tap;
 
-/// Plays the script behind an image.
+/// Plays the script after an image.
 pub(crate) fn play_behind<P: Placer, T: Tap>(
     alloc: Global,
     request: Request,
@@ -43,7 +43,7 @@ pub(crate) fn play_behind<P: Placer, T: Tap>(
     play_finding(image, made)
 }
 
-/// What is found of a script that was to be played: the run that it made, or want of memory only where it made none.
+/// What is found of a script that was to be played: the run that it made, or out of memory only if it made none.
 fn play_finding(image: Image, made: Result<Played, AllocError>) -> Finding
     ensures { result ≡ play_finding image made }
 {
@@ -53,7 +53,7 @@ fn play_finding(image: Image, made: Result<Played, AllocError>) -> Finding
     }
 }
 
-/// Plays the script behind an image for what its taps see.
+/// Plays the script after an image for what its taps see.
 pub(crate) fn trace_behind<P: Placer, T: Tap>(
     alloc: Global,
     request: Request,
@@ -80,8 +80,8 @@ pub(crate) fn trace_behind<P: Placer, T: Tap>(
     trace_finding(made)
 }
 
-/// What is found of a script that was to be played for its taps: the run that it made, or want of memory only where it
-/// made none.
+/// What is found of a script that was to be played for its taps: the run that it made, or out of memory only if it made
+/// none.
 fn trace_finding(made: Result<Traced, AllocError>) -> Finding
     ensures { result ≡ trace_finding made }
 {

@@ -6,31 +6,30 @@ ghost use Rattle.fractal_sim.specs.Program.{AnswersAndCounts};
 
 use crate::deciding::find;
 use crate::telling::{tell, tell_fault};
+use machine_run::tile_worker::Gate;
 use place_policy::Placer;
 use program_call::Outcome;
 use sim_io::{Sink, Source};
 use std::alloc::Global;
 use std::sync::Wait;
 use std::thread::Threads;
-use tile_worker::Gate;
 use trace_tap::Tap;
 
-/// Does what the words ask for, on the bytes of the source, and writes what comes of it to the sink.
+/// Does what the arguments request, on the bytes of the source, and writes the result to the sink.
 ///
-/// The words are those behind the program's name. A run is made by the machine of the settings that they choose:
+/// The arguments are those after the program's name. A run is made by the machine of the settings that they choose:
 /// without workers one event for its least task after another, with workers by so many host threads, each of which
-/// passes the gate outside the lock before it hands in a leg. A script is played act by act. The first of the
-/// placers picks tiles for a phase of commits, then the next one does, and each tap notes each event. Where the
-/// outcome tells how many events there were, they lead from the opening to the run that it holds. Where it tells no
-/// count it is empty, or its run was made by workers or is that of a report.
+/// passes `Gate` outside the lock before it uses a leg. A script is played act by act. The first of the placers picks
+/// tiles for a phase of commits, then the next one does, and each tap notes each event. If the outcome has a count of
+/// events, they lead from the opening to the run that it holds. If it has no count it is empty, or its run was made by
+/// workers or is that of a report.
 ///
 /// The outcome holds nothing, or a run of the serial machine from the image that was read or generated: its journal,
-/// the memory and the output that it leads to, and its end. The run meets the laws of runs. The status tells what was
-/// found, and the sink took the text that tells it and no other byte; where the sink failed it took a prefix of that
-/// text. A run that is to be saved and meets its commit limit is told by the bytes of the saved image, or by why there
-/// is none; where memory runs out for that no end is told. Where the words are refused or ask for a
-/// generated image the source is left alone; else at most 67,108,864 of its bytes are taken, or one more where it has
-/// more than that.
+/// the memory and the output that it leads to, and its end. The run meets the laws of runs. The status is that of what
+/// was found, and the sink took its text and no other byte; if the sink failed it took a prefix of that text. For a run
+/// that is to be saved and meets its commit limit the text is the saved image, or why there is none; if memory runs out
+/// for that, the end is None. If the arguments are invalid or request a generated image the source is not read; else at
+/// most 67,108,864 of its bytes are taken, or one more if it has more than that.
 pub fn top<R: Threads + Wait + Sync, S: Source, K: Sink, G: Gate + Sync>(
     rt: &R,
     alloc: Global,

@@ -1,8 +1,8 @@
-//! A run is published: its text is written, and it is handed out with the status that tells what was found of it.
+//! A run is published: its text is written, and it is returned with the status of what was found of it.
 
 ghost use Rattle.std.specs.Prelude.{◌≡◌, ◌≢◌, ◌++◌, Some, None, length, map, OnOk};
 ghost use Rattle.sim_io.specs.Parts.{Writes};
-ghost use Rattle.report_text.specs.Report.{body_lines, end_line};
+ghost use Rattle.script_text.specs.report_text.Report.{body_lines, end_line};
 ghost use Rattle.script_text.specs.Traces.{trace_text};
 ghost use Rattle.machine_run.specs.Least.{run_of_closed};
 ghost use Rattle.program_call.specs.declared.statuses.TheConstants.{SINK_FAULT};
@@ -13,14 +13,14 @@ ghost use Rattle.fractal_sim.specs.Texts.{commits_line, end_status, load_line, l
 use crate::finding::{Finding, Loading, Saving};
 use crate::lines::{accept_line, commits_line, load_line, nested_line, tasks_line};
 use guest_image::Image;
+use machine_run::serial_machine::{End, SerialRun};
+use machine_run::step_script::Said;
 use machine_run::{Played, Ran, Traced};
 use program_call::{DONE, LIMIT, NESTED, NO_MEMORY, Outcome, SINK_FAULT, TOO_MANY, TRAP};
-use report_text::{write_body, write_end, write_report};
 use run_journal::Closed;
+use script_text::report_text::{write_body, write_end, write_report};
 use script_text::{write_replies, write_trace};
-use serial_machine::{End, SerialRun};
 use sim_io::{Failed, Sink, write_all};
-use step_script::Said;
 
 /// What is answered with a run, and with the count of events that made it.
 fn outcome(status: u8, run: SerialRun, steps: Option<u64>) -> Outcome
@@ -105,7 +105,7 @@ pub(crate) fn publish_stopped<K: Sink>(
     }
 }
 
-/// Writes this text, and tells this status with a run that met its commit limit.
+/// Writes this text, and returns this status with a run that met its commit limit.
 fn tell_stopped<K: Sink>(
     sink: &mut K,
     status: u8,
@@ -142,7 +142,7 @@ pub(crate) fn publish_load<K: Sink>(
     }
 }
 
-/// Writes the replies to a script's acts and the report behind them; nothing where memory ran out.
+/// Writes the replies to a script's acts, followed by the report; nothing if memory ran out.
 pub(crate) fn publish_played<K: Sink>(sink: &mut K, image: &Image, played: Played) -> Outcome
     requires { HasWindow image.now played.ran }
     ensures { TellsFinding (Finding.Played image.now played) (K.state sink.old) (K.state sink.new) result }
@@ -232,7 +232,7 @@ fn write_commits<K: Sink>(sink: &mut K, commits: u64) -> Result<(), Failed>
     write_all(sink, line.as_slice())
 }
 
-/// Writes what was said of each act, and the report of the run that this led to.
+/// Writes the replies to the acts, and the report of the run that they led to.
 fn write_played<K: Sink>(
     sink: &mut K,
     said: &[Said],

@@ -2,7 +2,7 @@
 
 ghost use Rattle.std.specs.Prelude.{◌≡◌, map, IfOk};
 ghost use Rattle.guest_image.specs.ImageValue.{IsImage};
-ghost use Rattle.spec_state.specs.Settings.{IsValid};
+ghost use Rattle.machine_run.specs.spec_state.Settings.{IsValid};
 ghost use Rattle.load_gen.specs.Generated.{IsSize};
 ghost use Rattle.fractal_sim.specs.Deciding.{IsRunSo, IsLoadedSo, event_count, run_finding, load_finding};
 ghost use Rattle.fractal_sim.specs.Finding.{HasWindow, IsWritable};
@@ -10,14 +10,14 @@ ghost use Rattle.fractal_sim.specs.Finding.{HasWindow, IsWritable};
 use crate::finding::{Finding, Loading};
 use guest_image::Image;
 use load_gen::make;
+use machine_run::spec_state::Settings;
+use machine_run::tile_worker::Gate;
 use machine_run::{Ran, run};
 use place_policy::Placer;
-use spec_state::Settings;
 use std::alloc::{AllocError, Global};
 use std::marker::Brand;
 use std::sync::Wait;
 use std::thread::Threads;
-use tile_worker::Gate;
 use trace_tap::Tap;
 
 /// Runs an image up to its end, or as far as memory goes.
@@ -41,8 +41,8 @@ pub(crate) fn run_image<R: Threads + Wait + Sync, G: Gate + Sync, P: Placer + Se
     run::<Brand, P, T, G, R>(rt, alloc, image, settings, gate, placers, taps)
 }
 
-/// What is found of an image that was read and was to be run: the run that was made, with its events where no workers
-/// made them, or want of memory only where none was made.
+/// What is found of an image that was read and was to be run: the run that was made, with its events if no workers made
+/// them, or out of memory only if none was made.
 pub(crate) fn run_finding(image: Image, workers: u32, made: Result<Ran, AllocError>) -> Finding
     ensures { result ≡ run_finding image workers made }
 {
@@ -55,7 +55,7 @@ pub(crate) fn run_finding(image: Image, workers: u32, made: Result<Ran, AllocErr
     }
 }
 
-/// How many events are told.
+/// The count of events that an outcome has: None with workers.
 pub(crate) fn event_count(workers: u32, events: u64) -> Option<u64>
     ensures { result ≡ event_count workers events }
 {
@@ -86,8 +86,8 @@ pub(crate) fn run_load<R: Threads + Wait + Sync, G: Gate + Sync, P: Placer + Sen
     load_finding(load, image, settings.workers, made)
 }
 
-/// What is found of a generated image that was to be run: the run that was made, with its events where no workers made
-/// them, or want of memory only where none was made.
+/// What is found of a generated image that was to be run: the run that was made, with its events if no workers made
+/// them, or out of memory only if none was made.
 fn load_finding(load: Loading, image: Image, workers: u32, made: Result<Ran, AllocError>) -> Finding
     ensures { result ≡ load_finding load image workers made }
 {

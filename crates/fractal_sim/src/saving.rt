@@ -2,8 +2,8 @@
 
 ghost use Rattle.std.specs.Prelude.{◌≡◌, ◌<◌, ℕ, length, map, IfOk, IfSome, MatchResult, Some, None};
 ghost use Rattle.guest_image.specs.ImageValue.{IsImage};
-ghost use Rattle.conflict_book.specs.Frozen.{IsFrozenOf};
-ghost use Rattle.spec_state.specs.Settings.{IsValid};
+ghost use Rattle.machine_run.specs.conflict_book.Frozen.{IsFrozenOf};
+ghost use Rattle.machine_run.specs.spec_state.Settings.{IsValid};
 ghost use Rattle.machine_run.specs.Stopping.{IsStoppedWith};
 ghost use Rattle.fractal_sim.specs.Deciding.{IsKeptSo, IsKeptStopped, IsSavedSo, Saves};
 ghost use Rattle.fractal_sim.specs.Finding.{IsWritable};
@@ -11,16 +11,16 @@ ghost use Rattle.fractal_sim.specs.Finding.{IsWritable};
 use crate::finding::{Finding, Saving};
 use crate::running::event_count;
 use guest_image::{Image, write_image};
+use machine_run::serial_machine::End;
+use machine_run::spec_state::Settings;
+use machine_run::tile_worker::Gate;
 use machine_run::{Ran, Stopped, run_to_save};
 use place_policy::Placer;
 use resume_image::{Frozen, SaveFault, snapshot};
-use serial_machine::End;
-use spec_state::Settings;
 use std::alloc::{AllocError, Global};
 use std::marker::Brand;
 use std::sync::Wait;
 use std::thread::Threads;
-use tile_worker::Gate;
 use trace_tap::Tap;
 
 /// Runs an image up to its end, or as far as memory goes, and makes the saved image where the run meets its commit
@@ -45,7 +45,7 @@ pub(crate) fn save_image<R: Threads + Wait + Sync, G: Gate + Sync, P: Placer + S
     save_finding(alloc, image, settings, made)
 }
 
-/// What is found of an image that was to be run and saved: the run that was made, or want of memory only where none was
+/// What is found of an image that was to be run and saved: the run that was made, or out of memory only if none was
 /// made.
 fn save_finding(
     alloc: Global,
@@ -63,7 +63,7 @@ fn save_finding(
     }
 }
 
-/// What is found of a run that was made and is to go on. The run is kept, whatever comes of what follows it.
+/// What is found of a run that was made and is to be saved. The run is kept, whether or not saving succeeds.
 fn keep_stopped(alloc: Global, image: Image, settings: Settings, stopped: Stopped) -> Finding
     requires { IfSome stopped.pending (IsStoppedWith image settings.budget stopped.ran) }
     ensures { IsKeptStopped image settings.workers stopped result }
@@ -79,8 +79,8 @@ fn keep_stopped(alloc: Global, image: Image, settings: Settings, stopped: Stoppe
     }
 }
 
-/// What is found of a run that met its commit limit and is to go on. The run is kept whatever comes of the saved
-/// image, also where memory runs out for it; then no end is told.
+/// What is found of a run that met its commit limit and is to be saved. The run is kept whether or not saving succeeds,
+/// also if memory runs out for it; then the end is None.
 fn keep_frozen(alloc: Global, image: Image, frozen: Frozen, steps: Option<u64>) -> Finding
     requires run { (budget : ℕ) × IsFrozenOf image budget frozen }
     requires some { 0 < length frozen.pending }
@@ -102,7 +102,7 @@ fn at_limit(frozen: Frozen) -> Ran
     }
 }
 
-/// What was frozen, as a run whose end isn't told.
+/// What was frozen, as a run whose end is None.
 fn without_end(frozen: Frozen) -> Ran
     ensures { result ≡ record { closed = frozen.closed; end = None } }
 {

@@ -1,4 +1,4 @@
-//! What was found is written, and told by a status. Nothing here takes memory.
+//! Writes what was found, and returns its status. Nothing here allocates.
 
 ghost use Rattle.std.specs.Prelude.{◌≡◌, ◌≢◌, ◌<◌, ◌-◌, ◌^◌};
 ghost use Rattle.program_call.specs.Answers.{TellsFrontFault};
@@ -38,7 +38,7 @@ pub(crate) fn tell<K: Sink>(alloc: Global, sink: &mut K, found: Finding) -> Outc
     }
 }
 
-/// Writes why a call comes to no image. The status is 7 where the sink fails.
+/// Writes why a call finds no image. The status is 7 if the sink fails.
 pub(crate) fn tell_fault<K: Sink>(alloc: Global, sink: &mut K, fault: FrontFault) -> Outcome
     ensures { TellsFrontFault front fault (K.state sink.old) (K.state sink.new) result }
 {

@@ -1,5 +1,5 @@
-//! What the program does on streams in memory: tables of calls, devices that fail, parts that are handed in, and
-//! workers that pass a gate.
+//! What the program does on streams in memory: tables of calls, devices that fail, given placers and taps, and workers
+//! that pass a gate.
 
 mod devices;
 mod gates;
@@ -12,23 +12,23 @@ mod saves;
 mod schedules;
 
 use crate::program::top;
+use machine_run::serial_machine::End;
+use machine_run::tile_worker::{Gate, OpenGate};
 use place_policy::{ByHint, LeastLoaded, Placer, RoundRobin};
 use program_call::Outcome;
-use serial_machine::End;
 use sim_io::{MemSink, MemSource};
 use std::alloc::{Alloc, Global};
 use std::process::Abort;
 use std::sync::Wait;
 use std::test::Fail;
 use std::thread::Threads;
-use tile_worker::{Gate, OpenGate};
 use trace_tap::{LastN, LineProfile, Tap};
 
-/// What a call leaves: its status, the word of its end, how many tasks committed, and how many events it tells.
+/// What a call leaves: its status, the name of its end, how many tasks committed, and its count of events.
 type Left = (u8, &'static str, usize, Option<u64>);
 
-/// A call: its words, what it reads and what it writes, each an image in hexadecimal and the text behind it, and what
-/// it leaves.
+/// A call: its arguments, what it reads and what it writes, each an image in hexadecimal followed by text, and what it
+/// leaves.
 struct Case {
     words: &'static str,
     read: (&'static str, &'static str),

@@ -16,7 +16,7 @@ pub no_script_answers : (N : Type 0) (input : Input) (before after : SinkState) 
     → IsWatchNoScript input line → TellsMadeLine 9 (script_fault_object line) before after o
     → Answers (program N) (call_on input before after) o
 no_script_answers N input before after line o found tells =
-    made_answers (program N) input before after o 9 (script_fault_object line)
+    made_answers (program N) found.image input before after o 9 (script_fault_object line)
     (λ empty. inr (table.NoScript line found empty))
     (λ empty. inr (table.OfNoScript line found empty))
     (λ bytes known.

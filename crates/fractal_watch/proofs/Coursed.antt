@@ -3,27 +3,26 @@ use Rattle.std.proofs.Common.{◌≡◌, ◌++◌, ℕ, inl, List, [], ap, lengt
 use Rattle.sim_io.specs.Parts.{TakesFront}
 use Rattle.sim_io.specs.Streams.{SinkState}
 use Rattle.sim_io.proofs.Fronts.{TakesFront-more}
-use Rattle.spec_state.specs.declared.settings.Settings.{Settings}
-use Rattle.event_def.specs.Book.{BookView}
-use Rattle.step_script.specs.declared.act.Act.{Act}
+use Rattle.watch_play.specs.spec_state.declared.settings.Settings.{Settings}
+use Rattle.watch_play.specs.event_def.Book.{BookView}
+use Rattle.watch_play.specs.step_script.declared.act.Act.{Act}
 use Rattle.watch_play.specs.declared.stop.StoryStop.{StoryStop}
 use Rattle.watch_play.specs.declared.stop.StoryStop.TheVariants as stops
-use Rattle.watch_play.specs.Courses.{course_word, first_stage}
+use Rattle.watch_play.specs.Courses.{course_of, course_word, first_stage}
 use Rattle.watch_play.specs.Stories.{begun}
 use Rattle.watch_play.specs.Telling.{HasStory, Plan, Tells, TellsOpening}
 use Rattle.watch_play.specs.Counted.{counts_of, last_counts}
 use Rattle.watch_play.specs.Texts.{opening_lines}
 use Rattle.watch_play.proofs.Proved.{text_begins}
-use Rattle.watch_text.specs.declared.head.CourseWord.{CourseWord}
-use Rattle.watch_text.specs.declared.head.CourseWord.TheVariants as courses
-use Rattle.fractal_watch.specs.Watched.{course_of}
+use Rattle.watch_play.specs.watch_text.declared.head.CourseWord.{CourseWord}
+use Rattle.watch_play.specs.watch_text.declared.head.CourseWord.TheVariants as courses
 
 -- a word's course has that word
 pub same_word : (course : CourseWord) (settings : Settings) (script : List Act)
     → course_word (course_of course settings script) ≡ course
 same_word courses.Steps settings script = refl
 same_word courses.Least settings script = refl
-same_word (courses.Lockstep rounds seed barren) settings script = refl
+same_word (courses.Lockstep rounds seed starved) settings script = refl
 
 module _ (N : Type 0) (plan : Plan) (opening : BookView) where
   -- the story before the first act

@@ -5,13 +5,13 @@ use Rattle.std.specs.declared.option.Option.{Option}
 use Rattle.guest_image.specs.ImageValue.{ImageValue}
 use Rattle.run_journal.specs.declared.closed.Closed.{Closed}
 use Rattle.run_journal.specs.declared.end.End.{End}
-use Rattle.serial_machine.specs.WholeRun.{IsRunOf}
+use Rattle.watch_play.specs.serial_machine.WholeRun.{IsRunOf}
 use Rattle.sim_io.specs.Parts.{SinkTakes}
 use Rattle.sim_io.specs.Streams.{SinkState}
-use Rattle.event_def.specs.Book.{BookView}
-use Rattle.event_def.specs.Closing.{Closes}
-use Rattle.machine_run.specs.Least.{run_of_closed}
-use Rattle.machine_run.specs.Played.{StandsAt}
+use Rattle.watch_play.specs.event_def.Book.{BookView}
+use Rattle.watch_play.specs.event_def.Closing.{Closes}
+use Rattle.watch_play.specs.machine_run.Least.{run_of_closed}
+use Rattle.watch_play.specs.machine_run.Played.{StandsAt}
 use Rattle.watch_play.specs.declared.stop.StoryStop.{StoryStop}
 use Rattle.watch_play.specs.declared.stop.StoryStop.TheVariants as stops
 use Rattle.watch_play.specs.declared.telling.Telling.{Telling}

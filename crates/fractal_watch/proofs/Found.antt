@@ -3,8 +3,8 @@ use Rattle.std.specs.Prelude.{IfOk}
 use Rattle.std.proofs.Common.{◌≡◌, ℕ, ◌+◌, ◌^◌, ◌<◌, ◌≤◌, ◌==◌, List, [], ◌∷◌, length, ap, arith}
 use Rattle.std.proofs.Common.{Result, Ok, Err, Bool, true, false, if◌then◌else◌, Some, None}
 use Rattle.std.specs.declared.option.Option.{Option}
-use Rattle.step_script.specs.declared.act.Act.{Act}
-use Rattle.step_script.specs.Grammar.{act_in, acts_at, acts_of, after_act}
+use Rattle.watch_play.specs.step_script.declared.act.Act.{Act}
+use Rattle.watch_play.specs.step_script.Grammar.{act_in, acts_at, acts_of, after_act}
 use Rattle.text_lines.specs.Lines.{lines_of, onto}
 use Rattle.program_call.specs.Call.{input_limit}
 

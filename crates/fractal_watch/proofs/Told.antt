@@ -5,23 +5,23 @@ use Rattle.std.specs.declared.option.Option.{Option}
 use Rattle.guest_image.specs.ImageValue.{ImageValue}
 use Rattle.place_policy.specs.Policy.{Policy}
 use Rattle.run_journal.specs.declared.end.End.{End}
-use Rattle.serial_machine.specs.WholeRun.{IsRunOf}
-use Rattle.serial_machine.specs.declared.whole_run.SerialRun.{SerialRun}
+use Rattle.watch_play.specs.serial_machine.WholeRun.{IsRunOf}
+use Rattle.watch_play.specs.serial_machine.declared.whole_run.SerialRun.{SerialRun}
 use Rattle.sim_io.specs.Causes.{Rose}
 use Rattle.sim_io.specs.Parts.{SinkTakes, TakesFront}
 use Rattle.sim_io.specs.Streams.{SinkState}
 use Rattle.sim_io.proofs.Fronts.{SinkTakes-trans, TakesFront-then}
-use Rattle.spec_state.specs.declared.settings.Settings.{Settings}
+use Rattle.watch_play.specs.spec_state.declared.settings.Settings.{Settings}
 use Rattle.trace_tap.specs.TapValue.{TapValue}
-use Rattle.event_def.specs.Book.{BookView}
-use Rattle.event_def.specs.Opening.{IsOpening}
-use Rattle.machine_run.specs.Leaving.{LeavesRun}
-use Rattle.machine_run.proofs.Proved.{run_left}
-use Rattle.step_script.specs.declared.act.Act.{Act}
+use Rattle.watch_play.specs.event_def.Book.{BookView}
+use Rattle.watch_play.specs.event_def.Opening.{IsOpening}
+use Rattle.watch_play.specs.machine_run.Leaving.{LeavesRun}
+use Rattle.watch_play.proofs.Below.machine_run.Proved.{run_left}
+use Rattle.watch_play.specs.step_script.declared.act.Act.{Act}
 use Rattle.watch_play.specs.declared.stop.StoryStop.{StoryStop}
 use Rattle.watch_play.specs.declared.stop.StoryStop.TheVariants as stops
 use Rattle.watch_play.specs.Telling.{HasStory, IsAllTold, Tells}
-use Rattle.watch_text.specs.Moments.{Moment}
+use Rattle.watch_play.specs.watch_text.Moments.{Moment}
 use Rattle.program_call.specs.declared.outcome.Outcome.{Outcome}
 use Rattle.program_call.specs.Outcomes.{IsEmpty, closed_of}
 use Rattle.program_call.specs.Call.{Input, call_on}
@@ -50,13 +50,12 @@ module _ (N : Type 0) (input : Input) (asking : Asking) (image : ImageValue) (be
     (same_budget : asking.request.settings.budget ≡ budget) where
   -- the run that was closed is held
   held : (status : ℕ) (end : Option End) (o : Outcome) → IsClosedAs image commits budget book status end o
-      → HoldsRunOrNothing front HasImage input o
+      → HoldsRunOrNothing front HasImage image input o
   held status end o c =
       let run : IsRunOf image commits budget (closed_of o) =
       subst (IsRunOf image commits budget) (sym c.holds.run_is) c.run in
       inr record {
         asked = asking;
-        image = image;
         given = (behind, given);
         run = subst (λ most. IsRunOf image most asking.request.settings.budget (closed_of o)) (sym same_commits)
             (subst (λ most. IsRunOf image commits most (closed_of o)) (sym same_budget) run);
@@ -65,10 +64,9 @@ module _ (N : Type 0) (input : Input) (asking : Asking) (image : ImageValue) (be
   -- and a story that led to it was watched
   abbrev watched : (status : ℕ) (end : Option End) (o : Outcome) (moments : List (Moment N))
       → HasStory (plan_of asking image script) opening moments book
-      → IsClosedAs image commits budget book status end o → IsWatched N input o
+      → IsClosedAs image commits budget book status end o → IsWatched N image input o
   watched status end o moments story c = record {
     asking = asking;
-    image = image;
     behind = behind;
     given = given;
     script = script;
@@ -99,11 +97,13 @@ module _ (N : Type 0) (input : Input) (asking : Asking) (image : ImageValue) (be
 
   -- an outcome that holds a run which was closed answers
   answer_of : (before after : SinkState) (status : ℕ) (end : Option End) (o : Outcome)
-      → IsClosedAs image commits budget book status end o → TellsOutcome (program N) (call_on input before after) o
+      → IsClosedAs image commits budget book status end o
+      → TellsOutcome (program N) image (call_on input before after) o
       → IsComplete (program N) (call_on input before after) o → Answers (program N) (call_on input before after) o
   answer_of before after status end o c told complete = record {
+    image = image;
     run = held status end o c;
-    laws = holds_lawful (program N) input o;
+    laws = holds_lawful (program N) image input o;
     told = told;
     complete = complete;
   }
@@ -117,12 +117,12 @@ module _ (N : Type 0) (input : Input) (asking : Asking) (image : ImageValue) (be
       let w = watched _ _ o told.moments told.story c in
       let ending = end_text asking.telling image end c.closed.steps (length o.journal) o.output o.memory in
       let last : SinkTakes between after ending = subst (SinkTakes between after) (same_text _ _ end o c) took in
-      let played : IsPlayed w end = record { through = told.through; stands = stands } in
+      let played : IsPlayed w end = record { ends = told.ends; stands = stands } in
       let answer = table.Played w end played (same_end _ _ o c) in
       answer_of before after _ _ o c
       (inr (inr (inr record {
         text = text_of_watched w end;
-        answer = inr (subst (λ s. IsAnswer N input o s (text_of_watched w end)) (sym c.holds.status_is) answer);
+        answer = inr (subst (λ s. IsAnswer N image input o s (text_of_watched w end)) (sym c.holds.status_is) answer);
         took = SinkTakes-trans before between after (lines_of_watched w) ending told.took last;
       })))
       (λ bytes known well.
@@ -135,14 +135,14 @@ module _ (N : Type 0) (input : Input) (asking : Asking) (image : ImageValue) (be
       answer_of before after _ _ o c
       (inl record {
         status_is = c.holds.status_is;
-        want = inr record { watched = w; end_is = same_end _ _ o c; took = inr (inr (told.through, took)) };
+        want = inr record { watched = w; end_is = same_end _ _ o c; took = inr (inr (told.ends, took)) };
       })
       (λ bytes known well. inl c.holds.status_is)
   finished_tells before between after o told (EndCut end c stands took rose) =
       let w = watched _ _ o told.moments told.story c in
       let ending = end_text asking.telling image end c.closed.steps (length o.journal) o.output o.memory in
       let last : TakesFront between after ending = subst (TakesFront between after) (same_text _ _ end o c) took in
-      let played : IsPlayed w end = record { through = told.through; stands = stands } in
+      let played : IsPlayed w end = record { ends = told.ends; stands = stands } in
       let failed : Rose before.faults after.faults = omega (arith, told.later, rose) in
       answer_of before after _ _ o c
       (inr (inr (inl record {
@@ -208,4 +208,5 @@ pub want_tells : (N : Type 0) (image : ImageValue) (asking : Asking) (script : L
     (sink : SinkState) (o : Outcome) → o.status ≡ 5 → IsEmpty o
     → TellsRunOf N image asking script placers sink sink o
 want_tells N image asking script placers sink o is empty = λ input behind same_placers given script_is.
-    want_answers (program N) input sink sink o is empty (read_as_asked front input asking given.bytes given.read) refl
+    want_answers (program N) image input sink sink o is empty
+    (read_as_asked front input asking given.bytes given.read) refl

@@ -7,11 +7,11 @@ use Rattle.run_journal.specs.declared.end.End.{End}
 use Rattle.sim_io.specs.Causes.{Rose}
 use Rattle.sim_io.specs.Parts.{SinkTakes, TakesFront}
 use Rattle.sim_io.specs.Streams.{SinkState}
-use Rattle.event_def.specs.Book.{BookView}
-use Rattle.event_def.specs.Closing.{Closes}
-use Rattle.serial_machine.specs.WholeRun.{IsRunOf}
-use Rattle.machine_run.specs.Least.{run_of_closed}
-use Rattle.machine_run.specs.Played.{StandsAt}
+use Rattle.watch_play.specs.event_def.Book.{BookView}
+use Rattle.watch_play.specs.event_def.Closing.{Closes}
+use Rattle.watch_play.specs.serial_machine.WholeRun.{IsRunOf}
+use Rattle.watch_play.specs.machine_run.Least.{run_of_closed}
+use Rattle.watch_play.specs.machine_run.Played.{StandsAt}
 use Rattle.watch_play.specs.declared.stop.StoryStop.{StoryStop}
 use Rattle.watch_play.specs.declared.stop.StoryStop.TheVariants as stops
 use Rattle.watch_play.specs.declared.telling.Telling.{Telling}

@@ -2,9 +2,9 @@
 use Rattle.std.specs.Prelude.{◌≡◌, ℕ, List, Err}
 use Rattle.guest_image.specs.ImageValue.{ImageValue}
 use Rattle.run_journal.specs.declared.end.End.{End}
-use Rattle.step_script.specs.declared.act.Act.{Act}
-use Rattle.step_script.specs.Grammar.{acts_of}
-use Rattle.watch_text.specs.declared.head.CourseWord.TheVariants as courses
+use Rattle.watch_play.specs.step_script.declared.act.Act.{Act}
+use Rattle.watch_play.specs.step_script.Grammar.{acts_of}
+use Rattle.watch_play.specs.watch_text.declared.head.CourseWord.TheVariants as courses
 use Rattle.program_call.specs.Complete.{BeginsWithImage}
 use Rattle.fractal_watch.specs.declared.words.Asking.{Asking}
 use Rattle.fractal_watch.specs.Given.{front}

@@ -1,6 +1,6 @@
 -- What is found before anything is told, and why.
 use Rattle.std.specs.Prelude.{ℕ, ◌^◌, ◌<◌, List, All, MatchResult, Result, length}
-use Rattle.step_script.specs.Ranges.{ActIsInRange}
+use Rattle.watch_play.specs.step_script.Ranges.{ActIsInRange}
 use Rattle.program_call.specs.declared.input.FrontFault.{FrontFault}
 use Rattle.program_call.specs.Call.{Input}
 use Rattle.program_call.specs.Given.{IsFrontFault, ReadsImage}

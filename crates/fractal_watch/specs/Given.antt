@@ -2,9 +2,9 @@
 use Rattle.std.specs.Prelude.{◌≡◌, ℕ, List, Ok, Err}
 use Rattle.guest_image.specs.ImageValue.{ImageValue}
 use Rattle.command_line.specs.Requests.{IsLimited}
-use Rattle.step_script.specs.declared.act.Act.{Act}
-use Rattle.step_script.specs.Grammar.{acts_of}
-use Rattle.watch_text.specs.declared.head.CourseWord.TheVariants as courses
+use Rattle.watch_play.specs.step_script.declared.act.Act.{Act}
+use Rattle.watch_play.specs.step_script.Grammar.{acts_of}
+use Rattle.watch_play.specs.watch_text.declared.head.CourseWord.TheVariants as courses
 use Rattle.program_call.specs.Call.{Input}
 use Rattle.program_call.specs.Front.{Front}
 use Rattle.program_call.specs.Given.{ReadsImage}

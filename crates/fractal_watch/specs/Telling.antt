@@ -3,9 +3,9 @@ use Rattle.std.specs.Prelude.{◌≡◌, ℕ, List, []}
 use Rattle.guest_image.specs.ImageValue.{ImageValue}
 use Rattle.place_policy.specs.Policy.{Policy}
 use Rattle.sim_io.specs.Streams.{SinkState}
-use Rattle.event_def.specs.Book.{BookView}
-use Rattle.event_def.specs.Opening.{IsOpening}
-use Rattle.step_script.specs.declared.act.Act.{Act}
+use Rattle.watch_play.specs.event_def.Book.{BookView}
+use Rattle.watch_play.specs.event_def.Opening.{IsOpening}
+use Rattle.watch_play.specs.step_script.declared.act.Act.{Act}
 use Rattle.program_call.specs.declared.outcome.Outcome.{Outcome}
 use Rattle.program_call.specs.Call.{Input, call_on}
 use Rattle.program_call.specs.Given.{ReadsImage}

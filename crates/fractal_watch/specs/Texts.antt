@@ -7,7 +7,7 @@ use Rattle.run_journal.specs.declared.end.End.{End}
 use Rattle.run_journal.specs.declared.end.End.TheVariants as ends
 use Rattle.watch_play.specs.declared.telling.Telling.{Telling}
 use Rattle.watch_play.specs.declared.telling.Telling.TheVariants as tellings
-use Rattle.watch_text.specs.Views.{last_line}
+use Rattle.watch_play.specs.watch_text.Views.{last_line}
 
 -- the status of a course that was played to its end: it may leave a run that isn't over
 abbrev pub watch_status : End → ℕ

@@ -2,16 +2,15 @@
 use Rattle.std.specs.Prelude.{◌≡◌, ℕ, List, [], ◌++◌, length, Some}
 use Rattle.guest_image.specs.ImageValue.{ImageValue}
 use Rattle.run_journal.specs.declared.end.End.{End}
-use Rattle.machine_run.specs.Leaving.{LeavesRun}
-use Rattle.event_def.specs.Book.{BookView}
-use Rattle.event_def.specs.Opening.{IsOpening}
-use Rattle.step_script.specs.declared.act.Act.{Act}
-use Rattle.watch_text.specs.declared.head.CourseWord.{CourseWord}
-use Rattle.watch_text.specs.declared.head.CourseWord.TheVariants as courses
-use Rattle.watch_text.specs.Moments.{Moment}
-use Rattle.watch_play.specs.Courses.{Course, OfLeast, OfRounds, OfScript}
+use Rattle.watch_play.specs.machine_run.Leaving.{LeavesRun}
+use Rattle.watch_play.specs.event_def.Book.{BookView}
+use Rattle.watch_play.specs.event_def.Opening.{IsOpening}
+use Rattle.watch_play.specs.step_script.declared.act.Act.{Act}
+use Rattle.watch_play.specs.watch_text.declared.head.CourseWord.{CourseWord}
+use Rattle.watch_play.specs.watch_text.declared.head.CourseWord.TheVariants as courses
+use Rattle.watch_play.specs.watch_text.Moments.{Moment}
+use Rattle.watch_play.specs.Courses.{course_of}
 use Rattle.watch_play.specs.Telling.{HasStory, Plan, text_of_course}
-use Rattle.spec_state.specs.declared.settings.Settings.{Settings}
 use Rattle.program_call.specs.declared.outcome.Outcome.{Outcome}
 use Rattle.program_call.specs.Outcomes.{closed_of}
 use Rattle.program_call.specs.Call.{Input}
@@ -19,12 +18,6 @@ use Rattle.fractal_watch.specs.declared.words.Asking.{Asking}
 use Rattle.program_call.specs.Given.{ReadsImage}
 use Rattle.fractal_watch.specs.Given.{IsWatchScript, front}
 use Rattle.fractal_watch.specs.Texts.{end_text}
-
--- the course of a word, with the acts of its script
-abbrev pub course_of : CourseWord → Settings → List Act → Course
-course_of courses.Steps settings script = OfScript script
-course_of courses.Least settings script = OfLeast
-course_of (courses.Lockstep rounds seed barren) settings script = OfRounds rounds seed barren settings
 
 -- what is to be told of an image
 abbrev pub plan_of : Asking → ImageValue → List Act → Plan
@@ -42,9 +35,8 @@ HasActs other asking behind script = script ≡ []
 
 -- the words ask for a course, and so many acts of it, from an opening of the image that was read, gave these moments
 -- and led to a book which leaves the run that the outcome holds, by as many events as it tells
-pub record IsWatched (N : Type 0) (input : Input) (o : Outcome) : Type 0 where
+pub record IsWatched (N : Type 0) (image : ImageValue) (input : Input) (o : Outcome) : Type 0 where
   pub asking : Asking
-  pub image : ImageValue
   pub behind : List ℕ
   pub given : ReadsImage front input asking image behind
   pub script : List Act
@@ -58,12 +50,14 @@ pub record IsWatched (N : Type 0) (input : Input) (o : Outcome) : Type 0 where
   pub leaves : LeavesRun book events (closed_of o)
   pub steps_is : o.steps ≡ Some events
 
--- the text of its story, as of a course that is through: the lines, or the lines of counts
-abbrev pub lines_of_watched : {N : Type 0} {input : Input} {o : Outcome} → IsWatched N input o → List ℕ
-lines_of_watched w = text_of_course (plan_of w.asking w.image w.script) w.opening w.moments w.book w.story
+-- the text of its story, as of a course that ended: the lines, or the lines of counts
+abbrev pub lines_of_watched : {N : Type 0} {image : ImageValue} {input : Input} {o : Outcome}
+    → IsWatched N image input o → List ℕ
+lines_of_watched {N} {image} w = text_of_course (plan_of w.asking image w.script) w.opening w.moments w.book w.story
 
 -- and what comes at the end, where the run stands so: where its memory is told, the text is the memory that the outcome
 -- holds
-abbrev pub text_of_watched : {N : Type 0} {input : Input} {o : Outcome} → IsWatched N input o → End → List ℕ
-text_of_watched {N} {input} {o} w end =
-    lines_of_watched w ++ end_text w.asking.telling w.image end w.events (length o.journal) o.output o.memory
+abbrev pub text_of_watched : {N : Type 0} {image : ImageValue} {input : Input} {o : Outcome}
+    → IsWatched N image input o → End → List ℕ
+text_of_watched {N} {image} {input} {o} w end =
+    lines_of_watched w ++ end_text w.asking.telling image end w.events (length o.journal) o.output o.memory

@@ -10,13 +10,13 @@ use Rattle.line_table.specs.declared.lines.FilterKind.{FilterKind}
 use Rattle.line_table.specs.declared.lines.FilterKind.TheVariants.{Modulo, Bloom, Exact}
 use Rattle.text_lines.specs.Lines.{◌>>=◌}
 use Rattle.command_line.specs.Settings.{between}
-use Rattle.watch_text.specs.declared.head.CourseWord.{CourseWord}
-use Rattle.watch_text.specs.declared.head.CourseWord.TheVariants as courses
+use Rattle.watch_play.specs.watch_text.declared.head.CourseWord.{CourseWord}
+use Rattle.watch_play.specs.watch_text.declared.head.CourseWord.TheVariants as courses
 use Rattle.watch_play.specs.declared.telling.Telling.{Telling}
 use Rattle.watch_play.specs.declared.telling.Telling.TheVariants as tellings
 use Rattle.watch_play.specs.Texts.{IsTellable}
 use Rattle.fractal_watch.specs.declared.words.Asking.{Asking}
-use Rattle.fractal_watch.specs.declared.words.TheConstants.{BARREN_ROUNDS}
+use Rattle.fractal_watch.specs.declared.words.TheConstants.{STARVED_ROUNDS}
 
 -- what is told, and the words behind those that say it
 pub record WordsBehindTelling : Type 0 where
@@ -62,32 +62,32 @@ pub record WordsOfCourse : Type 0 where
 abbrev pub words_of : CourseWord → List ℕ → List (Bor (List ℕ)) → WordsOfCourse
 words_of course command behind = record { course = course; words = command ∷ map (λ w. w.now) behind }
 
--- after how many rounds without a commit the least task is brought on, and the words behind that
-pub record WordsBehindBarren : Type 0 where
-  pub barren : ℕ
+-- after how many starved rounds in a row the least task is advanced, and the words behind that
+pub record WordsBehindStarved : Type 0 where
+  pub starved : ℕ
   pub behind : List (List ℕ)
 
--- `barren K`, of which these are the words behind the first
-abbrev pub barren_number : List (List ℕ) → Option WordsBehindBarren
-barren_number [] = None
-barren_number (barren ∷ behind) =
-    number_in (between 1 1000000) barren >>= λ number. Some (record { barren = number; behind = behind })
+-- `starved K`, of which these are the words behind the first
+abbrev pub starved_number : List (List ℕ) → Option WordsBehindStarved
+starved_number [] = None
+starved_number (starved ∷ behind) =
+    number_in (between 1 1000000) starved >>= λ number. Some (record { starved = number; behind = behind })
 
--- `barren K` in front of other words, or the number that stands for it where it isn't there
-abbrev pub barren_in : List (List ℕ) → Option WordsBehindBarren
-barren_in [] = Some (record { barren = BARREN_ROUNDS; behind = [] })
-barren_in (word ∷ words) =
-    if bytes_eq word (codes "barren") then barren_number words
-    else Some (record { barren = BARREN_ROUNDS; behind = word ∷ words })
+-- `starved K` in front of other words, or the number that stands for it where it isn't there
+abbrev pub starved_in : List (List ℕ) → Option WordsBehindStarved
+starved_in [] = Some (record { starved = STARVED_ROUNDS; behind = [] })
+starved_in (word ∷ words) =
+    if bytes_eq word (codes "starved") then starved_number words
+    else Some (record { starved = STARVED_ROUNDS; behind = word ∷ words })
 
--- `lockstep ROUNDS SEED`, with `barren K` or not, of which these are the words behind the first
+-- `lockstep ROUNDS SEED`, with `starved K` or not, of which these are the words behind the first
 abbrev pub lockstep_in : List (List ℕ) → Option WordsOfCourse
 lockstep_in [] = None
 lockstep_in (rounds ∷ []) = None
 lockstep_in (rounds ∷ seed ∷ behind) =
     number_in (between 1 1000000) rounds >>= λ count. number_in (between 0 (2 ^ 32 - 1)) seed >>= λ drawn.
-    barren_in behind >>= λ barren.
-    Some (record { course = courses.Lockstep count drawn barren.barren; words = codes "run" ∷ barren.behind })
+    starved_in behind >>= λ starved.
+    Some (record { course = courses.Lockstep count drawn starved.starved; words = codes "run" ∷ starved.behind })
 
 -- `steps`, `least`, or `lockstep` with its numbers
 abbrev pub course_in : List (List ℕ) → Option WordsOfCourse
@@ -148,7 +148,7 @@ asking_of_words words =
 
 -- the numbers of rounds are in their ranges
 abbrev pub HasRounds : CourseWord → Type 0
-HasRounds (courses.Lockstep rounds seed barren) = (1 ≤ rounds) × (rounds ≤ 1000000) × (1 ≤ barren)
+HasRounds (courses.Lockstep rounds seed starved) = (1 ≤ rounds) × (rounds ≤ 1000000) × (1 ≤ starved)
 HasRounds other = Unit {0}
 
 -- so are the numbers that the words give: of rounds, and of moments between views

@@ -2,17 +2,16 @@
 
 ghost use Rattle.std.specs.Prelude.{◌≡◌, IfSome, None, Option, length};
 ghost use Rattle.guest_image.specs.ImageValue.{IsImage};
-ghost use Rattle.serial_machine.specs.WholeRun.{IsRunOf};
-ghost use Rattle.event_def.specs.Closing.{Closes};
-ghost use Rattle.conflict_book.specs.BookViews.{machine_view, view_of};
-ghost use Rattle.machine_run.specs.Least.{run_of_closed};
-ghost use Rattle.machine_run.specs.Played.{StandsAt};
+ghost use Rattle.watch_play.specs.serial_machine.WholeRun.{IsRunOf};
+ghost use Rattle.watch_play.specs.event_def.Closing.{Closes};
+ghost use Rattle.watch_play.specs.conflict_book.BookViews.{machine_view, view_of};
+ghost use Rattle.watch_play.specs.machine_run.Least.{run_of_closed};
+ghost use Rattle.watch_play.specs.machine_run.Played.{StandsAt};
 ghost use Rattle.watch_play.specs.Telling.{TellsText};
-ghost use Rattle.watch_text.specs.Views.{last_line};
+ghost use Rattle.watch_play.specs.watch_text.Views.{last_line};
 ghost use Rattle.fractal_watch.specs.Closing.{StoryFinishes, HoldsClosed, IsClosedAs, stop_status, text_of_closed};
 ghost use Rattle.fractal_watch.specs.Texts.{watch_status};
 
-use conflict_book::Book;
 use guest_image::Image;
 use place_policy::Placer;
 use program_call::{DONE, LIMIT, NO_MEMORY, Outcome, SINK_FAULT, TRAP};
@@ -21,8 +20,9 @@ use rv_core::Naming;
 use sim_io::Sink;
 use std::alloc::AllocError;
 use trace_tap::Tap;
+use watch_play::conflict_book::Book;
+use watch_play::watch_text::put_end;
 use watch_play::{StoryStop, Telling, tell_text};
-use watch_text::put_end;
 
 /// How the run of a book stands: its end, or unfinished where it isn't over.
 fn stand<N: Naming, P: Placer, T: Tap>(book: &Book<N, P, T>) -> End

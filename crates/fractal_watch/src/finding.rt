@@ -2,9 +2,9 @@
 
 ghost use Rattle.std.specs.Prelude.{◌≡◌, ◌≤◌, ◌<◌, ◌^◌, [], All, Err, IfErr, IfOk, List, length};
 ghost use Rattle.place_policy.specs.Policy.{Policy};
-ghost use Rattle.step_script.specs.Grammar.{IsFaultOf, acts_of};
-ghost use Rattle.step_script.specs.Ranges.{ActIsInRange};
-ghost use Rattle.watch_text.specs.declared.head.CourseWord.TheVariants as courses;
+ghost use Rattle.watch_play.specs.step_script.Grammar.{IsFaultOf, acts_of};
+ghost use Rattle.watch_play.specs.step_script.Ranges.{ActIsInRange};
+ghost use Rattle.watch_play.specs.watch_text.declared.head.CourseWord.TheVariants as courses;
 ghost use Rattle.program_call.specs.Call.{Input, input_limit, input_of};
 ghost use Rattle.program_call.specs.Given.{ReadsImage};
 ghost use Rattle.fractal_watch.specs.Finding.{IsFoundOrFault, IsPlayable};
@@ -17,8 +17,8 @@ use guest_image::Image;
 use program_call::{FrontFault, Opened, read_input};
 use sim_io::Source;
 use std::alloc::Global;
-use step_script::{Act, ScriptFault, read_script};
-use watch_text::CourseWord;
+use watch_play::step_script::{Act, ScriptFault, read_script};
+use watch_play::watch_text::CourseWord;
 
 /// What is found before anything is told.
 #[derive(Drop)]

@@ -41,7 +41,7 @@ pub fn top<S: Source, K: Sink>(
     match find(alloc, words, source) {
         Ok(Finding::NoScript(line)) => tell_script_fault(alloc, sink, line),
         Ok(Finding::Ready(asking, image, script)) => {
-            watch_image::<Brand, _, K>(alloc, sink, &image, &asking, &script, placers)
+            watch_image::<Brand, _, K>(alloc, sink, &image, &asking, script, placers)
         }
         Err(fault) => tell_fault(alloc, sink, fault),
     }

@@ -2,29 +2,29 @@
 
 ghost use Rattle.std.specs.Prelude.{◌≡◌, ◌<◌, ◌^◌, All, length, map, []};
 ghost use Rattle.guest_image.specs.ImageValue.{IsImage};
-ghost use Rattle.spec_state.specs.Settings.{IsNamed};
-ghost use Rattle.conflict_book.specs.BookViews.{machine_view, view_of};
+ghost use Rattle.watch_play.specs.spec_state.Settings.{IsNamed};
+ghost use Rattle.watch_play.specs.conflict_book.BookViews.{machine_view, view_of};
 ghost use Rattle.command_line.specs.Requests.{IsLimited};
-ghost use Rattle.step_script.specs.Ranges.{ActIsInRange};
+ghost use Rattle.watch_play.specs.step_script.Ranges.{ActIsInRange};
+ghost use Rattle.watch_play.specs.Courses.{course_of};
 ghost use Rattle.watch_play.specs.Telling.{Plan, Tells};
 ghost use Rattle.watch_play.specs.Texts.{IsTellable};
 ghost use Rattle.fractal_watch.specs.Telling.{TellsBookOf, TellsRunOf};
-ghost use Rattle.fractal_watch.specs.Watched.{course_of};
-ghost use Rattle.fractal_watch.specs.Words.{HasRounds, IsInRanges};
+ghost use Rattle.fractal_watch.specs.Words.{IsInRanges};
 
 use crate::closing::{break_off, finish};
 use crate::words::Asking;
-use conflict_book::Book;
 use guest_image::Image;
 use place_policy::Placer;
 use program_call::{NO_MEMORY, Outcome};
 use rv_core::Naming;
 use sim_io::Sink;
 use std::alloc::Global;
-use step_script::Act;
 use trace_tap::{LastN, Tap};
-use watch_play::{StoryStop, Watch, play_least, play_rounds, play_script, tell_opening};
-use watch_text::CourseWord;
+use watch_play::conflict_book::Book;
+use watch_play::step_script::Act;
+use watch_play::watch_text::CourseWord;
+use watch_play::{Play, Printer, StoryStop, Watch, play_course, tell_opening};
 
 /// Plays a course behind its opening, and tells both.
 fn tell_course<N: Naming, P: Placer, T: Tap, K: Sink>(
@@ -32,31 +32,23 @@ fn tell_course<N: Naming, P: Placer, T: Tap, K: Sink>(
     sink: &mut K,
     image: &Image,
     course: CourseWord,
-    script: &[Act],
+    script: Vec<Act>,
 ) -> Result<(), StoryStop>
     requires image { image.now ≡ N.image }
-    requires few { length script.now < 2 ^ 32 }
+    requires few { length script.items < 2 ^ 32 }
     requires telling { IsTellable watch.old.telling }
-    requires count { watch.old.count ≡ 0 }
-    requires held { watch.old.player.held ≡ [] }
-    requires rounds { HasRounds course }
-    requires within { let settings = (machine_view watch.old.book).settings in
-        All (ActIsInRange settings.tiles settings.cores) script.now }
-    ensures { let opening = view_of P.policy T.notes watch.old.book in
+    requires moments { watch.old.printer.told.moments ≡ 0 }
+    requires held { watch.old.play.player.held ≡ [] }
+    requires within { let settings = (machine_view watch.old.play.book).settings in
+        All (ActIsInRange settings.tiles settings.cores) script.items }
+    ensures { let opening = view_of P.policy T.notes watch.old.play.book in
         (plan : Plan) → plan.image ≡ image.now → plan.settings ≡ opening.view.settings
-        → plan.telling ≡ watch.old.telling → plan.course ≡ course_of course plan.settings script.now
-        → Tells N plan opening (view_of P.policy T.notes watch.new.book) (K.state sink.old) (K.state sink.new) result }
+        → plan.telling ≡ watch.old.telling → plan.course ≡ course_of course plan.settings script.items
+        → Tells N plan opening (view_of P.policy T.notes watch.new.play.book) (K.state sink.old) (K.state sink.new)
+        result }
 {
     tell_opening(watch, sink, image, course)?;
-    match course {
-        CourseWord::Steps => play_script(watch, sink, image, script),
-        CourseWord::Least => play_least(watch, sink, image),
-        CourseWord::Lockstep {
-            rounds,
-            seed,
-            barren,
-        } => play_rounds(watch, sink, image, rounds, seed, barren),
-    }
+    play_course(watch, sink, image, course, script)
 }
 
 /// Tells the story of a book that was begun, and closes it. The run is kept, also where memory runs out or the sink
@@ -66,29 +58,28 @@ fn tell_book<N: Naming, P: Placer, T: Tap, K: Sink>(
     sink: &mut K,
     image: &Image,
     asking: &Asking,
-    script: &[Act],
+    script: Vec<Act>,
     book: Book<N, P, T>,
 ) -> Outcome
     requires fits { IsImage N.image }
     requires named { IsNamed image.now asking.now.request.settings N.image N.budget N.commits }
-    requires few { length script.now < 2 ^ 32 }
+    requires few { length script.items < 2 ^ 32 }
     requires ranges { IsInRanges asking.now }
     requires settings { (machine_view book).settings ≡ asking.now.request.settings }
     requires within { let settings = asking.now.request.settings in
-        All (ActIsInRange settings.tiles settings.cores) script.now }
-    ensures { TellsBookOf N N.image asking.now script.now (view_of P.policy T.notes book) (K.state sink.old)
+        All (ActIsInRange settings.tiles settings.cores) script.items }
+    ensures { TellsBookOf N N.image asking.now script.items (view_of P.policy T.notes book) (K.state sink.old)
         (K.state sink.new) result }
 {
     let mut watch = Watch::new(alloc, image, book, asking.telling);
     let told = tell_course(&mut watch, sink, image, asking.course, script);
     let Watch {
-        book,
-        player: _,
-        line,
+        play,
+        printer,
         telling: _,
-        count: _,
-        counts: _,
     } = watch;
+    let Play { book, player: _ } = play;
+    let Printer { line, told: _ } = printer;
     match told {
         Ok(()) => finish(sink, asking.telling, image, book, line),
         Err(stop) => break_off(book, stop),
@@ -101,17 +92,17 @@ pub(crate) fn watch_image<N: Naming, P: Placer, K: Sink>(
     sink: &mut K,
     image: &Image,
     asking: &Asking,
-    script: &[Act],
+    script: Vec<Act>,
     placers: Vec<P>,
 ) -> Outcome
     requires fits { IsImage image.now }
-    requires few { length script.now < 2 ^ 32 }
+    requires few { length script.items < 2 ^ 32 }
     requires limits { IsLimited asking.now.request }
     requires ranges { IsInRanges asking.now }
     requires named { IsNamed image.now asking.now.request.settings N.image N.budget N.commits }
     requires within { let settings = asking.now.request.settings in
-        All (ActIsInRange settings.tiles settings.cores) script.now }
-    ensures { TellsRunOf N image.now asking.now script.now (map P.policy placers.items) (K.state sink.old)
+        All (ActIsInRange settings.tiles settings.cores) script.items }
+    ensures { TellsRunOf N image.now asking.now script.items (map P.policy placers.items) (K.state sink.old)
         (K.state sink.new) result }
 {
     let taps: Vec<LastN> = Vec::new(alloc);

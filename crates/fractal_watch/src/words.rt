@@ -4,21 +4,21 @@ ghost use Rattle.std.specs.Prelude.{◌≡◌, ◌≤◌, ◌∷◌, ◌++◌, I
 ghost use Rattle.std.specs.Str.{bytes_eq};
 ghost use Rattle.command_line.specs.Requests.{IsLimited};
 ghost use Rattle.watch_play.specs.Texts.{IsTellable};
-ghost use Rattle.fractal_watch.specs.Words.{IsInRanges, asking_of_words, barren_in, counts_in, course_in, lockstep_in};
+ghost use Rattle.fractal_watch.specs.Words.{IsInRanges, asking_of_words, starved_in, counts_in, course_in, lockstep_in};
 ghost use Rattle.fractal_watch.specs.Words.{telling_in};
 ghost use Rattle.fractal_watch.specs.Words.{HasRounds, words_of, course_asked, filter_among, filter_named};
 ghost use Rattle.fractal_watch.specs.Words.{filter_place, with_filter};
 
 use command_line::{Refusal, Request, number_between, read_words};
 use line_table::FilterKind;
-use spec_state::Settings;
 use std::alloc::{AllocError, Global};
 use watch_play::Telling;
-use watch_text::CourseWord;
+use watch_play::spec_state::Settings;
+use watch_play::watch_text::CourseWord;
 
-/// After how many rounds without a commit the least task is brought on in lockstep, unless the words say otherwise:
-/// where rounds get on, a commit comes every few of them, and so this changes nothing there.
-pub const BARREN_ROUNDS: u32 = 16;
+/// After how many starved rounds in a row the least task is advanced in lockstep, unless the words say otherwise: where
+/// rounds get on, it waits for fewer, and so this changes nothing there.
+pub const STARVED_ROUNDS: u32 = 16;
 
 /// What the words ask for.
 #[derive(Clone, Copy, Debug, PartialEq, Eq)]
@@ -38,10 +38,10 @@ struct Told<'a> {
     behind: &'a [&'a str],
 }
 
-/// `barren K` in front of other words: K, or what stands for it, and the words behind it.
+/// `starved K` in front of other words: K, or what stands for it, and the words behind it.
 #[derive(Clone, Copy)]
-struct Barren<'a> {
-    barren: u32,
+struct Starved<'a> {
+    starved: u32,
     behind: &'a [&'a str],
 }
 
@@ -108,29 +108,29 @@ fn telling_of<'a>(words: &'a [&'a str]) -> Option<Told<'a>>
     })
 }
 
-fn barren_of<'a>(words: &'a [&'a str]) -> Option<Barren<'a>>
-    ensures value { option_map (λ b. record { barren = b.barren; behind = map (λ w. w.now) b.behind.now }) result
-        ≡ barren_in (map (λ w. w.now) words.now) }
-    ensures barren { IfSome result (λ b. 1 ≤ b.barren) }
+fn starved_of<'a>(words: &'a [&'a str]) -> Option<Starved<'a>>
+    ensures value { option_map (λ b. record { starved = b.starved; behind = map (λ w. w.now) b.behind.now }) result
+        ≡ starved_in (map (λ w. w.now) words.now) }
+    ensures starved { IfSome result (λ b. 1 ≤ b.starved) }
 {
     let Some((word, behind)) = words.split_first() else {
-        return Some(Barren {
-            barren: BARREN_ROUNDS,
+        return Some(Starved {
+            starved: STARVED_ROUNDS,
             behind: words,
         });
     };
-    if word.as_bytes() != b"barren".as_slice() {
-        return Some(Barren {
-            barren: BARREN_ROUNDS,
+    if word.as_bytes() != b"starved".as_slice() {
+        return Some(Starved {
+            starved: STARVED_ROUNDS,
             behind: words,
         });
     }
-    let (barren, behind) = behind.split_first()?;
-    let barren = number_between(1, 1_000_000, barren)?;
-    Some(Barren { barren, behind })
+    let (starved, behind) = behind.split_first()?;
+    let starved = number_between(1, 1_000_000, starved)?;
+    Some(Starved { starved, behind })
 }
 
-/// `lockstep ROUNDS SEED`, with `barren K` or not, of which these are the words behind the first.
+/// `lockstep ROUNDS SEED`, with `starved K` or not, of which these are the words behind the first.
 fn lockstep_of<'a>(words: &'a [&'a str]) -> Option<Leading<'a>>
     ensures value { option_map (λ l. words_of l.course l.command.now l.behind.now) result
         ≡ lockstep_in (map (λ w. w.now) words.now) }
@@ -140,12 +140,12 @@ fn lockstep_of<'a>(words: &'a [&'a str]) -> Option<Leading<'a>>
     let (seed, behind) = behind.split_first()?;
     let rounds = number_between(1, 1_000_000, rounds)?;
     let seed = number_between(0, u32::MAX, seed)?;
-    let Barren { barren, behind } = barren_of(behind)?;
+    let Starved { starved, behind } = starved_of(behind)?;
     Some(Leading {
         course: CourseWord::Lockstep {
             rounds,
             seed,
-            barren,
+            starved,
         },
         command: "run",
         behind,
@@ -193,7 +193,7 @@ fn in_front<'a>(
 }
 
 /// What words without `--filter` ask for. `Usage` where they are outside the grammar: `memory`, `views K`, `counts`
-/// with `every K` or not, or none of them, then `steps`, `least`, or `lockstep ROUNDS SEED`, with `barren K` or not,
+/// with `every K` or not, or none of them, then `steps`, `least`, or `lockstep ROUNDS SEED`, with `starved K` or not,
 /// and then the options of the first program.
 #[tactic(auto, unfolding(crate::specs::Words::course_asked))]
 fn read_course(alloc: Global, words: &[&str]) -> Result<Asking, Refusal>

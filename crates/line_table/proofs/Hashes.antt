@@ -1,5 +1,5 @@
 -- The hashes, bit by bit.
-use Rattle.std.proofs.Common.{◌≡◌, ◌==◌, ◌++◌, ℕ, ◌+◌, Bool, true, false, List, [], ◌∷◌, refl, sym, ap, arith, ◌∙◌}
+use Rattle.std.proofs.Common.{◌≡◌, ◌==◌, ◌++◌, ℕ, ◌+◌, Bool, true, false, [], ◌∷◌, refl, sym, ap, arith, ◌∙◌}
 use Rattle.std.specs.Prelude.{map, filter, cond, bit_xor, slice_index, if◌then◌else◌}
 use Rattle.std.specs.Int.{bit_at}
 use Rattle.std.specs.List.{fold, range_with_len}

@@ -1,7 +1,7 @@
 pub mod Bits
 pub mod Pairs
+pub mod Shared
 pub mod Signatures
-pub mod InBanks
 pub mod Hashes
 pub mod Lined
 pub mod Marked

@@ -16,8 +16,8 @@ use Rattle.line_table.specs.Lines.{IsLines, asks_too, far_notes, may_touch, may_
 use Rattle.line_table.specs.Lines.{wrote_by}
 use Rattle.line_table.specs.LineLaws.{NotedIsTold, ClearedTellsNone, ExactTellsNoted, BitsTellModulo, BitsMeetModulo}
 use Rattle.line_table.specs.LineLaws.{LinesAgree}
-use Rattle.line_table.proofs.InBanks.{noted_in_banks, none_touched, none_wrote, written_in_banks}
-use Rattle.line_table.proofs.InBanks.{wrote_touched_in_banks}
+use Rattle.line_table.specs.BankLaws.{noted_in_banks, none_in_banks, written_in_banks}
+use Rattle.line_table.specs.BankLaws.{wrote_touched_in_banks}
 use Rattle.line_table.proofs.Signatures.{meets_of-Meet, note_beside}
 
 -- no notes are no notes of a row, of each kind
@@ -33,7 +33,7 @@ touched_none : (kind : FilterKind) (lines : Lines) (line : ℕ) → IsSignature 
 touched_none Modulo lines line is = cleared_touched lines.near line is
 touched_none Bloom lines line is =
     and_left (touched_in_banks lines.near (near_half line)) (touched_in_banks lines.far (far_half line))
-    (none_touched lines.near (near_half line) is)
+    (none_in_banks (touched_of lines.near) (near_half line) (λ place. cleared_touched lines.near place is))
 touched_none Exact lines line is = ap (λ b. b && false) (cleared_touched lines.near line is)
 
 wrote_none : (kind : FilterKind) (lines : Lines) (line : ℕ) → IsSignature lines.near []
@@ -41,7 +41,7 @@ wrote_none : (kind : FilterKind) (lines : Lines) (line : ℕ) → IsSignature li
 wrote_none Modulo lines line is = cleared_wrote lines.near line is
 wrote_none Bloom lines line is =
     and_left (wrote_in_banks lines.near (near_half line)) (wrote_in_banks lines.far (far_half line))
-    (none_wrote lines.near (near_half line) is)
+    (none_in_banks (wrote_of lines.near) (near_half line) (λ place. cleared_wrote lines.near place is))
 wrote_none Exact lines line is = ap (λ b. b && false) (cleared_wrote lines.near line is)
 
 module _ (kind : FilterKind) (size : ℕ) (lines : Lines) where

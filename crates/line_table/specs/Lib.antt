@@ -1,5 +1,7 @@
--- Contracts mean all but Laws, which serves this crate alone.
+-- Contracts mean all but Laws, BankLaws and BitLaws, which serve this crate alone.
+pub mod BankLaws
 pub mod Banks
+pub mod BitLaws
 pub mod Exact
 pub mod Hash
 pub mod Laws

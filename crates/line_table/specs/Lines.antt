@@ -13,6 +13,10 @@ use Rattle.line_table.specs.Banks.{banks_of, each_bank}
 unfoldable pub unmarked : Lines
 unmarked = record { kind = Modulo; size = 0; near = no_lines; far = no_lines }
 
+-- lines of which nothing was noted, for a filter of this kind and lines of so many bytes
+unfoldable pub unmarked_of : FilterKind → ℕ → Lines
+unmarked_of kind size = record { kind = kind; size = size; near = no_lines; far = no_lines }
+
 -- what the first row of a filter has noted: the lines, or the bits of the first four banks
 abbrev pub near_notes : FilterKind → List Note → List Note
 near_notes Modulo notes = notes
@@ -36,6 +40,10 @@ pub record IsLines (kind : FilterKind) (size : ℕ) (lines : Lines) (notes : Lis
   pub far_is : IsSignature lines.far (far_notes kind notes)
   pub are_of : AreOf kind size lines notes
 
+-- they have these notes, for a filter of their own kind
+abbrev pub HasLines : Lines → List Note → Type 0
+HasLines lines = IsLines lines.kind lines.size lines
+
 -- the bits of these rows say that the line was noted: its own bit, or one bit in each of eight banks
 abbrev pub has_bits : (Signature → ℕ → Bool) → FilterKind → Lines → ℕ → Bool
 has_bits row Modulo lines line = row lines.near line
@@ -50,6 +58,13 @@ may_touch = has_bits touched_of
 -- the bits say that the line was written
 abbrev pub may_write : FilterKind → Lines → ℕ → Bool
 may_write = has_bits wrote_of
+
+-- the bits of lines say so of their own kind
+abbrev pub bits_touch : Lines → ℕ → Bool
+bits_touch lines = may_touch lines.kind lines
+
+abbrev pub bits_write : Lines → ℕ → Bool
+bits_write lines = may_write lines.kind lines
 
 -- one look rules out a line of which the bits say this; a Bloom filter, which wants eight looks, takes none
 abbrev pub is_ruled_out : FilterKind → Bool → Bool

@@ -1,4 +1,4 @@
-//! A filter that answers for noted lines alone.
+//! A filter that answers for noted lines alone. It is library: the machine's exact filters are `Lines` beside a log.
 
 ghost use Rattle.std.specs.Prelude.{◌≡◌, true, false, List, [], ◌∷◌, ◌++◌, OnOk, OnErr};
 ghost use Rattle.line_table.specs.Note.{Note, touched_in, wrote_in};

@@ -1,4 +1,4 @@
-//! What the machine asks of a set of lines.
+//! What a set of lines promises: it may say too much, but never too little.
 
 ghost use Rattle.std.specs.Prelude.{◌≡◌, ◌↔◌, ℕ, Bool, true, false, List, [], ◌∷◌, ◌++◌, IsTrue, OnOk, OnErr};
 ghost use Rattle.line_table.specs.Note.{Note, touched_in, wrote_in, Meet};
@@ -30,7 +30,8 @@ pub trait Filter {
     fn wrote(&self, line: u32) -> bool
         ensures { result ≡ wrote self.now line };
 
-    /// Whether some line is one that this filter wrote and the later one touched, by their answers.
+    /// Whether some line is one that this filter wrote and the later one touched, by their answers. The machine doesn't
+    /// call it: it asks a later task's filter of each line to which a log has a store.
     fn meets(&self, later: &Self) -> bool
         ensures { IsTrue result ↔ Meet (wrote self.now) (touched later.now) };
 

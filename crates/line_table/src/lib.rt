@@ -1,12 +1,17 @@
 //! Which memory lines a task touched, and which of them it wrote.
 //!
-//! A `Filter` may say too much, but never too little, and its laws are all that the laws of memory rest on. `Exact`
-//! says neither: it is an ordered map from each line to whether it was written, so a note or an answer costs one
-//! search in it, and only a new line takes memory. `Signature` tells lines apart by their number modulo 1,024
-//! alone: it is two rows of that many bits, so a note or an answer looks at one word or two, two signatures are
-//! compared by at most sixteen pairs of words, and nothing takes memory. `Lines` are a filter of one of three kinds, in
-//! two signatures: by lines' numbers modulo 1,024, by eight hashes of them, or by the task's own log where the bits say
-//! yes. It stands on nothing; the machine's tasks keep `Lines` each, and the laws of memory hold of any filter.
+//! Each task of the machine keeps `Lines`: a filter of one of three kinds, in two signatures. It tells lines apart by
+//! their numbers modulo 1,024, by eight hashes of them, or by the task's own log where the bits say yes. The machine
+//! marks them, asks them of a line and clears them; it takes no memory for that.
+//!
+//! A `Filter` may say too much, but never too little. `Lines` of each kind are one by their bits alone. A task's log,
+//! which a filter of the kind `Exact` asks besides, isn't theirs: `noted_is_told` and `exact_tells_noted` say of lines
+//! and log together that they still leave none out. The laws of memory use no more of a filter than this.
+//!
+//! The rest is library, of which no task keeps or asks anything. `Exact` is an ordered map from each line to whether it
+//! was written, so a note or an answer costs one search in it, and only a new line takes memory. A `Signature` alone is
+//! `Lines` of the kind `Modulo`. `meets` compares two filters; the machine asks a filter of each line of a log instead.
+//! It stands on nothing.
 #![tactic(auto)]
 
 mod banks;

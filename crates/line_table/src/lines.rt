@@ -1,14 +1,19 @@
 //! The lines of a task, by a filter of one of three kinds.
 
-ghost use Rattle.std.specs.Prelude.{◌≡◌, List, [], ◌∷◌, ◌++◌, ℕ};
+ghost use Rattle.std.specs.Prelude.{◌≡◌, ◌↔◌, List, [], ◌∷◌, ◌++◌, ℕ, IsTrue, IsOk, OnOk, OnErr};
 ghost use Rattle.line_table.specs.declared.lines.FilterKind.{FilterKind};
 ghost use Rattle.line_table.specs.declared.lines.FilterKind.TheVariants.{Modulo, Bloom, Exact};
-ghost use Rattle.line_table.specs.Note.{Note};
-ghost use Rattle.line_table.specs.Lines.{IsLines, unmarked, may_touch, may_write, is_ruled_out};
+ghost use Rattle.line_table.specs.Note.{Note, Meet};
+ghost use Rattle.line_table.specs.Lines.{IsLines, unmarked, unmarked_of, may_touch, may_write, is_ruled_out};
+ghost use Rattle.line_table.specs.Lines.{HasLines, bits_touch, bits_write};
 
 use crate::banks::{mark_banks, touched_in_banks, wrote_in_banks};
 use crate::hash::hashes;
 use crate::{Filter, Signature};
+use std::alloc::AllocError;
+
+/// How many numbers of lines there are.
+const LINES: u64 = 4_294_967_296;
 
 /// How a filter tells lines apart.
 #[derive(Clone, Copy, Debug, PartialEq, Eq)]
@@ -45,6 +50,19 @@ impl Lines {
         Lines {
             kind: FilterKind::Modulo,
             size: 0,
+            near: Signature::new(),
+            far: Signature::new(),
+        }
+    }
+
+    /// Lines with no notes, for a filter of this kind and lines of so many bytes. It takes no memory.
+    #[tactic(auto, unfolding(crate::specs::Lines::unmarked_of))]
+    pub const fn of(kind: FilterKind, size: u32) -> Self
+        ensures { result ≡ unmarked_of kind size }
+    {
+        Lines {
+            kind,
+            size,
             near: Signature::new(),
             far: Signature::new(),
         }
@@ -138,7 +156,7 @@ impl Lines {
         }
     }
 
-    /// Forgets all notes.
+    /// Forgets all notes, and of which kind they were.
     #[tactic(auto, unfolding(crate::specs::Lines::unmarked))]
     pub fn clear(&mut self)
         ensures { self.new ≡ unmarked }
@@ -147,5 +165,79 @@ impl Lines {
         self.size = 0;
         self.near.clear();
         self.far.clear();
+    }
+}
+
+/// Whether some line is one that the first lines may have written and the later ones may have touched. It tries the
+/// numbers of all lines, in turn.
+fn share_line(earlier: &Lines, later: &Lines) -> bool
+    ensures { IsTrue result ↔ Meet (bits_write earlier.now) (bits_touch later.now) }
+{
+    for number in 0..LINES {
+        let line = number as u32;
+        if earlier.may_write(line) && later.may_touch(line) {
+            return true;
+        }
+    }
+    false
+}
+
+// By their bits, for each kind. Of the kind `Exact` a task asks its log too, which rules out lines that were not noted,
+// and none that was.
+impl Filter for Lines {
+    ghost use Rattle.line_table.specs.Lines.{HasLines, bits_touch, bits_write};
+    ghost use Rattle.line_table.specs.BitLaws.{noted_touched, noted_wrote, wrote_touched, cleared_touched};
+    ghost use Rattle.line_table.specs.BitLaws.{cleared_wrote};
+
+    ghost notes_are = { HasLines };
+
+    ghost touched = { bits_touch };
+
+    ghost wrote = { bits_write };
+
+    ghost noted_touched = { noted_touched };
+
+    ghost noted_wrote = { noted_wrote };
+
+    ghost wrote_touched = { wrote_touched };
+
+    ghost cleared_touched = { cleared_touched };
+
+    ghost cleared_wrote = { cleared_wrote };
+
+    // It always answers Ok, and takes no memory.
+    fn note(&mut self, line: u32, write: bool) -> Result<(), AllocError>
+        ensures ok { IsOk result }
+        ensures noted { let note : Note = record { line = line; write = write } in
+            (notes : List Note) → HasLines self.old notes → HasLines self.new (notes ++ note ∷ []) }
+    {
+        self.mark(self.kind, self.size, line, write);
+        Ok(())
+    }
+
+    fn touched(&self, line: u32) -> bool {
+        self.may_touch(line)
+    }
+
+    fn wrote(&self, line: u32) -> bool {
+        self.may_write(line)
+    }
+
+    // It compares the words of two rows. A bit that a Bloom filter shares says nothing of any line, so with one of
+    // these it tries the numbers of all lines.
+    fn meets(&self, later: &Self) -> bool {
+        if self.kind == FilterKind::Bloom || later.kind == FilterKind::Bloom {
+            share_line(self, later)
+        } else {
+            self.near.meets(&later.near)
+        }
+    }
+
+    // Unlike `Lines::clear` it leaves the kind, and how many bytes a line has.
+    fn clear(&mut self)
+        ensures lines { self.new ≡ unmarked_of self.old.kind self.old.size }
+        ensures notes { HasLines self.new [] }
+    {
+        *self = Lines::of(self.kind, self.size);
     }
 }

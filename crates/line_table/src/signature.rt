@@ -1,4 +1,4 @@
-//! A filter of fixed size.
+//! A filter of fixed size. Tasks keep two in their `Lines`; as a filter of its own it is library.
 
 ghost use Rattle.std.specs.Prelude.{◌≡◌, ◌↔◌, true, false, List, [], ◌∷◌, ◌++◌, IsTrue, IsOk, OnOk, OnErr};
 ghost use Rattle.line_table.specs.Note.{Note, Meet};

@@ -13,22 +13,22 @@ use Rattle.trace_tap.specs.TapValue.{TapValue}
 use Rattle.run_journal.specs.declared.closed.Closed.{Closed}
 use Rattle.run_journal.specs.declared.end.End.{End}
 use Rattle.run_journal.specs.declared.end.End.TheVariants as ends
-use Rattle.serial_machine.specs.BagValue.{BagValue}
-use Rattle.serial_machine.specs.Run.{opening}
-use Rattle.serial_machine.specs.State.{SerialState}
-use Rattle.serial_machine.specs.Turn.{inner}
-use Rattle.serial_machine.specs.WholeRun.{IsRunOf}
-use Rattle.spec_state.specs.declared.pending.Pending.{Pending}
-use Rattle.spec_state.specs.declared.settings.Settings.{Settings}
-use Rattle.spec_state.specs.Pendings.{all_pending, pending_at, RunLeaves}
-use Rattle.event_def.specs.End.{HasEnd}
-use Rattle.spec_state.specs.View.{View}
+use Rattle.outcome_law.specs.serial_machine.BagValue.{BagValue}
+use Rattle.outcome_law.specs.serial_machine.Run.{opening}
+use Rattle.outcome_law.specs.serial_machine.State.{SerialState}
+use Rattle.outcome_law.specs.serial_machine.Turn.{inner}
+use Rattle.outcome_law.specs.serial_machine.WholeRun.{IsRunOf}
+use Rattle.outcome_law.specs.spec_state.declared.pending.Pending.{Pending}
+use Rattle.outcome_law.specs.spec_state.declared.settings.Settings.{Settings}
+use Rattle.outcome_law.specs.spec_state.Pendings.{all_pending, pending_at, RunLeaves}
+use Rattle.outcome_law.specs.event_def.End.{HasEnd}
+use Rattle.outcome_law.specs.spec_state.View.{View}
 use Rattle.machine_run.specs.declared.left.Ran.{Ran}
 use Rattle.machine_run.specs.Halted.{IsHalted, IsLeftOf, KeepsPending}
 use Rattle.machine_run.specs.Least.{IsLeastRun, run_of_closed}
 use Rattle.machine_run.specs.Stopping.{IsStoppedWith}
 use Rattle.machine_run.proofs.Standing.{over_is_closed}
-use Rattle.run_law.proofs.Proved.{Runs-same}
+use Rattle.outcome_law.proofs.Below.run_law.Proved.{Runs-same}
 
 -- where no task pends no bag is left
 none_left : (stack : List BagValue) → length (all_pending stack) ≡ 0 → inner stack ≡ []

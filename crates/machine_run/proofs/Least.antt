@@ -9,20 +9,21 @@ use Rattle.guest_image.specs.ImageValue.{ImageValue, IsImage}
 use Rattle.place_policy.specs.Policy.{Policy}
 use Rattle.trace_tap.specs.TapValue.{TapValue}
 use Rattle.run_journal.specs.declared.closed.Closed.{Closed}
-use Rattle.spec_state.specs.declared.settings.Settings.{Settings}
-use Rattle.spec_state.specs.Settings.{IsValid}
-use Rattle.spec_state.specs.View.{View}
-use Rattle.spec_law.specs.Sound.{Sound}
-use Rattle.event_def.specs.declared.event.Halt.{Halt}
-use Rattle.event_def.specs.declared.event.Halt.TheVariants as halts
-use Rattle.event_def.specs.Book.{BookView, next_count}
-use Rattle.event_def.specs.Opening.{IsOpening, PlacesAll, opening_book}
-use Rattle.event_def.specs.Advancing.{AdvanceAnswers, AdvancesBy}
-use Rattle.event_def.specs.Closing.{Closes}
-use Rattle.event_def.specs.End.{HasEnd}
-use Rattle.event_law.proofs.Proved.{all_kept, IsUntouched, least_events_are_few, none_touched, opening_is_sound}
-use Rattle.event_law.proofs.Proved.{rest_is_there}
-use Rattle.conflict_book.specs.Halting.{RunsLeast, last_answer}
+use Rattle.outcome_law.specs.spec_state.declared.settings.Settings.{Settings}
+use Rattle.outcome_law.specs.spec_state.Settings.{IsValid}
+use Rattle.outcome_law.specs.spec_state.View.{View}
+use Rattle.outcome_law.specs.spec_law.Sound.{Sound}
+use Rattle.outcome_law.specs.event_def.declared.event.Halt.{Halt}
+use Rattle.outcome_law.specs.event_def.declared.event.Halt.TheVariants as halts
+use Rattle.outcome_law.specs.event_def.Book.{BookView, next_count}
+use Rattle.outcome_law.specs.event_def.Opening.{IsOpening, PlacesAll, opening_book}
+use Rattle.outcome_law.specs.event_def.Advancing.{AdvanceAnswers, AdvancesBy}
+use Rattle.outcome_law.specs.event_def.Closing.{Closes}
+use Rattle.outcome_law.specs.event_def.End.{HasEnd}
+use Rattle.outcome_law.proofs.Below.event_law.Proved.{all_kept, IsUntouched, least_events_are_few, none_touched}
+use Rattle.outcome_law.proofs.Below.event_law.Proved.{opening_is_sound}
+use Rattle.outcome_law.proofs.Below.event_law.Proved.{rest_is_there}
+use Rattle.outcome_law.specs.conflict_book.Halting.{RunsLeast, last_answer}
 use Rattle.tile_worker.specs.Halts.{HaltsAt}
 use Rattle.machine_run.specs.Least.{IsLeastRun, end_of_halt, run_of_closed}
 use Rattle.machine_run.proofs.Leaving.{run_left}

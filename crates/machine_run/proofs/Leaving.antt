@@ -4,15 +4,15 @@ use Rattle.std.specs.Prelude.{IfSome}
 use Rattle.guest_image.specs.ImageValue.{ImageValue, IsImage}
 use Rattle.run_journal.specs.declared.closed.Closed.{Closed}
 use Rattle.run_journal.specs.declared.end.End.{End}
-use Rattle.run_law.proofs.Proved.{run_sized}
-use Rattle.serial_machine.specs.Run.{IsEnd, IsRun}
-use Rattle.serial_machine.specs.WholeRun.{IsRunOf}
-use Rattle.spec_state.specs.View.{View}
-use Rattle.spec_state.specs.Aborts.{IsUndone}
-use Rattle.spec_law.specs.Sound.{Sound}
-use Rattle.spec_law.proofs.Proved.{undo_all_is_serial}
-use Rattle.event_def.specs.Book.{BookView}
-use Rattle.event_def.specs.Closing.{Closes}
+use Rattle.outcome_law.proofs.Below.run_law.Proved.{run_sized}
+use Rattle.outcome_law.specs.serial_machine.Run.{IsEnd, IsRun}
+use Rattle.outcome_law.specs.serial_machine.WholeRun.{IsRunOf}
+use Rattle.outcome_law.specs.spec_state.View.{View}
+use Rattle.outcome_law.specs.spec_state.Aborts.{IsUndone}
+use Rattle.outcome_law.specs.spec_law.Sound.{Sound}
+use Rattle.outcome_law.proofs.Below.spec_law.Proved.{undo_all_is_serial}
+use Rattle.outcome_law.specs.event_def.Book.{BookView}
+use Rattle.outcome_law.specs.event_def.Closing.{Closes}
 use Rattle.machine_run.specs.Halted.{IsLeftOf}
 use Rattle.machine_run.specs.Leaving.{LeavesRun}
 use Rattle.machine_run.specs.Least.{run_of_closed}

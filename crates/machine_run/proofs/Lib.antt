@@ -7,3 +7,4 @@ pub mod Scripts
 pub mod TapLists
 pub mod One
 pub mod Proved
+pub mod Below

@@ -1,8 +1,8 @@
 -- What is proved of the image and the limits that a naming names holds of those with which a run is made.
 use Rattle.std.proofs.Common.{ℕ, sym, subst, Bool}
 use Rattle.guest_image.specs.ImageValue.{ImageValue}
-use Rattle.spec_state.specs.declared.settings.Settings.{Settings}
-use Rattle.spec_state.specs.Settings.{IsNamed}
+use Rattle.outcome_law.specs.spec_state.declared.settings.Settings.{Settings}
+use Rattle.outcome_law.specs.spec_state.Settings.{IsNamed}
 use Rattle.machine_run.specs.declared.left.Ran.{Ran}
 use Rattle.machine_run.specs.declared.left.Stopped.{Stopped}
 use Rattle.machine_run.specs.Halted.{IsHalted, IsLeftOf, KeepsPending}

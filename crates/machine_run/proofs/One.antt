@@ -8,16 +8,16 @@ use Rattle.place_policy.specs.Policy.{Policy}
 use Rattle.trace_tap.specs.TapValue.{TapValue}
 use Rattle.run_journal.specs.declared.end.End.{End}
 use Rattle.run_journal.specs.declared.end.End.TheVariants as ends
-use Rattle.serial_machine.specs.declared.whole_run.SerialRun.{SerialRun}
-use Rattle.spec_state.specs.declared.settings.Settings.{Settings}
-use Rattle.spec_state.specs.Settings.{IsValid}
-use Rattle.spec_state.specs.View.{View}
-use Rattle.event_def.specs.Book.{BookView}
-use Rattle.event_def.specs.End.{HasEnd, IsOver}
-use Rattle.event_law.proofs.Proved.{end_is_one, opening_is_sound}
-use Rattle.step_script.specs.declared.act.Act.{Act}
-use Rattle.step_script.specs.declared.saying.Said.{Said}
-use Rattle.step_script.specs.Ranges.{ActIsInRange}
+use Rattle.outcome_law.specs.serial_machine.declared.whole_run.SerialRun.{SerialRun}
+use Rattle.outcome_law.specs.spec_state.declared.settings.Settings.{Settings}
+use Rattle.outcome_law.specs.spec_state.Settings.{IsValid}
+use Rattle.outcome_law.specs.spec_state.View.{View}
+use Rattle.outcome_law.specs.event_def.Book.{BookView}
+use Rattle.outcome_law.specs.event_def.End.{HasEnd, IsOver}
+use Rattle.outcome_law.proofs.Below.event_law.Proved.{end_is_one, opening_is_sound}
+use Rattle.outcome_law.specs.step_script.declared.act.Act.{Act}
+use Rattle.outcome_law.specs.step_script.declared.saying.Said.{Said}
+use Rattle.outcome_law.specs.step_script.Ranges.{ActIsInRange}
 use Rattle.outcome_law.specs.Alike.{IdPermutation, inverse_of, AreAlike}
 use Rattle.outcome_law.specs.Laws.{AreSameBooks}
 use Rattle.outcome_law.proofs.Proved.{alike_turned, end_is_alike, opening_is_one, over_too, play_is_one, undone_alike}

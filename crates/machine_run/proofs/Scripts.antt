@@ -7,14 +7,14 @@ use Rattle.place_policy.specs.Policy.{Policy}
 use Rattle.trace_tap.specs.TapValue.{TapValue}
 use Rattle.run_journal.specs.declared.closed.Closed.{Closed}
 use Rattle.run_journal.specs.declared.end.End.{End}
-use Rattle.spec_state.specs.declared.settings.Settings.{Settings}
-use Rattle.event_def.specs.Book.{BookView}
-use Rattle.event_def.specs.Closing.{Closes}
-use Rattle.event_def.specs.Opening.{IsOpening}
-use Rattle.step_script.specs.declared.act.Act.{Act}
-use Rattle.step_script.specs.declared.saying.Said.{Said}
-use Rattle.step_script.specs.Playing.{Plays, PlaysSome}
-use Rattle.step_script.specs.Ranges.{ActIsInRange}
+use Rattle.outcome_law.specs.spec_state.declared.settings.Settings.{Settings}
+use Rattle.outcome_law.specs.event_def.Book.{BookView}
+use Rattle.outcome_law.specs.event_def.Closing.{Closes}
+use Rattle.outcome_law.specs.event_def.Opening.{IsOpening}
+use Rattle.outcome_law.specs.step_script.declared.act.Act.{Act}
+use Rattle.outcome_law.specs.step_script.declared.saying.Said.{Said}
+use Rattle.outcome_law.specs.step_script.Playing.{Plays, PlaysSome}
+use Rattle.outcome_law.specs.step_script.Ranges.{ActIsInRange}
 use Rattle.machine_run.specs.Least.{run_of_closed}
 use Rattle.machine_run.specs.Played.{IsPlayedInPart, IsPlayedOrPart, IsPlayedRun, IsTracedOrPart, IsTracedRun}
 use Rattle.machine_run.specs.Played.{LeavesTapLists, StandsAt}

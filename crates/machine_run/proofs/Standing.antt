@@ -4,12 +4,12 @@ use Rattle.std.specs.Prelude.{IfSome, IsSomeAnd}
 use Rattle.guest_image.specs.ImageValue.{ImageValue, IsImage}
 use Rattle.run_journal.specs.declared.end.End.{End}
 use Rattle.run_journal.specs.declared.end.End.TheVariants as ends
-use Rattle.serial_machine.specs.Run.{IsEnd}
-use Rattle.spec_state.specs.View.{View}
-use Rattle.spec_state.specs.Least.{IsAllCommitted}
-use Rattle.spec_law.specs.Sound.{Sound}
-use Rattle.event_def.specs.End.{HasEnd, IsOver}
-use Rattle.event_law.proofs.Proved.{all_committed, end_is_serial}
+use Rattle.outcome_law.specs.serial_machine.Run.{IsEnd}
+use Rattle.outcome_law.specs.spec_state.View.{View}
+use Rattle.outcome_law.specs.spec_state.Least.{IsAllCommitted}
+use Rattle.outcome_law.specs.spec_law.Sound.{Sound}
+use Rattle.outcome_law.specs.event_def.End.{HasEnd, IsOver}
+use Rattle.outcome_law.proofs.Below.event_law.Proved.{all_committed, end_is_serial}
 use Rattle.machine_run.specs.Played.{StandsAt}
 
 -- where the run isn't over some task is pending, and fewer took turns than may

@@ -4,8 +4,8 @@ use Rattle.guest_image.specs.ImageValue.{ImageValue}
 use Rattle.place_policy.specs.Policy.{Policy}
 use Rattle.trace_tap.specs.TapValue.{TapValue}
 use Rattle.run_journal.specs.declared.end.End.TheVariants as ends
-use Rattle.serial_machine.specs.WholeRun.{IsRunOf}
-use Rattle.spec_state.specs.declared.settings.Settings.{Settings}
+use Rattle.outcome_law.specs.serial_machine.WholeRun.{IsRunOf}
+use Rattle.outcome_law.specs.spec_state.declared.settings.Settings.{Settings}
 use Rattle.machine_run.specs.declared.left.Ran.{Ran}
 use Rattle.machine_run.specs.declared.left.Stopped.{Stopped}
 use Rattle.machine_run.specs.Least.{IsLeastRun, run_of_closed}
@@ -16,12 +16,12 @@ pub record IsLeftOf (image : ImageValue) (commits budget : ℕ) (ran : Ran) : Ty
   pub run : IsRunOf image commits budget (run_of_closed ran.closed ran.end)
   pub writable : length ran.closed.memory ≡ image.data_size
 
--- and that run was led to its end, or as far as memory went
+-- what is left is a run of the image, which was run to its end, or as far as memory allowed
 pub record IsHalted (image : ImageValue) (commits budget : ℕ) (ran : Ran) : Type 0 where
   pub left : IsLeftOf image commits budget ran
   pub over : ran.end ≢ Some ends.Unfinished
 
--- what pends is told only of a run that met its commit limit, and of each that was to go on and is told to end so
+-- pending tasks are kept only of a run that met its commit limit, and of each that was to be saved and has that end
 pub record KeepsPending (image : ImageValue) (budget : ℕ) (goes_on : Bool) (stopped : Stopped) : Type 0 where
   pub pending : IfSome stopped.pending (IsStoppedWith image budget stopped.ran)
   pub limit : goes_on ≡ true → stopped.ran.end ≡ Some ends.Limit → IsSome stopped.pending

@@ -5,15 +5,15 @@ use Rattle.guest_image.specs.ImageValue.{ImageValue}
 use Rattle.place_policy.specs.Policy.{Policy}
 use Rattle.trace_tap.specs.TapValue.{TapValue}
 use Rattle.run_journal.specs.declared.end.End.{End}
-use Rattle.serial_machine.specs.declared.whole_run.SerialRun.{SerialRun}
-use Rattle.spec_state.specs.declared.settings.Settings.{Settings}
+use Rattle.outcome_law.specs.serial_machine.declared.whole_run.SerialRun.{SerialRun}
+use Rattle.outcome_law.specs.spec_state.declared.settings.Settings.{Settings}
 use Rattle.run_journal.specs.declared.closed.Closed.{Closed}
-use Rattle.event_def.specs.declared.event.Halt.{Halt}
-use Rattle.event_def.specs.declared.event.Halt.TheVariants as halts
-use Rattle.event_def.specs.Book.{BookView}
-use Rattle.event_def.specs.Opening.{IsOpening}
-use Rattle.event_def.specs.Advancing.{AdvancesBy}
-use Rattle.event_def.specs.End.{HasEnd}
+use Rattle.outcome_law.specs.event_def.declared.event.Halt.{Halt}
+use Rattle.outcome_law.specs.event_def.declared.event.Halt.TheVariants as halts
+use Rattle.outcome_law.specs.event_def.Book.{BookView}
+use Rattle.outcome_law.specs.event_def.Opening.{IsOpening}
+use Rattle.outcome_law.specs.event_def.Advancing.{AdvancesBy}
+use Rattle.outcome_law.specs.event_def.End.{HasEnd}
 use Rattle.machine_run.specs.Leaving.{LeavesRun}
 
 -- so many events of the least tasks lead from an opening, with these placers and taps, to a book that leaves this run

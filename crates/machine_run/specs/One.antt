@@ -4,12 +4,12 @@ use Rattle.guest_image.specs.ImageValue.{ImageValue, IsImage}
 use Rattle.place_policy.specs.Policy.{Policy}
 use Rattle.trace_tap.specs.TapValue.{TapValue}
 use Rattle.run_journal.specs.declared.end.End.{End}
-use Rattle.serial_machine.specs.declared.whole_run.SerialRun.{SerialRun}
-use Rattle.spec_state.specs.declared.settings.Settings.{Settings}
-use Rattle.spec_state.specs.Settings.{IsValid}
-use Rattle.step_script.specs.declared.act.Act.{Act}
-use Rattle.step_script.specs.declared.saying.Said.{Said}
-use Rattle.step_script.specs.Ranges.{ActIsInRange}
+use Rattle.outcome_law.specs.serial_machine.declared.whole_run.SerialRun.{SerialRun}
+use Rattle.outcome_law.specs.spec_state.declared.settings.Settings.{Settings}
+use Rattle.outcome_law.specs.spec_state.Settings.{IsValid}
+use Rattle.outcome_law.specs.step_script.declared.act.Act.{Act}
+use Rattle.outcome_law.specs.step_script.declared.saying.Said.{Said}
+use Rattle.outcome_law.specs.step_script.Ranges.{ActIsInRange}
 use Rattle.machine_run.specs.Played.{IsPlayedRun, IsTracedRun}
 
 -- both left one run, with one end, by as many events
@@ -28,7 +28,7 @@ PlayedRunIsOne N =
     → IsPlayedRun N image settings script placers taps other_said other_events other_end other_run
     → (other_said ≡ said) × IsOneRun events other_events end other_end run other_run
 
--- and its taps have one thing to tell
+-- a script that is played twice for its taps, from an opening to its end, gives the same lists
 abbrev pub TracedRunIsOne : Type 0 → Type 0
 TracedRunIsOne N =
     (image : ImageValue) (settings : Settings) (script : List Act) (placers : List Policy) (taps : List TapValue)

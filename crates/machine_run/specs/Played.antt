@@ -5,27 +5,27 @@ use Rattle.place_policy.specs.Policy.{Policy}
 use Rattle.trace_tap.specs.TapValue.{TapValue}
 use Rattle.run_journal.specs.declared.end.End.{End}
 use Rattle.run_journal.specs.declared.end.End.TheVariants as ends
-use Rattle.serial_machine.specs.declared.whole_run.SerialRun.{SerialRun}
-use Rattle.spec_state.specs.declared.settings.Settings.{Settings}
-use Rattle.spec_state.specs.View.{View}
-use Rattle.event_def.specs.Book.{BookView}
-use Rattle.event_def.specs.Opening.{IsOpening}
-use Rattle.event_def.specs.End.{HasEnd, IsOver}
-use Rattle.step_script.specs.declared.act.Act.{Act}
-use Rattle.step_script.specs.declared.saying.Said.{Said}
-use Rattle.step_script.specs.Playing.{Plays, PlaysSome}
+use Rattle.outcome_law.specs.serial_machine.declared.whole_run.SerialRun.{SerialRun}
+use Rattle.outcome_law.specs.spec_state.declared.settings.Settings.{Settings}
+use Rattle.outcome_law.specs.spec_state.View.{View}
+use Rattle.outcome_law.specs.event_def.Book.{BookView}
+use Rattle.outcome_law.specs.event_def.Opening.{IsOpening}
+use Rattle.outcome_law.specs.event_def.End.{HasEnd, IsOver}
+use Rattle.outcome_law.specs.step_script.declared.act.Act.{Act}
+use Rattle.outcome_law.specs.step_script.declared.saying.Said.{Said}
+use Rattle.outcome_law.specs.step_script.Playing.{Plays, PlaysSome}
 use Rattle.machine_run.specs.declared.playing.Played.{Played}
 use Rattle.machine_run.specs.declared.playing.Traced.{Traced}
 use Rattle.machine_run.specs.Leaving.{LeavesRun}
 use Rattle.machine_run.specs.Least.{run_of_closed}
 
--- the run is over and ended so, or it isn't over and stands open
+-- the run is over with this end, or it isn't over and the end is `Unfinished`
 abbrev pub StandsAt : View → End → Type 0
 StandsAt view ends.Unfinished = IsOver view → ⊥
 StandsAt view end = HasEnd view end
 
--- the script, played from an opening with these placers and taps, of which this is said, leads to a book that leaves
--- this run and has counted so many events, and which stands at this end
+-- the script, played from an opening with these placers and taps and with these replies, leads to a book that leaves
+-- this run, has counted so many events, and has this end
 pub record IsPlayedRun (N : Type 0) (image : ImageValue) (settings : Settings) (script : List Act)
     (placers : List Policy) (taps : List TapValue) (said : List Said) (events : ℕ) (end : End)
     (run : SerialRun) : Type 0 where
@@ -38,8 +38,8 @@ pub record IsPlayedRun (N : Type 0) (image : ImageValue) (settings : Settings) (
   pub end_is : run.end ≡ Some end
 
 -- memory ran out: some first acts of the script, or all, played from such an opening, lead to a book that leaves this
--- run and has counted so many events, and no end is told; how many acts isn't told, and a trace, whose lists come
--- behind them, may have made all
+-- run and has counted so many events, and its end is None; how many acts is unknown, and a trace, whose lists follow
+-- them, may have made all
 pub record IsPlayedInPart (N : Type 0) (image : ImageValue) (settings : Settings) (script : List Act)
     (placers : List Policy) (taps : List TapValue) (events : ℕ) (run : SerialRun) : Type 0 where
   pub opening : BookView
@@ -76,7 +76,7 @@ pub record IsPlayedOrPart (N : Type 0) (image : ImageValue) (settings : Settings
   pub part : p.ran.end ≡ None → IsPlayedInPart N image settings script placers taps p.ran.closed.steps
       (run_of_closed p.ran.closed p.ran.end)
 
--- the same of a script that was played for its taps
+-- a script that was played for its taps was played to this end, or in part if memory ran out
 pub record IsTracedOrPart (N : Type 0) (image : ImageValue) (settings : Settings) (script : List Act)
     (placers : List Policy) (taps : List TapValue) (t : Traced) : Type 0 where
   pub traced : IfSome t.ran.end (λ end. IsTracedRun N image settings script placers taps

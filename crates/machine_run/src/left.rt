@@ -2,16 +2,16 @@
 
 ghost use Rattle.std.specs.Prelude.{◌≡◌, true, Some, IfSome};
 ghost use Rattle.guest_image.specs.ImageValue.{IsImage};
-ghost use Rattle.event_def.specs.Closing.{Closes};
-ghost use Rattle.conflict_book.specs.BookViews.{machine_view, view_of};
+ghost use Rattle.outcome_law.specs.event_def.Closing.{Closes};
+ghost use Rattle.outcome_law.specs.conflict_book.BookViews.{machine_view, view_of};
 ghost use Rattle.machine_run.specs.Halted.{IsLeftOf, KeepsPending};
 ghost use Rattle.machine_run.specs.Played.{StandsAt};
 
-use conflict_book::Book;
+use outcome_law::conflict_book::Book;
+use outcome_law::spec_state::Pendings;
 use place_policy::Placer;
 use run_journal::{Closed, End};
 use rv_core::Naming;
-use spec_state::Pendings;
 use trace_tap::Tap;
 
 /// A run that was made: what its closed book leaves, and its end; None where memory ran out.
@@ -24,8 +24,7 @@ pub struct Ran {
     pub end: Option<End>,
 }
 
-/// Closes a book that stands at this end, where one is told: what is left is a run of the serial machine, which
-/// ends so too.
+/// Closes a book with this end, if one is known: what is left is a run of the serial machine, which has that end too.
 pub(crate) fn leave<N: Naming, P: Placer, T: Tap>(book: Book<N, P, T>, end: Option<End>) -> Ran
     requires fits { IsImage N.image }
     requires stands { IfSome end (StandsAt (machine_view book)) }
@@ -40,16 +39,16 @@ pub(crate) fn leave<N: Naming, P: Placer, T: Tap>(book: Book<N, P, T>, end: Opti
     }
 }
 
-/// A run that was made, with the tasks that pend where it met its commit limit and was to go on later.
+/// A run that was made, with the tasks that are pending if it met its commit limit and was to be saved.
 pub struct Stopped {
     /// The run.
     pub ran: Ran,
-    /// The tasks that pend after it; None where it did not meet its commit limit, where memory ran out, and where it
-    /// was not to go on.
+    /// The tasks that are pending after it; None if it did not meet its commit limit, if memory ran out, and if it was
+    /// not to be saved.
     pub pending: Option<Pendings>,
 }
 
-/// Closes a book that met its commit limit, with the tasks that pend. Where memory runs out for these no end is told.
+/// Closes a book that met its commit limit, with the pending tasks. If memory runs out for these, the end is None.
 fn freeze<N: Naming, P: Placer, T: Tap>(book: Book<N, P, T>) -> Stopped
     requires fits { IsImage N.image }
     requires stands { StandsAt (machine_view book) End.Limit }
@@ -74,8 +73,8 @@ fn freeze<N: Naming, P: Placer, T: Tap>(book: Book<N, P, T>) -> Stopped
     }
 }
 
-/// Closes a book that stands at this end, where one is told, and keeps what pends where it met its commit limit and is
-/// to go on later.
+/// Closes a book with this end, if one is known, and keeps the pending tasks if it met its commit limit and is to be
+/// saved.
 pub(crate) fn stop<N: Naming, P: Placer, T: Tap>(
     book: Book<N, P, T>,
     end: Option<End>,

@@ -1,10 +1,10 @@
 //! What the taps of a book saw.
 
 ghost use Rattle.std.specs.Prelude.{◌≡◌, map, option_map, slice_get, IfOk};
-ghost use Rattle.conflict_book.specs.BookViews.{view_of};
+ghost use Rattle.outcome_law.specs.conflict_book.BookViews.{view_of};
 ghost use Rattle.machine_run.specs.Played.{tap_lists};
 
-use conflict_book::Book;
+use outcome_law::conflict_book::Book;
 use place_policy::Placer;
 use rv_core::Naming;
 use std::alloc::{AllocError, Global};

@@ -4,26 +4,26 @@ ghost use Rattle.std.specs.Prelude.{◌≡◌, All, List, map, IfOk, IsSomeAnd, 
 ghost use Rattle.guest_image.specs.ImageValue.{IsImage};
 ghost use Rattle.place_policy.specs.Policy.{Policy};
 ghost use Rattle.trace_tap.specs.TapValue.{TapValue};
-ghost use Rattle.spec_state.specs.declared.settings.Settings.{Settings};
-ghost use Rattle.spec_state.specs.Settings.{IsNamed, IsValid};
-ghost use Rattle.event_def.specs.Closing.{Closes};
-ghost use Rattle.event_def.specs.Opening.{IsOpening};
-ghost use Rattle.conflict_book.specs.BookViews.{machine_view, view_of};
-ghost use Rattle.step_script.specs.Playing.{PlaysSome};
-ghost use Rattle.step_script.specs.Ranges.{ActIsInRange};
+ghost use Rattle.outcome_law.specs.spec_state.declared.settings.Settings.{Settings};
+ghost use Rattle.outcome_law.specs.spec_state.Settings.{IsNamed, IsValid};
+ghost use Rattle.outcome_law.specs.event_def.Closing.{Closes};
+ghost use Rattle.outcome_law.specs.event_def.Opening.{IsOpening};
+ghost use Rattle.outcome_law.specs.conflict_book.BookViews.{machine_view, view_of};
+ghost use Rattle.outcome_law.specs.step_script.Playing.{PlaysSome};
+ghost use Rattle.outcome_law.specs.step_script.Ranges.{ActIsInRange};
 ghost use Rattle.machine_run.specs.Halted.{IsLeftOf};
 ghost use Rattle.machine_run.specs.Played.{IsPlayedOrPart, IsTracedOrPart, LeavesTapLists, StandsAt};
 
 use crate::left::{Ran, leave};
 use crate::lists::lists_of;
-use conflict_book::Book;
 use guest_image::Image;
+use outcome_law::conflict_book::Book;
+use outcome_law::serial_machine::End;
+use outcome_law::spec_state::Settings;
+use outcome_law::step_script::{Act, Said, play};
 use place_policy::Placer;
 use rv_core::Naming;
-use serial_machine::End;
-use spec_state::Settings;
 use std::alloc::{AllocError, Global};
-use step_script::{Act, Said, play};
 use trace_tap::Tap;
 
 /// A script that was played: the run that it left, and what was said of each act; the end is None where memory ran
@@ -98,7 +98,7 @@ fn play_begun<N: Naming, P: Placer, T: Tap>(
     }
 }
 
-/// Plays a script in the same way, and tells what its taps saw.
+/// Plays a script for its taps, and returns what they saw.
 pub fn trace_script<N: Naming, P: Placer, T: Tap>(
     alloc: Global,
     image: &Image,
@@ -120,7 +120,7 @@ pub fn trace_script<N: Naming, P: Placer, T: Tap>(
     Ok(trace_begun(alloc, image, book, script))
 }
 
-/// Plays a script on a book that was begun, tells what its taps saw, and closes it. The run is kept, also where memory
+/// Plays a script on a book that was begun, returns what its taps saw, and closes it. The run is kept, also if memory
 /// runs out on the way, or for what the taps saw.
 fn trace_begun<N: Naming, P: Placer, T: Tap>(
     alloc: Global,
@@ -151,7 +151,7 @@ fn trace_begun<N: Naming, P: Placer, T: Tap>(
     }
 }
 
-/// Plays a script on a book, and tells the lists of its taps then. Where memory runs out, some first acts were played,
+/// Plays a script on a book, and then returns the lists of its taps. If memory runs out, some first acts were played,
 /// or all.
 fn play_and_tell<N: Naming, P: Placer, T: Tap>(
     alloc: Global,
@@ -185,7 +185,7 @@ fn leave_standing<N: Naming, P: Placer, T: Tap>(book: Book<N, P, T>) -> Ran
     leave(book, Some(end))
 }
 
-/// How the run of a book stands: its end, or unfinished where it isn't over.
+/// The end of the run of a book, or `Unfinished` if it isn't over.
 fn stand<N: Naming, P: Placer, T: Tap>(book: &Book<N, P, T>) -> End
     ensures { StandsAt (machine_view book.now) result }
 {

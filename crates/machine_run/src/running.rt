@@ -4,29 +4,28 @@ ghost use Rattle.std.specs.Prelude.{◌≡◌, ◌≤◌, ◌^◌, true, List, m
 ghost use Rattle.guest_image.specs.ImageValue.{IsImage};
 ghost use Rattle.place_policy.specs.Policy.{Policy};
 ghost use Rattle.trace_tap.specs.TapValue.{TapValue};
-ghost use Rattle.spec_state.specs.declared.settings.Settings.{Settings};
-ghost use Rattle.spec_state.specs.Settings.{IsNamed, IsValid};
-ghost use Rattle.event_def.specs.Opening.{IsOpening};
-ghost use Rattle.conflict_book.specs.BookViews.{events_made, view_of};
+ghost use Rattle.outcome_law.specs.spec_state.declared.settings.Settings.{Settings};
+ghost use Rattle.outcome_law.specs.spec_state.Settings.{IsNamed, IsValid};
+ghost use Rattle.outcome_law.specs.event_def.Opening.{IsOpening};
+ghost use Rattle.outcome_law.specs.conflict_book.BookViews.{events_made, view_of};
 ghost use Rattle.machine_run.specs.Least.{IsLeastRun, end_of_halt, run_of_closed};
 ghost use Rattle.machine_run.specs.Halted.{IsHalted, IsMachineRun, KeepsPending};
 
 use crate::left::{Ran, Stopped, stop};
-use conflict_book::{Book, Halt};
 use guest_image::Image;
+use outcome_law::conflict_book::{Book, Halt};
+use outcome_law::serial_machine::End;
+use outcome_law::spec_state::Settings;
 use place_policy::Placer;
 use rv_core::Naming;
-use serial_machine::End;
-use spec_state::Settings;
 use std::alloc::{AllocError, Global};
 use std::sync::Wait;
 use std::thread::Threads;
 use tile_worker::{Gate, run_tiles};
 use trace_tap::Tap;
 
-/// Runs an image up to its end, or as far as memory goes: with no workers by the events of the least tasks, one
-/// after another; else by so many workers, each of whose legs passes the gate. `AllocError` where memory runs out
-/// for the opening.
+/// Runs an image up to its end, or as far as memory allows: with no workers by the events of the least tasks, one after
+/// another; else by so many workers, each of whose legs passes `Gate`. `AllocError` if memory runs out for the opening.
 pub fn run<
     N: Naming + Send + Sync,
     P: Placer + Send,
@@ -54,8 +53,8 @@ pub fn run<
     Ok(ran)
 }
 
-/// Runs an image as `run` does, and keeps what pends where the run meets its commit limit. Where memory runs out for
-/// that, no end is told.
+/// Runs an image as `run` does, and keeps the pending tasks if the run meets its commit limit. If memory runs out for
+/// that, the end is None.
 pub fn run_to_save<
     N: Naming + Send + Sync,
     P: Placer + Send,
@@ -82,7 +81,7 @@ pub fn run_to_save<
     run_as::<N, P, T, G, R>(rt, alloc, image, settings, gate, placers, taps, true)
 }
 
-/// Runs an image, and keeps what pends at its commit limit where it is to go on.
+/// Runs an image, and keeps the tasks that are pending at its commit limit if it is to be saved.
 fn run_as<
     N: Naming + Send + Sync,
     P: Placer + Send,

@@ -5,7 +5,7 @@ use Rattle.guest_image.specs.ImageValue.{ImageValue}
 use Rattle.progress_cell.specs.Readings.{opening_reading}
 use Rattle.progress_cell.specs.declared.reading.Reading.{Reading}
 use Rattle.run_journal.specs.declared.journal.Entry.{Entry}
-use Rattle.tile_worker.specs.Readings.{IsReading, AreReadings, OpeningIsReading}
+use Rattle.machine_run.specs.tile_worker.Readings.{IsReading, AreReadings, OpeningIsReading}
 
 -- where the opening is a reading of every journal, so is all that a new writer has told
 pub opening_told : OpeningIsReading → (image : ImageValue) (budget : ℕ) (journal : List Entry) (told : List Reading)

@@ -1,5 +1,5 @@
-//! Boards on which a run is told: what a reader sees on one thread, after another reader was joined, and from a thread
-//! of its own.
+//! Boards on which a run is published: what a reader sees on one thread, after another reader was joined, and from
+//! another thread.
 
 ghost use Rattle.std.specs.Prelude.{◌≡◌, ◌++◌, ◌∷◌, [], ◌^◌, ◌-◌};
 ghost use Rattle.progress_cell.specs.Readings.{IsAtMost, last_of};
@@ -9,7 +9,7 @@ use std::sync::Wait;
 use std::test::Fail;
 use std::thread::join;
 
-/// How many readings a thread tells or takes.
+/// How many readings a thread publishes or reads.
 const ROUNDS: u32 = 1_000;
 
 /// A reading of so many commits and so much output.
@@ -19,7 +19,7 @@ fn reading(commits: u32, output: u64) -> Reading
     Reading { commits, output }
 }
 
-/// What a reader sees after a reading was told.
+/// What a reader sees after a reading was published.
 fn reading_after<R: Wait>(
     rt: &R,
     board: &Board,
@@ -89,7 +89,7 @@ fn a_reader_that_was_split_reads_on_after_the_first_was_joined(
     Ok(())
 }
 
-/// Tells as many readings as there are rounds.
+/// Publishes as many readings as there are rounds.
 fn tell<R: Wait>(rt: &R, board: &Board, mut writer: Writer) -> Writer
     requires { writer.board ≡ board.now }
     ensures { result.board ≡ board.now }
@@ -105,7 +105,7 @@ fn tell<R: Wait>(rt: &R, board: &Board, mut writer: Writer) -> Writer
     writer
 }
 
-/// Takes as many readings as there are rounds, and says whether none had fewer commits than the one before it.
+/// Reads as many times as there are rounds, and returns whether no reading had fewer commits than the one before it.
 fn follow<R: Wait>(rt: &R, board: &Board, mut reader: Reader) -> (Reader, bool)
     requires { reader.board ≡ board.now }
     ensures { result.0.board ≡ board.now }

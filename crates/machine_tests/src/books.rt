@@ -1,20 +1,19 @@
-//! Books to which events are handed in, one by one or as a list, or that make those of the least tasks, and what they
-//! tell and leave.
+//! Books that make given events, one by one or as a list, or those of the least tasks, and their answers and results.
 
 ghost use Rattle.std.specs.Prelude.{◌≡◌, All, IsTrue};
-ghost use Rattle.spec_state.specs.Settings.{IsValid};
-ghost use Rattle.conflict_book.specs.Ranges.{IsInRange};
+ghost use Rattle.machine_run.specs.spec_state.Settings.{IsValid};
+ghost use Rattle.machine_run.specs.conflict_book.Ranges.{IsInRange};
 
 use crate::machines::{
     ENDERS, FOUR_CORES, Hinted, TWO_TILES, image_of, is_normal, one_tap, opening_book,
 };
-use conflict_book::{Applied, Book, Event, Halt, Reply};
 use guest_image::Image;
+use machine_run::conflict_book::{Applied, Book, Event, Halt, Reply};
+use machine_run::serial_machine::End;
+use machine_run::spec_state::{DISPATCH_NUMBERS, Settings};
 use run_journal::Closed;
 use rv_core::{Naming, run_leg};
 use sample_image::{FIRST_MAKER, Program, READER_AND_WRITER};
-use serial_machine::End;
-use spec_state::{DISPATCH_NUMBERS, Settings};
 use std::alloc::{AllocError, Global};
 use std::marker::Brand;
 use std::process::Abort;
@@ -23,13 +22,13 @@ use std::test::Fail;
 /// Takes what may go to another thread.
 fn is_sent<T: Send>(_value: &T) {}
 
-/// A book with boxed placers and taps may stand in a lock.
+/// A lock can hold a book with boxed placers and taps.
 #[allow(dead_code)]
 fn book_is_sent<N: Naming + Send>(book: &Book<N>) {
     is_sent(book);
 }
 
-/// What a script asks for; a step is one of the first core of a tile.
+/// What a script requests; a step is one of the first core of a tile.
 #[derive(Clone, Copy)]
 enum Act {
     Dispatch(u32),
@@ -116,7 +115,7 @@ fn may_take_all<N: Naming>(settings: &Settings, events: &[Event<N>]) -> bool
     true
 }
 
-/// The step of the task on the first core of a tile; None where that isn't there or no task runs on it.
+/// The step of the task on the first core of a tile; None if the machine hasn't that tile or no task runs there.
 fn step_of<N: Naming>(image: &Image, book: &Hinted<N>, tile: u32) -> Option<Event<N>>
     requires image { image.now ≡ N.image }
 {
@@ -125,7 +124,7 @@ fn step_of<N: Naming>(image: &Image, book: &Hinted<N>, tile: u32) -> Option<Even
     Some(Event::Step { tile, core: 0, leg })
 }
 
-/// The event of an act as the book stands; None where no task runs that was to be stepped.
+/// The event of an act for the book as it is; None if no task runs that was to be stepped.
 fn event_of<N: Naming>(image: &Image, book: &Hinted<N>, act: Act) -> Option<Event<N>>
     requires image { image.now ≡ N.image }
 {
@@ -137,7 +136,7 @@ fn event_of<N: Naming>(image: &Image, book: &Hinted<N>, act: Act) -> Option<Even
     }
 }
 
-/// Makes the event of an act, and says whether it was answered so.
+/// Makes the event of an act, and returns whether it has this answer.
 fn is_answered<N: Naming>(image: &Image, book: &mut Hinted<N>, act: Act, answer: &Applied) -> bool
     requires image { image.now ≡ N.image }
 {
@@ -147,7 +146,7 @@ fn is_answered<N: Naming>(image: &Image, book: &mut Hinted<N>, act: Act, answer:
     }
 }
 
-/// The events of a script are handed in one after another; each is answered as the script says.
+/// Makes the events of a script one after another; each has the answer of the script.
 fn are_answered<N: Naming>(
     rt: &impl Abort,
     image: &Image,
@@ -184,7 +183,7 @@ fn add<N: Naming>(events: &mut Vec<Event<N>>, event: Option<Event<N>>) -> Result
     }
 }
 
-/// Notes the events of a script, which are handed in to a book one after another; each is answered as the script says.
+/// Notes the events of a script while a book makes them one after another; each has the answer of the script.
 fn note_events<N: Naming>(
     rt: &impl Abort,
     image: &Image,
@@ -222,7 +221,7 @@ fn left_whole(rt: &impl Abort, closed: &Closed) {
     assert_eq!(rt; closed.journal.as_slice().len(), 3);
 }
 
-/// The run came to its end.
+/// The run reached its end.
 fn is_whole<N: Naming>(rt: &impl Abort, book: Hinted<N>) {
     ended_whole(rt, book.steps(), book.end());
     tap_has_the_last(rt, book.tap_len(0), book.tap_at(0, 19));
@@ -253,7 +252,7 @@ fn a_late_writer_takes_the_reader_back(rt: HostRuntime) -> Result<(), Fail> {
     made_one_by_one::<Brand>(&rt, rt.alloc(), &image, TWO_TILES)
 }
 
-/// The events of a script, as another book to which they are handed in one after another tells them.
+/// The events of a script, noted while another book makes them one after another.
 fn events_to_make<N: Naming>(
     rt: &impl Abort,
     alloc: Global,
@@ -282,7 +281,7 @@ fn are_as_scripted(rt: &impl Abort, answers: &[Applied], script: &[(Act, Applied
     }
 }
 
-/// These events are handed in to a book as one list, and answered as the script says.
+/// Makes these events in a book as one list, with the answers of the script.
 fn make_list<N: Naming>(
     rt: &impl Abort,
     book: &mut Hinted<N>,
@@ -295,7 +294,7 @@ fn make_list<N: Naming>(
     Ok(())
 }
 
-/// A book to which the events of a script were handed in as one list.
+/// A book that made the events of a script as one list.
 fn book_after_list<N: Naming>(
     rt: &impl Abort,
     alloc: Global,
@@ -349,7 +348,7 @@ fn is_full(rt: &impl Abort, steps: u64, end: Option<End>, loads: &[u32]) {
     assert_eq!(rt; loads, [4].as_slice());
 }
 
-/// The events of the second script are handed in as one list.
+/// The events of the second script are made as one list.
 fn stalls_at_once<N: Naming>(
     rt: &impl Abort,
     alloc: Global,
@@ -491,7 +490,7 @@ const STACK_KEEPER: Program = Program {
     tasks: &[(0x0001_0000, 2), (0x0001_002c, 1)],
 };
 
-/// The script in which the writer takes the other task back, which then runs anew.
+/// The script in which the writer aborts the other task, which then runs again.
 static STACK_TAKEN_BACK: [(Act, Applied); 14] = [
     (Act::Dispatch(0), OK),
     (Act::Step(0), OK),
@@ -516,7 +515,7 @@ fn left_zero_and_65(rt: &impl Abort, end: Option<End>, closed: &Closed) {
     assert_eq!(rt; closed.memory.as_slice(), [7, 0, 0, 0].as_slice());
 }
 
-/// A task that is taken back after a store into its stack begins again with a stack of zeros.
+/// A task that is aborted after a store into its stack begins again with a stack of zeros.
 fn begins_anew<N: Naming>(
     rt: &impl Abort,
     alloc: Global,

@@ -1,6 +1,6 @@
 //! Tests of the machine's public calls: of the board, and from its state to whole runs and to runs that are saved.
 //!
-//! They stand in a crate of their own, without code, since a crate with tests is proved twice.
+//! They are in a crate of their own, without code, since a crate with tests is proved twice.
 #![tactic(auto)]
 
 #[cfg(test)]

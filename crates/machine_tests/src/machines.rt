@@ -1,15 +1,15 @@
 //! Programs, settings and books that the tests of several files begin with.
 
 ghost use Rattle.std.specs.Prelude.{◌≡◌};
-ghost use Rattle.spec_state.specs.Settings.{IsValid};
+ghost use Rattle.machine_run.specs.spec_state.Settings.{IsValid};
 
-use conflict_book::Book;
 use guest_image::{Image, read_image};
+use machine_run::conflict_book::Book;
+use machine_run::serial_machine::End;
+use machine_run::spec_state::{FilterKind, Settings};
 use place_policy::ByHint;
 use rv_core::Naming;
 use sample_image::Program;
-use serial_machine::End;
-use spec_state::{FilterKind, Settings};
 use std::alloc::{AllocError, Global};
 use std::test::Fail;
 use trace_tap::LastN;

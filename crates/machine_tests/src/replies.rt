@@ -1,13 +1,13 @@
-//! Texts of what was said of acts and of what taps saw, and how they go out in pieces.
+//! Texts of replies to acts and of what taps saw, and the pieces in which they are written.
 
-use conflict_book::Reply;
+use machine_run::conflict_book::Reply;
+use machine_run::step_script::{Said, Word};
 use script_text::{write_replies, write_trace};
 use sim_io::{Failed, MemSink};
 use std::alloc::{AllocError, Global};
 use std::test::Fail;
-use step_script::{Said, Word};
 
-/// What may be said of an act.
+/// Replies to acts.
 static REPLIES: [Said; 9] = [
     Said {
         word: Word::Plain(Reply::Ok),

@@ -1,27 +1,27 @@
-//! Books that are frozen, the images that are saved of them, and the runs that go on from these.
+//! Books that are frozen, the images that are saved of them, and the runs that continue from these.
 
 ghost use Rattle.std.specs.Prelude.{◌≡◌, ◌<◌, ℕ, length, IfOk};
-ghost use Rattle.conflict_book.specs.Frozen.{IsFrozenOf};
+ghost use Rattle.machine_run.specs.conflict_book.Frozen.{IsFrozenOf};
 ghost use Rattle.resume_image.specs.Saved.{IsSavedOf};
-ghost use Rattle.serial_machine.specs.WholeRun.{IsRunOf};
-ghost use Rattle.spec_state.specs.Settings.{IsValid};
+ghost use Rattle.machine_run.specs.serial_machine.WholeRun.{IsRunOf};
+ghost use Rattle.machine_run.specs.spec_state.Settings.{IsValid};
 
 use crate::machines::{Hinted, TWO_TILES, image_in, image_of, is_normal, opening_book};
-use conflict_book::{Frozen, Halt};
 use guest_image::{Image, write_image};
+use machine_run::conflict_book::{Frozen, Halt};
+use machine_run::serial_machine::{End, SerialRun, run_image};
+use machine_run::spec_state::{Pending, Settings};
 use resume_image::{SaveFault, join_runs, runs_join, snapshot};
 use run_journal::{Entry, Journal};
 use rv_core::Naming;
 use sample_image::{MAKER_TEXT, Program};
-use serial_machine::{End, SerialRun, run_image};
-use spec_state::{Pending, Settings};
 use std::alloc::Global;
 use std::marker::Brand;
 use std::process::Abort;
 use std::test::Fail;
 use task_desc::Name;
 
-/// What a book keeps for a run that goes on.
+/// What a book keeps for a run that continues it.
 fn frozen_of<N: Naming>(book: Hinted<N>) -> Result<Frozen, Fail>
     ensures { IfOk result (IsFrozenOf N.image N.budget) }
 {
@@ -101,14 +101,14 @@ fn journal_of_both(
 /// What an entry has: the creator and the place in a name, a depth and a timestamp.
 type Turn = (u32, u32, u8, u32);
 
-/// A run that is saved, and goes on.
+/// A run that is saved and continued.
 struct Join {
     name: &'static str,
     image: &'static [u8],
     settings: Settings,
     /// Whether a task commits before the run is saved.
     is_begun: bool,
-    /// The turns before that, what they emit, and the tasks that pend behind them, told alike with a first argument.
+    /// The turns before that, what they emit, and the tasks that are pending after them, each with its first argument.
     one: &'static [Turn],
     output: &'static [u8],
     pending: &'static [(Turn, u32)],
@@ -150,7 +150,7 @@ const CHAIN: [u8; 104] = [
     0, 0, 0, 0, 0, 0, 0, 0, 0, 0, 0, 0, 0, 0, 1, 0, 0, 0, 0, 0, 2, 0, 0, 0, 0, 0, 0, 0, 0, 0, 0, 0,
 ];
 
-/// The image that is saved after the second of them: its child stands in its place.
+/// The image that is saved after the second of them: its task is that one's child.
 const REST_OF_CHAIN: [u8; 104] = [
     0x46, 0x52, 0x41, 0x43, 1, 0, 1, 0, 8, 0, 0, 0, 0, 0, 0, 0, 0, 0, 0, 0, 0, 0, 0, 0, 0, 0, 0, 0,
     2, 0, 0, 0, 0x63, 0x0c, 0x05, 0, 0x13, 0x06, 0xf5, 0xff, 0x37, 0x05, 0x01, 0, 0x93, 0x85, 0x16,
@@ -262,7 +262,7 @@ fn is_written(rt: &impl Abort, alloc: Global, saved: &Image, join: &Join) -> Res
     Ok(())
 }
 
-/// What a run of the saved image comes to.
+/// The result of a run of the saved image.
 fn runs_on(rt: &impl Abort, run: &SerialRun, join: &Join) {
     assert!(rt; is_normal(run.end), "{}", join.name);
     assert!(rt; run.output.as_slice() == join.behind, "{}", join.name);
@@ -313,7 +313,7 @@ fn frozen_run<N: Naming>(
     }
 }
 
-/// A run is saved, and goes on.
+/// A run is saved and continued.
 fn goes_on<N: Naming>(
     rt: &impl Abort,
     alloc: Global,

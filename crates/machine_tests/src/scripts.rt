@@ -1,19 +1,21 @@
 //! Scripts that are read, and worked schedules that are played.
 
 ghost use Rattle.std.specs.Prelude.{◌≡◌};
-ghost use Rattle.spec_state.specs.Settings.{IsValid};
+ghost use Rattle.machine_run.specs.spec_state.Settings.{IsValid};
 
 use crate::machines::{ENDERS, FOUR_CORES, Hinted, TWO_TILES, image_of, opening_book};
-use conflict_book::Reply;
 use guest_image::Image;
+use machine_run::conflict_book::Reply;
+use machine_run::spec_state::Settings;
+use machine_run::step_script::{
+    Act, Said, ScriptFault, Word, play, read_script, written_scripts_read_back,
+};
 use rv_core::Naming;
 use sample_image::{FIRST_MAKER, MAKER_TEXT, Program, READER_AND_WRITER};
-use spec_state::Settings;
 use std::alloc::Global;
 use std::marker::Brand;
 use std::process::Abort;
 use std::test::Fail;
-use step_script::{Act, Said, ScriptFault, Word, play, read_script, written_scripts_read_back};
 
 /// Each act, on a machine of two tiles of one core.
 static ACTS: [Act; 9] = [
@@ -205,7 +207,7 @@ const COMMITTED: Said = Said {
     aborted: 0,
 };
 
-/// A script, and what is said of its acts.
+/// A script, and the replies to its acts.
 struct Row {
     name: &'static str,
     program: Program,
@@ -314,7 +316,7 @@ static ROWS: [Row; 12] = [
     },
 ];
 
-/// What is said of the acts of a script that is played on a book.
+/// The replies to the acts of a script that is played on a book.
 fn said_of<N: Naming>(
     rt: &impl Abort,
     alloc: Global,
@@ -330,7 +332,7 @@ fn said_of<N: Naming>(
     Ok(play(alloc, image, book, &acts)?)
 }
 
-/// What is said of the acts of a row's script is what the row has.
+/// The replies to the acts of a row's script are those of the row.
 fn plays_row<N: Naming>(
     rt: &impl Abort,
     alloc: Global,

@@ -1,16 +1,16 @@
-//! The state of the speculative machine: its settings, the bytes of a task, what it tells without a task, with one and
+//! The state of the speculative machine: its settings, the bytes of a task, its queries without a task, with one and
 //! with two, and what it leaves.
 
 ghost use Rattle.std.specs.Prelude.{◌≡◌, ◌<◌, IsSome};
-ghost use Rattle.spec_state.specs.Opening.{DescIsOfImage};
-ghost use Rattle.spec_state.specs.Settings.{IsValid};
-ghost use Rattle.spec_state.specs.View.{task_at};
+ghost use Rattle.machine_run.specs.spec_state.Opening.{DescIsOfImage};
+ghost use Rattle.machine_run.specs.spec_state.Settings.{IsValid};
+ghost use Rattle.machine_run.specs.spec_state.View.{task_at};
 
 use crate::machines::{DEFAULTS, image_of};
 use guest_image::{Image, Kind};
+use machine_run::spec_state::{Emitted, Parts, Pending, Settings, State, Task, TaskId, Where};
 use rv_core::Naming;
 use sample_image::Program;
-use spec_state::{Emitted, Parts, Pending, Settings, State, Task, TaskId, Where};
 use std::alloc::{AllocError, Global};
 use std::marker::Brand;
 use std::process::Abort;
@@ -100,7 +100,7 @@ fn has_nothing<N: Naming>(rt: &impl Abort, state: &State<N>) {
     assert!(rt; state.path().levels().is_empty() && state.next == 0);
 }
 
-/// Nothing stands in the last tile on its last core, in its commit queue or in its block.
+/// The last tile has nothing on its last core, in its commit queue or in its block.
 fn has_nothing_last<N: Naming>(rt: &impl Abort, state: &State<N>)
     requires tile { 3 < state.now.view.settings.tiles }
     requires core { 1 < state.now.view.settings.cores }
@@ -110,7 +110,7 @@ fn has_nothing_last<N: Naming>(rt: &impl Abort, state: &State<N>)
     assert_eq!(rt; state.block_len(3), 0);
 }
 
-/// What a state of the default settings without a task tells.
+/// The queries of a state of the default settings without a task.
 fn tells_nothing<N: Naming>(rt: &impl Abort, state: &State<N>) {
     let settings = state.settings();
     assert_eq!(rt; *settings, DEFAULTS);
@@ -176,7 +176,7 @@ fn is_first_context(rt: &impl Abort, context: &Ctx) {
     assert!(rt; context.children == 0 && context.bytes == 0);
 }
 
-/// Where the task stands, and that it has not begun.
+/// The place of the task, and that it has not begun.
 fn tells_idle<N: Naming>(rt: &impl Abort, state: &State<N>, task: TaskId)
     requires live { IsSome (task_at state.now.view task.0) }
 {
@@ -195,7 +195,7 @@ fn added_to<N: Naming>(rt: &impl Abort, state: &mut State<N>, desc: &Desc, tile:
     state.add(desc, tile).unwrap()
 }
 
-/// What a state tells of the one task that was added to it.
+/// The queries about the one task that was added to a state.
 fn tells_one<N: Naming>(rt: &impl Abort, state: &State<N>, task: TaskId)
     requires live { IsSome (task_at state.now.view task.0) }
 {
@@ -204,7 +204,7 @@ fn tells_one<N: Naming>(rt: &impl Abort, state: &State<N>, task: TaskId)
     tells_idle(rt, state, task);
 }
 
-/// Memory is taken for what one event of the task adds, and the task stands as before.
+/// Memory is reserved for what one event of the task adds, and the task is unchanged.
 fn is_reserved<N: Naming>(
     rt: &impl Abort,
     state: &mut State<N>,

@@ -1,31 +1,33 @@
-//! Dispatches, steps and commits of a state by the calls that find out themselves which task it is and what it asks
-//! for, and the task that is taken back for room.
+//! Dispatches, steps and commits of a state by the calls that find the task and its request themselves, and the task
+//! that is aborted for room.
 
 ghost use Rattle.std.specs.Prelude.{◌≡◌, ◌<◌, ℕ, IsTrue};
 ghost use Rattle.task_request.specs.declared.request.Request.TheVariants.{End, Trap};
-ghost use Rattle.spec_state.specs.declared.numbers.TheConstants.{DISPATCH_NUMBERS};
-ghost use Rattle.spec_state.specs.declared.task.Status.TheVariants.{Running};
-ghost use Rattle.spec_state.specs.declared.task.Task.{Task};
-ghost use Rattle.spec_state.specs.declared.task.Where.TheVariants.{Finished};
-ghost use Rattle.spec_state.specs.Changes.{TakesLeg};
-ghost use Rattle.spec_state.specs.Least.{IsLeast};
-ghost use Rattle.spec_state.specs.Opening.{DescIsOfImage};
-ghost use Rattle.spec_state.specs.Queries.{IsFreeCore, IsIdle, IsOnCore};
-ghost use Rattle.spec_state.specs.Room.{IsFull};
-ghost use Rattle.spec_state.specs.Settings.{IsValid};
-ghost use Rattle.spec_access.specs.Asking.{Asks, AsksForChild};
+ghost use Rattle.machine_run.specs.spec_state.declared.numbers.TheConstants.{DISPATCH_NUMBERS};
+ghost use Rattle.machine_run.specs.spec_state.declared.task.Status.TheVariants.{Running};
+ghost use Rattle.machine_run.specs.spec_state.declared.task.Task.{Task};
+ghost use Rattle.machine_run.specs.spec_state.declared.task.Where.TheVariants.{Finished};
+ghost use Rattle.machine_run.specs.spec_state.Changes.{TakesLeg};
+ghost use Rattle.machine_run.specs.spec_state.Least.{IsLeast};
+ghost use Rattle.machine_run.specs.spec_state.Opening.{DescIsOfImage};
+ghost use Rattle.machine_run.specs.spec_state.Queries.{IsFreeCore, IsIdle, IsOnCore};
+ghost use Rattle.machine_run.specs.spec_state.Room.{IsFull};
+ghost use Rattle.machine_run.specs.spec_state.Settings.{IsValid};
+ghost use Rattle.machine_run.specs.spec_access.Asking.{Asks, AsksForChild};
 
 use crate::machines::{FOUR_CORES, TWO_TILES, image_of};
 use guest_image::Image;
-use rv_core::{Leg, Naming, Stop, run_leg};
-use sample_image::Program;
-use serial_machine::Entry;
-use spec_access::{
+use machine_run::serial_machine::Entry;
+use machine_run::spec_access::{
     call_trap, dispatch, emit, finish, keep, make_sub, read, request_of_task, spawn, write,
 };
-use spec_commit::{commit, room_victim};
-use spec_dispatch::free_core;
-use spec_state::{DISPATCH_NUMBERS, Parts, Settings, State, Status, Task, TaskId, Where};
+use machine_run::spec_commit::{commit, room_victim};
+use machine_run::spec_dispatch::free_core;
+use machine_run::spec_state::{
+    DISPATCH_NUMBERS, Parts, Settings, State, Status, Task, TaskId, Where,
+};
+use rv_core::{Leg, Naming, Stop, run_leg};
+use sample_image::Program;
 use std::alloc::{AllocError, Global};
 use std::marker::Brand;
 use std::process::Abort;
@@ -46,7 +48,7 @@ const CALLER: u32 = 0x0001_0000;
 /// Where a task begins that ends at once.
 const ENDER: u32 = 0x0001_0038;
 
-/// Where no instruction stands.
+/// An address without an instruction.
 const NO_CODE: u32 = 0x0001_0040;
 
 /// Where a task begins that makes call 6, which is none.
@@ -228,7 +230,7 @@ fn end<N: Naming>(
     finish(state, id, leg);
 }
 
-/// What a task asks for at the end of its leg comes to be.
+/// What a task requests at the end of its leg is done.
 fn make_request<N: Naming>(
     rt: &impl Abort,
     state: &mut State<N>,
@@ -320,7 +322,7 @@ fn make_all<N: Naming>(
     Ok(())
 }
 
-/// The task at `CALLER` loads, emits, stores, goes on after its quantum, makes its subdomain, goes on, enqueues its
+/// The task at `CALLER` loads, emits, stores, continues after its quantum, makes its subdomain, continues, enqueues its
 /// child and ends; it commits, and then the child runs.
 static WHOLE: [Act; 13] = [
     Act::Dispatch(0),
@@ -396,7 +398,7 @@ fn a_task_and_its_child_run_step_by_step(rt: HostRuntime) -> Result<(), Fail> {
     Ok(runs_whole::<Brand>(&rt, rt.alloc(), &image, SHORT_LEGS)?)
 }
 
-/// A task of each tile comes to its trap.
+/// A task of each tile reaches its trap.
 static TRAPS: [Act; 4] = [
     Act::Dispatch(0),
     Act::Step(0, 0),
@@ -411,12 +413,12 @@ fn trap_on<N: Naming>(rt: &impl Abort, state: &State<N>, tile: u32) -> Option<u8
     state.trap_of(id)
 }
 
-/// The tasks of both tiles came to their traps.
+/// The tasks of both tiles reached their traps.
 fn has_traps<N: Naming>(rt: &impl Abort, state: &State<N>) -> bool {
     trap_on(rt, state, 0) == Some(2) && trap_on(rt, state, 1) == Some(9)
 }
 
-/// One task comes to an instruction that is none, and another to a call that is none.
+/// One task reaches a word that encodes no instruction, and another an unknown call.
 fn comes_to_traps<N: Naming>(
     rt: &impl Abort,
     alloc: Global,
@@ -459,13 +461,13 @@ fn is_full<N: Naming>(state: &State<N>, tile: u32) -> bool
     !state.queue_has_room(tile)
 }
 
-/// The task that is taken back for room in the first tile, whose queue is full.
+/// The task that is aborted for room in the first tile, whose queue is full.
 fn victim<N: Naming>(rt: &impl Abort, state: &State<N>, asker: Option<TaskId>) -> TaskId {
     assert!(rt; state.settings().tiles > 0 && is_full(state, 0));
     room_victim(state, 0, asker)
 }
 
-/// Of a full queue of firm tasks that run the latest is taken back.
+/// Of a full queue of firm tasks that run the latest is aborted.
 fn takes_the_latest<N: Naming>(
     rt: &impl Abort,
     alloc: Global,
@@ -502,7 +504,7 @@ static CHILD_LATEST: [Act; 4] = [
     Act::Step(0, 1),
 ];
 
-/// Where the latest task isn't firm its creator is taken back.
+/// If the latest task isn't firm its creator is aborted.
 fn takes_the_creator<N: Naming>(
     rt: &impl Abort,
     alloc: Global,

@@ -1,27 +1,27 @@
 //! Images that are run to their end, with workers and without, and scripts that are played from the opening on.
 
 ghost use Rattle.std.specs.Prelude.{◌≡◌, All};
-ghost use Rattle.spec_state.specs.Settings.{IsValid};
-ghost use Rattle.step_script.specs.Ranges.{ActIsInRange};
+ghost use Rattle.machine_run.specs.spec_state.Settings.{IsValid};
+ghost use Rattle.machine_run.specs.step_script.Ranges.{ActIsInRange};
 
 use crate::machines::{TWO_TILES, image_of, is_normal, one_tap};
-use conflict_book::Reply;
 use guest_image::Image;
+use machine_run::conflict_book::Reply;
+use machine_run::serial_machine::End;
+use machine_run::spec_state::Settings;
+use machine_run::step_script::{Act, Said, Word};
+use machine_run::tile_worker::OpenGate;
 use machine_run::{Played, Ran, Traced, play_script, run, trace_script};
 use place_policy::ByHint;
 use run_journal::Closed;
 use rv_core::Naming;
 use sample_image::READER_AND_WRITER;
-use serial_machine::End;
-use spec_state::Settings;
 use std::alloc::{Alloc, Global};
 use std::marker::Brand;
 use std::process::Abort;
 use std::sync::Wait;
 use std::test::Fail;
 use std::thread::Threads;
-use step_script::{Act, Said, Word};
-use tile_worker::OpenGate;
 use trace_tap::LastN;
 
 /// Two tiles of one core, for which two workers make the events.
@@ -48,7 +48,7 @@ fn ran<N: Naming + Send + Sync, R: Threads + Wait + Sync + Alloc<A = Global>>(
     Ok(run::<N, ByHint, LastN, OpenGate, R>(rt, alloc, image, settings, &OpenGate, placers, taps)?)
 }
 
-/// The run came to its end: the writer, the reader and its child took their turns.
+/// The run reached its end: the writer, the reader and its child took their turns.
 fn is_whole(rt: &impl Abort, closed: &Closed, end: Option<End>) {
     assert!(rt; is_normal(end));
     assert_eq!(rt; closed.journal.as_slice().len(), 3);
@@ -92,7 +92,7 @@ const OK: Said = Said {
     aborted: 0,
 };
 
-/// An event that took a task back.
+/// An event that aborted one task.
 const TAKES_1: Said = Said {
     word: Word::Plain(Reply::Ok),
     aborted: 1,
@@ -104,7 +104,7 @@ const EMPTY: Said = Said {
     aborted: 0,
 };
 
-/// What is said of these acts.
+/// The replies to these acts.
 static SAID: [Said; 6] = [OK, OK, OK, EMPTY, OK, TAKES_1];
 
 /// The script is played.
@@ -126,7 +126,7 @@ fn is_unfinished(end: Option<End>) -> bool {
     matches!(end, Some(End::Unfinished))
 }
 
-/// The run stands open, and none of its stores is left.
+/// The run isn't over, and none of its stores is left.
 fn leaves_zeros(rt: &impl Abort, ran: Ran) {
     let Ran { closed, end } = ran;
     assert!(rt; is_unfinished(end));
@@ -143,7 +143,7 @@ fn a_script_is_played(rt: HostRuntime) -> Result<(), Fail> {
     Ok(())
 }
 
-/// The script is played, and its taps are told.
+/// The script is played, and its taps' lists are returned.
 fn script_trace<N: Naming>(alloc: Global, image: &Image, settings: Settings) -> Result<Traced, Fail>
     requires valid { IsValid settings }
     requires image { image.now ≡ N.image }

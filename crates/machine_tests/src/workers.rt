@@ -2,19 +2,22 @@
 
 ghost use Rattle.std.specs.Prelude.{◌≡◌, ◌≤◌, ◌^◌, ◌∷◌, [], IfOk};
 ghost use Rattle.progress_cell.specs.Readings.{opening_reading};
-ghost use Rattle.conflict_book.specs.BookViews.{events_made, machine_view};
-ghost use Rattle.tile_worker.specs.Readings.{HasTold};
-ghost use Rattle.spec_state.specs.Settings.{IsValid};
+ghost use Rattle.machine_run.specs.conflict_book.BookViews.{events_made, machine_view};
+ghost use Rattle.machine_run.specs.tile_worker.Readings.{HasTold};
+ghost use Rattle.machine_run.specs.spec_state.Settings.{IsValid};
 
 use crate::machines::{ENDERS, Hinted, TWO_TILES, image_of, opening_book};
-use conflict_book::{Book, Halt};
 use guest_image::Image;
 use load_gen::{Load, make};
+use machine_run::conflict_book::{Book, Halt};
+use machine_run::serial_machine::End;
+use machine_run::spec_state::Settings;
+use machine_run::tile_worker::{
+    Drained, Gate, OpenGate, Watched, opening_is_reading, run_tiles, run_watched,
+};
 use place_policy::{ByHint, Placer};
 use progress_cell::{Board, Reader, Reading, Writer};
 use rv_core::Naming;
-use serial_machine::End;
-use spec_state::Settings;
 use std::alloc::{Alloc, Global};
 use std::marker::Brand;
 use std::process::Abort;
@@ -22,7 +25,6 @@ use std::sync::Wait;
 use std::sync::atomic::{AtomicU64, Ordering};
 use std::test::Fail;
 use std::thread::{Threads, join, yield_now};
-use tile_worker::{Drained, Gate, OpenGate, Watched, opening_is_reading, run_tiles, run_watched};
 use trace_tap::{LastN, Tap};
 
 /// How many readings a reader takes once it has seen a commit.
@@ -205,7 +207,7 @@ fn legs_of_each_worker_are_numbered_without_a_gap(rt: HostRuntime) -> Result<(),
     Ok(())
 }
 
-/// Takes readings until one tells of a commit, and lets the workers know.
+/// Reads until a reading has a commit, and lets the workers know.
 fn await_commit<R: Wait>(rt: &R, board: &Board, mut reader: Reader, gate: &SeenGate) -> Reader
     requires { reader.board ≡ board.now }
     ensures { result.board ≡ board.now }
@@ -220,7 +222,7 @@ fn await_commit<R: Wait>(rt: &R, board: &Board, mut reader: Reader, gate: &SeenG
     reader
 }
 
-/// Takes as many readings as there are rounds, and tells the most commits and the most output that it saw.
+/// Reads as many times as there are rounds, and returns the most commits and the most output that it saw.
 fn follow<R: Wait>(rt: &R, board: &Board, mut reader: Reader) -> (Reader, Reading)
     requires { reader.board ≡ board.now }
     ensures { result.0.board ≡ board.now }
@@ -271,7 +273,7 @@ fn watch<N: Naming + Send + Sync, P: Placer + Send, T: Tap + Send, R: Threads + 
     )
 }
 
-/// A book has so many commits and no output, and its writer has told so last.
+/// A book has so many commits and no output, and its writer published that last.
 fn is_told(rt: &impl Abort, counts: Reading, last: Reading, commits: u32) {
     assert_eq!(rt; counts, last);
     assert_eq!(rt; last.commits, commits);

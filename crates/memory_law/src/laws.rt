@@ -77,7 +77,8 @@ pub fn lines_share_no_byte()
     ensures { LinesShareNoByte }
 {}
 
-/// Law: a filter whose notes are those of a log leaves out no access of it.
+/// Law: a filter whose notes are those of a log leaves out no access of it. `Lines` of each kind are one by their bits.
+/// Of a task's filter that asks its log too, `spec_law` says so (`filters_leave_none_out`).
 pub fn filter_leaves_none_out<F: Filter>()
     ensures { LeavesNoneOut F.notes_are F.touched F.wrote }
 {}

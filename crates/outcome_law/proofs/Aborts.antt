@@ -8,18 +8,18 @@ use Rattle.memory_law.specs.Notes.{notes_of}
 use Rattle.fractal_vt.specs.Keys.{levels}
 use Rattle.memory_law.specs.Tasks.{Logged, In, Ascends, IsByKey, log_of, undone_set}
 use Rattle.memory_law.proofs.Orders.{one_order}
-use Rattle.task_law.specs.Room.{queue_after}
+use Rattle.step_script.specs.task_law.Room.{queue_after}
 use Rattle.undo_log.specs.Undo.{undone}
-use Rattle.spec_state.specs.declared.task.Creator.{Creator}
-use Rattle.spec_state.specs.declared.task.Creator.TheVariants.{Committed, Live}
-use Rattle.spec_state.specs.declared.task.Task.{Task}
-use Rattle.spec_state.specs.View.{View, task_at}
-use Rattle.spec_state.specs.Tasks.{is_dispatched, idle_again}
-use Rattle.spec_state.specs.Filters.{has_stored, has_touched}
-use Rattle.spec_state.specs.Groups.{logged_tasks, logged_task, room_tasks, room_task, live_creator}
-use Rattle.spec_state.specs.Aborts.{IsChildOf, ReadsFrom, PullsInView, is_marked, IsCascade, IsUndone}
-use Rattle.spec_state.specs.Aborts.{is_marked_creator, taken_back, freed_core, Aborts}
-use Rattle.spec_law.proofs.Proved.{id_below, pulled_there}
+use Rattle.step_script.specs.spec_state.declared.task.Creator.{Creator}
+use Rattle.step_script.specs.spec_state.declared.task.Creator.TheVariants.{Committed, Live}
+use Rattle.step_script.specs.spec_state.declared.task.Task.{Task}
+use Rattle.step_script.specs.spec_state.View.{View, task_at}
+use Rattle.step_script.specs.spec_state.Tasks.{is_dispatched, idle_again}
+use Rattle.step_script.specs.spec_state.Filters.{has_stored, has_touched}
+use Rattle.step_script.specs.spec_state.Groups.{logged_tasks, logged_task, room_tasks, room_task, live_creator}
+use Rattle.step_script.specs.spec_state.Aborts.{IsChildOf, ReadsFrom, PullsInView, is_marked, IsCascade, IsUndone}
+use Rattle.step_script.specs.spec_state.Aborts.{is_marked_creator, taken_back, freed_core, Aborts}
+use Rattle.step_script.proofs.Below.spec_law.Proved.{id_below, pulled_there}
 use Rattle.outcome_law.specs.Alike.{IdPermutation, inverse_of, permuted_creator, IsAlikeTask, IsAlikeAt, AreAlike}
 use Rattle.outcome_law.proofs.Alike.{partner, alike_turned}
 use Rattle.outcome_law.proofs.Lists.{map_same, filter_mapped, left_mapped, same_bool, count_upto}

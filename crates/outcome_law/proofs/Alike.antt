@@ -1,10 +1,10 @@
 -- What views that are alike have in common.
 use Rattle.std.proofs.Common.{◌≡◌, ℕ, List, [], ◌∷◌, map, Option, Some, None, option_map, refl, sym, ap, subst, ◌∙◌}
 use Rattle.std.specs.Prelude.{slice_get, slice_index_or}
-use Rattle.spec_state.specs.declared.task.Creator.{Creator}
-use Rattle.spec_state.specs.declared.task.Creator.TheVariants.{Committed, Live}
-use Rattle.spec_state.specs.declared.task.Task.{Task}
-use Rattle.spec_state.specs.View.{View, task_at, queue_at, finished_at, cores_at}
+use Rattle.step_script.specs.spec_state.declared.task.Creator.{Creator}
+use Rattle.step_script.specs.spec_state.declared.task.Creator.TheVariants.{Committed, Live}
+use Rattle.step_script.specs.spec_state.declared.task.Task.{Task}
+use Rattle.step_script.specs.spec_state.View.{View, task_at, queue_at, finished_at, cores_at}
 use Rattle.outcome_law.specs.Alike.{IdPermutation, inverse_of, permuted_creator, IsAlikeTask, IsAlikeAt, AreAlike}
 
 -- a task has a partner under the other id

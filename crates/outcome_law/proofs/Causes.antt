@@ -2,20 +2,21 @@
 use Rattle.std.proofs.Common.{◌≡◌, ◌≢◌, ℕ, [], length, refl, sym, ap, subst, ◌∙◌, inl, inr, ◌⊎◌, arith}
 use Rattle.std.proofs.lemmas.List.{length-map}
 use Rattle.rv_core.specs.LegValue.{LegValue}
-use Rattle.spec_state.specs.declared.task.Status.TheVariants.{Finished}
-use Rattle.spec_state.specs.declared.task.Task.{Task}
-use Rattle.spec_state.specs.View.{View, finished_at, block_at}
-use Rattle.spec_state.specs.Least.{IsLeastTask, IsTheLeast}
-use Rattle.spec_state.specs.Queries.{IsIdle, IsDispatched, IsLater}
-use Rattle.spec_state.specs.Changes.{TakesLeg}
-use Rattle.spec_state.specs.Room.{Enqueuer, IsMovable, Stalls}
-use Rattle.event_def.specs.Book.{BookView, picked_tile}
-use Rattle.event_def.specs.Causes.{IsBusy, IsStale, StallsAtEnqueue, IsCommitFull, StallsAtEnd, LatestIsLeast}
-use Rattle.event_def.specs.Causes.{StallsAtSplit, Cause, IsRefused, IsGranted}
-use Rattle.event_def.specs.declared.event.Event.{Event}
-use Rattle.event_def.specs.declared.event.Event.TheVariants as event
-use Rattle.event_def.specs.declared.event.Reply.{Reply}
-use Rattle.event_def.specs.declared.event.Reply.TheVariants as replies
+use Rattle.step_script.specs.spec_state.declared.task.Status.TheVariants.{Finished}
+use Rattle.step_script.specs.spec_state.declared.task.Task.{Task}
+use Rattle.step_script.specs.spec_state.View.{View, finished_at, block_at}
+use Rattle.step_script.specs.spec_state.Least.{IsLeastTask, IsTheLeast}
+use Rattle.step_script.specs.spec_state.Queries.{IsIdle, IsDispatched, IsLater}
+use Rattle.step_script.specs.spec_state.Changes.{TakesLeg}
+use Rattle.step_script.specs.spec_state.Room.{Enqueuer, IsMovable, Stalls}
+use Rattle.step_script.specs.event_def.Book.{BookView, picked_tile}
+use Rattle.step_script.specs.event_def.Causes.{IsBusy, IsStale, StallsAtEnqueue, IsCommitFull, StallsAtEnd}
+use Rattle.step_script.specs.event_def.Causes.{LatestIsLeast}
+use Rattle.step_script.specs.event_def.Causes.{StallsAtSplit, Cause, IsRefused, IsGranted}
+use Rattle.step_script.specs.event_def.declared.event.Event.{Event}
+use Rattle.step_script.specs.event_def.declared.event.Event.TheVariants as event
+use Rattle.step_script.specs.event_def.declared.event.Reply.{Reply}
+use Rattle.step_script.specs.event_def.declared.event.Reply.TheVariants as replies
 use Rattle.outcome_law.specs.Alike.{IdPermutation, inverse_of, AreAlike}
 use Rattle.outcome_law.specs.Alike.{AreAlikeBooks}
 use Rattle.outcome_law.proofs.Alike.{alike_turned, task_turned}

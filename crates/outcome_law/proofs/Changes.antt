@@ -10,20 +10,20 @@ use Rattle.memory_law.specs.Notes.{notes_of}
 use Rattle.rv_core.specs.declared.state.Core.{Core}
 use Rattle.rv_core.specs.LegValue.{LegValue}
 use Rattle.undo_log.specs.Undo.{MemoryCall, access_of, after_call}
-use Rattle.spec_state.specs.declared.task.Status.TheVariants as status
-use Rattle.spec_state.specs.declared.task.Task.{Task}
-use Rattle.spec_state.specs.View.{View, task_at, cores_at, ChangesTask}
-use Rattle.spec_state.specs.Changes.{Dispatches, Keeps, Accesses, Finishes, with_core, task_past_leg}
-use Rattle.spec_state.specs.Tasks.{start_core}
-use Rattle.spec_state.specs.Filters.{HasNotes}
-use Rattle.spec_state.proofs.Proved.{map_at, told_touched, told_written}
+use Rattle.step_script.specs.spec_state.declared.task.Status.TheVariants as status
+use Rattle.step_script.specs.spec_state.declared.task.Task.{Task}
+use Rattle.step_script.specs.spec_state.View.{View, task_at, cores_at, ChangesTask}
+use Rattle.step_script.specs.spec_state.Changes.{Dispatches, Keeps, Accesses, Finishes, with_core, task_past_leg}
+use Rattle.step_script.specs.spec_state.Tasks.{start_core}
+use Rattle.step_script.specs.spec_state.Filters.{HasNotes}
+use Rattle.step_script.proofs.Below.spec_state.Proved.{map_at, told_touched, told_written}
 use Rattle.outcome_law.specs.Alike.{IdPermutation, IsAlikeTask, IsAlikeAt, AreAlike}
 use Rattle.outcome_law.proofs.Alike.{partner}
 use Rattle.outcome_law.proofs.Leasts.{cores_too}
 use Rattle.outcome_law.proofs.Queries.{least_idle_too, lowest_free_too}
 use Rattle.outcome_law.proofs.Picks.{lowest_free_one, task_one}
 use Rattle.outcome_law.proofs.Aborts.{one_to}
-use Rattle.spec_law.proofs.Proved.{one_least_idle}
+use Rattle.step_script.proofs.Below.spec_law.Proved.{one_least_idle}
 
 -- one task changes, and its partner changes alike
 pub changed_alike : (r : IdPermutation) (a b a' b' : View) → AreAlike r a b → (id : ℕ) (s t : Option Task)

@@ -6,11 +6,11 @@ use Rattle.std.proofs.lemmas.Bool.{cases_eq, cases_lt}
 use Rattle.std.proofs.lemmas.List.Elements.{All-contains}
 use Rattle.fractal_vt.proofs.Proved.{AllPairs-head, AllPairs-tail}
 use Rattle.memory_law.specs.Tasks.{In}
-use Rattle.spec_law.proofs.Proved.{contains_in, in_contains, not_both_ways}
-use Rattle.spec_state.specs.declared.reserving.TheConstants.{MAX_MOVED}
-use Rattle.spec_state.specs.View.{View}
-use Rattle.spec_state.specs.Least.{Precedes}
-use Rattle.spec_state.specs.Room.{IsMovable, AreChosen}
+use Rattle.step_script.proofs.Below.spec_law.Proved.{contains_in, in_contains, not_both_ways}
+use Rattle.step_script.specs.spec_state.declared.reserving.TheConstants.{MAX_MOVED}
+use Rattle.step_script.specs.spec_state.View.{View}
+use Rattle.step_script.specs.spec_state.Least.{Precedes}
+use Rattle.step_script.specs.spec_state.Room.{IsMovable, AreChosen}
 
 -- ---- a number is in a list, or it isn't
 

@@ -3,13 +3,13 @@
 use Rattle.std.proofs.Common.{◌≡◌, zero, suc, ℕ, true, [], ◌∷◌, refl, sym, ap, subst, ◌∙◌, arith}
 use Rattle.std.specs.List.{AllByRecursion}
 use Rattle.guest_image.specs.ImageValue.{ImageValue}
-use Rattle.spec_law.specs.Sound.{Sound}
-use Rattle.event_def.specs.declared.event.Reply.TheVariants as replies
-use Rattle.event_def.specs.Advancing.{AdvancesBy}
-use Rattle.event_def.specs.Book.{BookView}
-use Rattle.event_def.specs.Events.{IsGiven}
-use Rattle.event_def.specs.Happens.{Happens}
-use Rattle.event_law.proofs.Proved.{event_stays_sound, happens_keeps, next_event_is_given}
+use Rattle.step_script.specs.spec_law.Sound.{Sound}
+use Rattle.step_script.specs.event_def.declared.event.Reply.TheVariants as replies
+use Rattle.step_script.specs.event_def.Advancing.{AdvancesBy}
+use Rattle.step_script.specs.event_def.Book.{BookView}
+use Rattle.step_script.specs.event_def.Events.{IsGiven}
+use Rattle.step_script.specs.event_def.Happens.{Happens}
+use Rattle.step_script.proofs.Below.event_law.Proved.{event_stays_sound, happens_keeps, next_event_is_given}
 use Rattle.outcome_law.specs.Laws.{AreSameBooks, EventsAreOne, LeastRunIsOne, CloseIsOne}
 use Rattle.outcome_law.proofs.Aborts.{undone_alike}
 use Rattle.outcome_law.proofs.Nexts.{next_one}

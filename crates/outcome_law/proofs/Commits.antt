@@ -5,13 +5,13 @@ use Rattle.std.specs.Prelude.{not, if◌then◌else◌}
 use Rattle.std.proofs.lemmas.Bool.{cases_eq}
 use Rattle.std.proofs.lemmas.Bool.Decides.{nat_tests}
 use Rattle.tile_queues.specs.Queue.{ids_but}
-use Rattle.spec_state.specs.declared.task.Creator.{Creator}
-use Rattle.spec_state.specs.declared.task.Creator.TheVariants.{Committed, Live}
-use Rattle.spec_state.specs.declared.task.Task.{Task}
-use Rattle.spec_state.specs.View.{View, task_at}
-use Rattle.spec_state.specs.Tasks.{depth_of, own_level}
-use Rattle.spec_state.specs.Changes.{creator_after, after_commit, Commits}
-use Rattle.spec_state.proofs.Proved.{one_least}
+use Rattle.step_script.specs.spec_state.declared.task.Creator.{Creator}
+use Rattle.step_script.specs.spec_state.declared.task.Creator.TheVariants.{Committed, Live}
+use Rattle.step_script.specs.spec_state.declared.task.Task.{Task}
+use Rattle.step_script.specs.spec_state.View.{View, task_at}
+use Rattle.step_script.specs.spec_state.Tasks.{depth_of, own_level}
+use Rattle.step_script.specs.spec_state.Changes.{creator_after, after_commit, Commits}
+use Rattle.step_script.proofs.Below.spec_state.Proved.{one_least}
 use Rattle.outcome_law.specs.Alike.{IdPermutation, permuted_creator, IsAlikeTask, IsAlikeAt, AreAlike}
 use Rattle.outcome_law.proofs.Aborts.{one_to}
 use Rattle.outcome_law.proofs.Leasts.{least_too, history_too}

@@ -15,29 +15,31 @@ use Rattle.task_request.specs.declared.request.Request.TheVariants.{Trap}
 use Rattle.task_request.specs.Requests.{request_at}
 use Rattle.undo_log.specs.Number.{number_at}
 use Rattle.undo_log.specs.Undo as undo
-use Rattle.spec_state.specs.declared.task.Status.TheVariants as status
-use Rattle.spec_state.specs.declared.task.Status.TheVariants.{Trapped}
-use Rattle.spec_state.specs.declared.task.Task.{Task}
-use Rattle.spec_state.specs.View.{View, task_at, loads}
-use Rattle.spec_state.specs.Tasks.{is_dispatched, context_of}
-use Rattle.spec_state.specs.Least.{IsLeastTask, IsTheLeast}
-use Rattle.spec_state.specs.Queries.{IsDispatched, Conflicts}
-use Rattle.spec_state.specs.Aborts.{Aborts}
-use Rattle.spec_state.specs.Changes.{TakesLeg, request_of, task_past_leg, Enqueues}
+use Rattle.step_script.specs.spec_state.declared.task.Status.TheVariants as status
+use Rattle.step_script.specs.spec_state.declared.task.Status.TheVariants.{Trapped}
+use Rattle.step_script.specs.spec_state.declared.task.Task.{Task}
+use Rattle.step_script.specs.spec_state.View.{View, task_at, loads}
+use Rattle.step_script.specs.spec_state.Tasks.{is_dispatched, context_of}
+use Rattle.step_script.specs.spec_state.Least.{IsLeastTask, IsTheLeast}
+use Rattle.step_script.specs.spec_state.Queries.{IsDispatched, Conflicts}
+use Rattle.step_script.specs.spec_state.Aborts.{Aborts}
+use Rattle.step_script.specs.spec_state.Changes.{TakesLeg, request_of, task_past_leg, Enqueues}
 use Rattle.std.proofs.lemmas.List.{length-map}
 use Rattle.rv_table.specs.declared.instr.LoadWidth.{LoadWidth}
-use Rattle.spec_state.specs.Room.{Enqueuer, Splitter, MakesRoom, asker_of}
-use Rattle.spec_law.specs.RoomLaws.{AsksAsLeast}
-use Rattle.spec_law.specs.Sound.{Sound}
-use Rattle.event_def.specs.Book.{BookView, picked_tile, placers_after_commit}
-use Rattle.event_def.specs.declared.event.Event.{Event}
-use Rattle.event_def.specs.declared.event.Event.TheVariants as event
-use Rattle.event_def.specs.Events.{DispatchEvent, LoadEvent, StoreEvent, EnqueueEvent, EndEvent, ComesTo, StepEvent}
-use Rattle.event_def.specs.Events.{AbortEvent, SplitEvent, Makes}
-use Rattle.event_law.proofs.Proved.{running_is_dispatched, least_is_heir, room_follows, asker_is_there, spilled_asks}
-use Rattle.event_law.proofs.Proved.{spilled_no_heir}
-use Rattle.event_law.proofs.Proved.{running_is_busy}
-use Rattle.event_basis.proofs.Proved.{finished_is_dispatched, holder_is_dispatched}
+use Rattle.step_script.specs.spec_state.Room.{Enqueuer, Splitter, MakesRoom, asker_of}
+use Rattle.step_script.specs.spec_law.RoomLaws.{AsksAsLeast}
+use Rattle.step_script.specs.spec_law.Sound.{Sound}
+use Rattle.step_script.specs.event_def.Book.{BookView, picked_tile, placers_after_commit}
+use Rattle.step_script.specs.event_def.declared.event.Event.{Event}
+use Rattle.step_script.specs.event_def.declared.event.Event.TheVariants as event
+use Rattle.step_script.specs.event_def.Events.{DispatchEvent, LoadEvent, StoreEvent, EnqueueEvent, EndEvent, ComesTo}
+use Rattle.step_script.specs.event_def.Events.{StepEvent}
+use Rattle.step_script.specs.event_def.Events.{AbortEvent, SplitEvent, Makes}
+use Rattle.step_script.proofs.Below.event_law.Proved.{running_is_dispatched, least_is_heir, room_follows}
+use Rattle.step_script.proofs.Below.event_law.Proved.{asker_is_there, spilled_asks}
+use Rattle.step_script.proofs.Below.event_law.Proved.{spilled_no_heir}
+use Rattle.step_script.proofs.Below.event_law.Proved.{running_is_busy}
+use Rattle.step_script.proofs.Below.event_basis.Proved.{finished_is_dispatched, holder_is_dispatched}
 use Rattle.outcome_law.specs.Alike.{IdPermutation, inverse_of, IsAlikeTask, AreAlike}
 use Rattle.outcome_law.specs.Alike.{AreAlikeBooks}
 use Rattle.outcome_law.proofs.Alike.{alike_turned, task_turned}

@@ -8,15 +8,17 @@ use Rattle.fractal_vt.specs.declared.key.Key.{Key}
 use Rattle.run_journal.specs.declared.end.End.{End}
 use Rattle.run_journal.specs.declared.end.End.TheVariants as ends
 use Rattle.task_desc.specs.declared.desc.Name.{Name}
-use Rattle.spec_state.specs.declared.task.Creator.{Creator}
-use Rattle.spec_state.specs.declared.task.Creator.TheVariants.{Committed, Live}
-use Rattle.spec_state.specs.declared.task.Task.{Task}
-use Rattle.spec_state.specs.View.{View, queue_at, finished_at, cores_at, block_at}
-use Rattle.spec_state.specs.Tasks.{is_dispatched}
-use Rattle.spec_state.specs.Least.{Spot, Queued, Spilled_at, IsQueuedAt, HasKey, ranked_cmp, IsLeastSpot, IsLeastTask}
-use Rattle.spec_state.specs.Least.{IsTheLeast, IsLeastSpilled, IsAllCommitted, IsHeir, IsFirm, HasName, Precedes}
-use Rattle.spec_state.proofs.Proved.{map_at}
-use Rattle.event_def.specs.End.{HasEnd, IsOver, LeastIsTrapped}
+use Rattle.step_script.specs.spec_state.declared.task.Creator.{Creator}
+use Rattle.step_script.specs.spec_state.declared.task.Creator.TheVariants.{Committed, Live}
+use Rattle.step_script.specs.spec_state.declared.task.Task.{Task}
+use Rattle.step_script.specs.spec_state.View.{View, queue_at, finished_at, cores_at, block_at}
+use Rattle.step_script.specs.spec_state.Tasks.{is_dispatched}
+use Rattle.step_script.specs.spec_state.Least.{Spot, Queued, Spilled_at, IsQueuedAt, HasKey, ranked_cmp, IsLeastSpot}
+use Rattle.step_script.specs.spec_state.Least.{IsLeastTask}
+use Rattle.step_script.specs.spec_state.Least.{IsTheLeast, IsLeastSpilled, IsAllCommitted, IsHeir, IsFirm, HasName}
+use Rattle.step_script.specs.spec_state.Least.{Precedes}
+use Rattle.step_script.proofs.Below.spec_state.Proved.{map_at}
+use Rattle.step_script.specs.event_def.End.{HasEnd, IsOver, LeastIsTrapped}
 use Rattle.outcome_law.specs.Alike.{IdPermutation, inverse_of, permuted_creator, IsAlikeTask, AreAlike}
 use Rattle.outcome_law.specs.Laws.{EndIsAlike}
 use Rattle.outcome_law.proofs.Alike.{partner, alike_turned}

@@ -21,3 +21,4 @@ pub mod Scripts
 pub mod Opened
 pub mod Stops
 pub mod Proved
+pub mod Below

@@ -4,8 +4,8 @@ use Rattle.std.proofs.Common.{Option, Some, None, option_map, is_some, refl, sym
 use Rattle.std.specs.Prelude.{slice_get, slice_index_or, Contains, filter, count_by}
 use Rattle.std.proofs.lemmas.List.{get_or-set_other}
 use Rattle.std.proofs.lemmas.List.Sums.{sum_by-cons}
-use Rattle.task_law.specs.Room.{RoomTask, queue_after}
-use Rattle.spec_law.proofs.Proved.{get_mapped, queue_filtered, contains_get, get_contains}
+use Rattle.step_script.specs.task_law.Room.{RoomTask, queue_after}
+use Rattle.step_script.proofs.Below.spec_law.Proved.{get_mapped, queue_filtered, contains_get, get_contains}
 
 pub contains_mapped : {X Y : Type 0} (f : X → Y) (xs : List X) (x : X) → Contains xs x → Contains (map f xs) (f x)
 contains_mapped f xs x has =

@@ -8,19 +8,19 @@ use Rattle.std.proofs.lemmas.List.Elements.{All-contains_itself}
 use Rattle.fractal_vt.proofs.Proved.{AllPairs-map}
 use Rattle.spill_store.specs.SpilledTasks.{Spilled}
 use Rattle.spill_store.specs.Pushing.{after_pushes}
-use Rattle.task_law.specs.Room.{queue_after}
+use Rattle.step_script.specs.task_law.Room.{queue_after}
 use Rattle.task_desc.specs.declared.desc.Name.{Name}
 use Rattle.memory_law.specs.Tasks.{In}
-use Rattle.spec_state.specs.declared.task.Creator.{Creator}
-use Rattle.spec_state.specs.declared.task.Creator.TheVariants.{Committed, Live}
-use Rattle.spec_state.specs.declared.task.Task.{Task}
-use Rattle.spec_state.specs.declared.reserving.TheConstants.{MAX_MOVED}
-use Rattle.spec_state.specs.View.{View, task_at}
-use Rattle.spec_state.specs.Tasks.{descriptor_of, spilled_as}
-use Rattle.spec_state.specs.Groups.{room_tasks}
-use Rattle.spec_state.specs.Least.{HasName, Precedes}
-use Rattle.spec_state.specs.Room.{IsMovable, AreChosen, IsSpilledAs, Coalesces}
-use Rattle.spec_law.proofs.Proved.{contains_in, in_contains}
+use Rattle.step_script.specs.spec_state.declared.task.Creator.{Creator}
+use Rattle.step_script.specs.spec_state.declared.task.Creator.TheVariants.{Committed, Live}
+use Rattle.step_script.specs.spec_state.declared.task.Task.{Task}
+use Rattle.step_script.specs.spec_state.declared.reserving.TheConstants.{MAX_MOVED}
+use Rattle.step_script.specs.spec_state.View.{View, task_at}
+use Rattle.step_script.specs.spec_state.Tasks.{descriptor_of, spilled_as}
+use Rattle.step_script.specs.spec_state.Groups.{room_tasks}
+use Rattle.step_script.specs.spec_state.Least.{HasName, Precedes}
+use Rattle.step_script.specs.spec_state.Room.{IsMovable, AreChosen, IsSpilledAs, Coalesces}
+use Rattle.step_script.proofs.Below.spec_law.Proved.{contains_in, in_contains}
 use Rattle.outcome_law.specs.Alike.{IdPermutation, inverse_of, permuted_creator, IsAlikeAt, AreAlike}
 use Rattle.outcome_law.proofs.Alike.{partner, alike_turned}
 use Rattle.outcome_law.proofs.Aborts.{was_in, in_permuted, one_to, there_same}

@@ -14,16 +14,16 @@ use Rattle.rv_core.specs.LegValue.{LegValue}
 use Rattle.spill_store.specs.SpilledTasks.{Spilled, open_key, IsLeastInBlock}
 use Rattle.task_desc.specs.declared.desc.Name.{Name}
 use Rattle.task_desc.specs.declared.desc.Spawn.{Spawn}
-use Rattle.spec_state.specs.declared.task.Creator.{Creator}
-use Rattle.spec_state.specs.declared.task.Creator.TheVariants.{Committed, Live}
-use Rattle.spec_state.specs.declared.task.Task.{Task}
-use Rattle.spec_state.specs.View.{View, task_at, block_at, queued_last, ChangesTask}
-use Rattle.spec_state.specs.Tasks.{Descriptor, idle_task, spilled_descriptor, child_descriptor}
-use Rattle.spec_state.specs.Changes.{Enqueues, task_past_leg}
-use Rattle.spec_state.specs.Least.{HasName}
-use Rattle.spec_state.specs.Room.{Splits}
-use Rattle.spec_state.proofs.Proved.{one_least}
-use Rattle.spec_law.proofs.Proved.{get_contains}
+use Rattle.step_script.specs.spec_state.declared.task.Creator.{Creator}
+use Rattle.step_script.specs.spec_state.declared.task.Creator.TheVariants.{Committed, Live}
+use Rattle.step_script.specs.spec_state.declared.task.Task.{Task}
+use Rattle.step_script.specs.spec_state.View.{View, task_at, block_at, queued_last, ChangesTask}
+use Rattle.step_script.specs.spec_state.Tasks.{Descriptor, idle_task, spilled_descriptor, child_descriptor}
+use Rattle.step_script.specs.spec_state.Changes.{Enqueues, task_past_leg}
+use Rattle.step_script.specs.spec_state.Least.{HasName}
+use Rattle.step_script.specs.spec_state.Room.{Splits}
+use Rattle.step_script.proofs.Below.spec_state.Proved.{one_least}
+use Rattle.step_script.proofs.Below.spec_law.Proved.{get_contains}
 use Rattle.outcome_law.specs.Alike.{IdPermutation, permuted_creator, IsAlikeTask, IsAlikeAt, AreAlike}
 use Rattle.outcome_law.proofs.Alike.{partner}
 use Rattle.outcome_law.proofs.Aborts.{one_to}

@@ -8,16 +8,16 @@ use Rattle.rv_core.specs.declared.state.Stop.{Stop}
 use Rattle.rv_core.specs.Next.{Next, Goes, Stops}
 use Rattle.rv_core.specs.Legs.{next_at, PlainInstructions, IsLeg}
 use Rattle.rv_core.specs.LegValue.{LegValue}
-use Rattle.spec_state.specs.declared.task.Status.{Status}
-use Rattle.spec_state.specs.declared.task.Status.TheVariants.{Idle, Running, Trapped, Finished}
-use Rattle.spec_state.specs.declared.task.Task.{Task}
-use Rattle.spec_state.specs.View.{View, task_at}
-use Rattle.spec_state.specs.Least.{Spot, Queued, Spilled_at, IsLeastTask, IsLeastSpilled}
-use Rattle.spec_state.proofs.Proved.{one_least}
-use Rattle.spec_law.proofs.Proved.{least_is_one}
-use Rattle.event_def.specs.declared.event.Event.{Event}
-use Rattle.event_def.specs.declared.event.Event.TheVariants as event
-use Rattle.event_def.specs.Advancing.{IsLegFrom, IsLeastLeg, IsLeastEvent}
+use Rattle.step_script.specs.spec_state.declared.task.Status.{Status}
+use Rattle.step_script.specs.spec_state.declared.task.Status.TheVariants.{Idle, Running, Trapped, Finished}
+use Rattle.step_script.specs.spec_state.declared.task.Task.{Task}
+use Rattle.step_script.specs.spec_state.View.{View, task_at}
+use Rattle.step_script.specs.spec_state.Least.{Spot, Queued, Spilled_at, IsLeastTask, IsLeastSpilled}
+use Rattle.step_script.proofs.Below.spec_state.Proved.{one_least}
+use Rattle.step_script.proofs.Below.spec_law.Proved.{least_is_one}
+use Rattle.step_script.specs.event_def.declared.event.Event.{Event}
+use Rattle.step_script.specs.event_def.declared.event.Event.TheVariants as event
+use Rattle.step_script.specs.event_def.Advancing.{IsLegFrom, IsLeastLeg, IsLeastEvent}
 use Rattle.outcome_law.specs.Alike.{IdPermutation, inverse_of, IsAlikeTask, AreAlike}
 use Rattle.outcome_law.proofs.Alike.{alike_turned}
 use Rattle.outcome_law.proofs.Leasts.{least_too, spilled_too}

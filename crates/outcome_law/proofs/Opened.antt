@@ -8,19 +8,19 @@ use Rattle.guest_image.specs.declared.image.ImageTask.{ImageTask}
 use Rattle.guest_image.specs.declared.image.Kind.{Kind}
 use Rattle.guest_image.specs.ImageValue.{ImageValue}
 use Rattle.place_policy.specs.Serving.{first_placed}
-use Rattle.spec_state.specs.declared.settings.Settings.{Settings}
-use Rattle.task_law.specs.Room.{queue_after}
-use Rattle.spec_state.specs.declared.task.Creator.TheVariants.{Committed}
-use Rattle.spec_state.specs.declared.task.Task.{Task}
-use Rattle.spec_state.specs.View.{View, task_at, queue_at, finished_at, cores_at, queued_last, ChangesTask}
-use Rattle.spec_state.specs.Tasks.{idle_task}
-use Rattle.spec_state.specs.Groups.{room_tasks, live_creator}
-use Rattle.spec_state.specs.Opening.{IsEmptyView}
-use Rattle.spec_state.specs.Room.{QueueHasRoom, IsFull, Coalesces}
-use Rattle.spec_law.proofs.Proved.{queue_filtered, filter_is, contains_in, in_contains}
-use Rattle.event_def.specs.Book.{BookView, picked_tile}
-use Rattle.event_def.specs.Opening.{PlacesImageTask, PlacesAll, opening_book, image_descriptor}
-use Rattle.event_law.proofs.Proved.{kept_at, last_was, opening_is_sound, there_of, none_held}
+use Rattle.step_script.specs.spec_state.declared.settings.Settings.{Settings}
+use Rattle.step_script.specs.task_law.Room.{queue_after}
+use Rattle.step_script.specs.spec_state.declared.task.Creator.TheVariants.{Committed}
+use Rattle.step_script.specs.spec_state.declared.task.Task.{Task}
+use Rattle.step_script.specs.spec_state.View.{View, task_at, queue_at, finished_at, cores_at, queued_last, ChangesTask}
+use Rattle.step_script.specs.spec_state.Tasks.{idle_task}
+use Rattle.step_script.specs.spec_state.Groups.{room_tasks, live_creator}
+use Rattle.step_script.specs.spec_state.Opening.{IsEmptyView}
+use Rattle.step_script.specs.spec_state.Room.{QueueHasRoom, IsFull, Coalesces}
+use Rattle.step_script.proofs.Below.spec_law.Proved.{queue_filtered, filter_is, contains_in, in_contains}
+use Rattle.step_script.specs.event_def.Book.{BookView, picked_tile}
+use Rattle.step_script.specs.event_def.Opening.{PlacesImageTask, PlacesAll, opening_book, image_descriptor}
+use Rattle.step_script.proofs.Below.event_law.Proved.{kept_at, last_was, opening_is_sound, there_of, none_held}
 use Rattle.outcome_law.specs.Alike.{IdPermutation, IsAlikeAt, AreAlike, AreAlikeBooks}
 use Rattle.outcome_law.specs.Laws.{AreSameBooks, OpeningIsOne, ScriptIsOne}
 use Rattle.outcome_law.proofs.Closes.{close_is_one}

@@ -6,20 +6,20 @@ use Rattle.guest_image.specs.ImageValue.{ImageValue}
 use Rattle.trace_tap.specs.declared.record.Record.{Record}
 use Rattle.trace_tap.specs.declared.record.Deed.TheVariants as deed
 use Rattle.trace_tap.specs.TapValue.{after_note}
-use Rattle.spec_state.specs.declared.task.Task.{Task}
-use Rattle.spec_state.specs.View.{View, task_at}
-use Rattle.spec_state.specs.Changes.{TakesLeg, request_of}
-use Rattle.spec_state.proofs.Proved.{one_least}
-use Rattle.spec_law.specs.Sound.{Sound}
-use Rattle.event_def.specs.declared.event.Event.{Event}
-use Rattle.event_def.specs.declared.event.Event.TheVariants as event
-use Rattle.event_def.specs.declared.event.Reply.{Reply}
-use Rattle.event_def.specs.declared.event.Reply.TheVariants as replies
-use Rattle.event_def.specs.Book.{BookView, next_count}
-use Rattle.event_def.specs.Causes.{IsRefused, IsGranted}
-use Rattle.event_def.specs.Happens.{Happens, IsMade, Refuses, IsUnchanged}
-use Rattle.event_def.specs.Trace.{IsRecord, record_of, deed_of, line_of_request}
-use Rattle.event_law.proofs.Proved.{reply_is_one, refusals_change_nothing}
+use Rattle.step_script.specs.spec_state.declared.task.Task.{Task}
+use Rattle.step_script.specs.spec_state.View.{View, task_at}
+use Rattle.step_script.specs.spec_state.Changes.{TakesLeg, request_of}
+use Rattle.step_script.proofs.Below.spec_state.Proved.{one_least}
+use Rattle.step_script.specs.spec_law.Sound.{Sound}
+use Rattle.step_script.specs.event_def.declared.event.Event.{Event}
+use Rattle.step_script.specs.event_def.declared.event.Event.TheVariants as event
+use Rattle.step_script.specs.event_def.declared.event.Reply.{Reply}
+use Rattle.step_script.specs.event_def.declared.event.Reply.TheVariants as replies
+use Rattle.step_script.specs.event_def.Book.{BookView, next_count}
+use Rattle.step_script.specs.event_def.Causes.{IsRefused, IsGranted}
+use Rattle.step_script.specs.event_def.Happens.{Happens, IsMade, Refuses, IsUnchanged}
+use Rattle.step_script.specs.event_def.Trace.{IsRecord, record_of, deed_of, line_of_request}
+use Rattle.step_script.proofs.Below.event_law.Proved.{reply_is_one, refusals_change_nothing}
 use Rattle.outcome_law.specs.Alike.{IdPermutation, inverse_of, IsAlikeTask, AreAlike, AreAlikeBooks}
 use Rattle.outcome_law.specs.Laws.{AreSameBooks, IsSameOutcome, OutcomeIsOne}
 use Rattle.outcome_law.proofs.Alike.{alike_turned}

@@ -3,12 +3,12 @@ use Rattle.std.proofs.Common.{◌≡◌, ◌<◌, ℕ, true, Option, Some, sym, 
 use Rattle.std.proofs.lemmas.Bool.{cases_eq}
 use Rattle.fractal_vt.specs.Keys.{key_cmp}
 use Rattle.fractal_vt.proofs.Proved.{key_cmp_total}
-use Rattle.spec_state.specs.declared.task.Task.{Task}
-use Rattle.spec_state.specs.View.{View, task_at}
-use Rattle.spec_state.specs.Tasks.{is_dispatched}
-use Rattle.spec_state.specs.Queries.{IsLatest, IsLowestFree}
-use Rattle.spec_law.specs.Sound.{SoundOrder}
-use Rattle.spec_law.proofs.Proved.{no_tie, not_greater_ties}
+use Rattle.step_script.specs.spec_state.declared.task.Task.{Task}
+use Rattle.step_script.specs.spec_state.View.{View, task_at}
+use Rattle.step_script.specs.spec_state.Tasks.{is_dispatched}
+use Rattle.step_script.specs.spec_state.Queries.{IsLatest, IsLowestFree}
+use Rattle.step_script.specs.spec_law.Sound.{SoundOrder}
+use Rattle.step_script.proofs.Below.spec_law.Proved.{no_tie, not_greater_ties}
 
 pub lowest_free_one : (view : View) (tile p q : ℕ) → IsLowestFree view tile p → IsLowestFree view tile q → p ≡ q
 lowest_free_one view tile p q one two =

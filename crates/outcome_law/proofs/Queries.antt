@@ -4,12 +4,14 @@ use Rattle.std.specs.Prelude.{slice_get, Contains}
 use Rattle.std.specs.declared.cmp.Ordering.TheVariants.{Greater}
 use Rattle.std.proofs.lemmas.Option.{slice_get-map}
 use Rattle.fractal_vt.specs.Keys.{key_cmp}
-use Rattle.spec_state.specs.declared.task.Task.{Task}
-use Rattle.spec_state.specs.View.{View, queue_at, finished_at, cores_at}
-use Rattle.spec_state.specs.Tasks.{is_dispatched}
-use Rattle.spec_state.specs.Least.{Precedes}
-use Rattle.spec_state.specs.Queries.{IsQueued, IsIdle, IsLeastIdle, IsIdleFirm, IsDispatched, IsOnCore, IsRunning}
-use Rattle.spec_state.specs.Queries.{IsFinished, IsLatest, IsFreeCore, IsLowestFree, IsLater, HasLine, Conflicts}
+use Rattle.step_script.specs.spec_state.declared.task.Task.{Task}
+use Rattle.step_script.specs.spec_state.View.{View, queue_at, finished_at, cores_at}
+use Rattle.step_script.specs.spec_state.Tasks.{is_dispatched}
+use Rattle.step_script.specs.spec_state.Least.{Precedes}
+use Rattle.step_script.specs.spec_state.Queries.{IsQueued, IsIdle, IsLeastIdle, IsIdleFirm, IsDispatched, IsOnCore}
+use Rattle.step_script.specs.spec_state.Queries.{IsRunning}
+use Rattle.step_script.specs.spec_state.Queries.{IsFinished, IsLatest, IsFreeCore, IsLowestFree, IsLater, HasLine}
+use Rattle.step_script.specs.spec_state.Queries.{Conflicts}
 use Rattle.outcome_law.specs.Alike.{IdPermutation, inverse_of, IsAlikeTask, AreAlike}
 use Rattle.outcome_law.proofs.Alike.{partner, alike_turned}
 use Rattle.outcome_law.proofs.Leasts.{queue_too, finished_too, cores_too, firm_too, precedes_too}

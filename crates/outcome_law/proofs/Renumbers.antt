@@ -5,16 +5,17 @@ use Rattle.std.specs.Prelude.{slice_index_or, Contains}
 use Rattle.std.proofs.lemmas.List.Kept.{AllPairs-from_increasing}
 use Rattle.spill_store.specs.SpilledTasks.{renumbered_spilled}
 use Rattle.fractal_vt.specs.Renumbered.{renumbered_levels}
-use Rattle.spec_state.specs.declared.task.Task.{Task}
-use Rattle.spec_state.specs.View.{View, task_at}
-use Rattle.spec_state.specs.Groups.{all_spilled}
-use Rattle.spec_state.specs.Numbers.{IsTieOf, IsInUse, on_path, in_domain, of_task, of_spilled, IsNumberTable}
-use Rattle.spec_state.specs.Numbers.{renumbered_task, Renumbers, FreesNumber, has_free, renumbers}
-use Rattle.spec_state.proofs.Proved.{map_at}
+use Rattle.step_script.specs.spec_state.declared.task.Task.{Task}
+use Rattle.step_script.specs.spec_state.View.{View, task_at}
+use Rattle.step_script.specs.spec_state.Groups.{all_spilled}
+use Rattle.step_script.specs.spec_state.Numbers.{IsTieOf, IsInUse, on_path, in_domain, of_task, of_spilled}
+use Rattle.step_script.specs.spec_state.Numbers.{IsNumberTable}
+use Rattle.step_script.specs.spec_state.Numbers.{renumbered_task, Renumbers, FreesNumber, has_free, renumbers}
+use Rattle.step_script.proofs.Below.spec_state.Proved.{map_at}
 use Rattle.outcome_law.specs.Alike.{IdPermutation, inverse_of, IsAlikeAt, AreAlike}
 use Rattle.outcome_law.proofs.Alike.{partner, alike_turned}
 use Rattle.outcome_law.proofs.Chosen.{rises, one_order}
-use Rattle.spec_law.proofs.Proved.{contains_in, in_contains}
+use Rattle.step_script.proofs.Below.spec_law.Proved.{contains_in, in_contains}
 
 -- no two numbers are each below the other
 both_below : (x y : ℕ) → Unit {0} → Unit {0} → x < y → y < x → ⊥

@@ -4,23 +4,25 @@ use Rattle.std.proofs.Common.{inl, inr, arith}
 use Rattle.std.specs.Prelude.{Contains}
 use Rattle.std.proofs.lemmas.Bool.{cases_eq}
 use Rattle.std.proofs.lemmas.List.{length-map}
-use Rattle.spec_state.specs.declared.task.Creator.{Creator}
-use Rattle.spec_state.specs.declared.task.Creator.TheVariants.{Committed, Live}
-use Rattle.spec_state.specs.declared.task.TaskId.{TaskId}
-use Rattle.spec_state.specs.declared.task.Task.{Task}
-use Rattle.spec_state.specs.View.{View, task_at, queue_at, finished_at}
-use Rattle.spec_state.specs.Tasks.{is_dispatched}
-use Rattle.spec_state.specs.Groups.{live_creator}
-use Rattle.spec_state.specs.Least.{Precedes}
-use Rattle.spec_state.specs.Queries.{IsOnCore, IsFinished, IsFreeCore, IsLatest}
-use Rattle.spec_state.specs.Aborts.{Aborts, OnlyNode}
-use Rattle.spec_state.specs.Room.{Asker, Enqueuer, Splitter, IsLeastAsker, IsVictim, QueueHasRoom, IsFull, NoneMoves}
-use Rattle.spec_state.specs.Room.{Coalesces, MakesRoom, queue_has_room, coalesces, aborts_victim, aborts_creator}
-use Rattle.event_def.specs.Causes.{AllCoresHeld}
-use Rattle.event_def.specs.Events.{FreesCore, FreesCommit}
-use Rattle.event_def.specs.Events as ended
-use Rattle.spec_law.specs.Sound.{SoundOrder}
-use Rattle.spec_law.proofs.Proved.{in_contains, not_both_ways}
+use Rattle.step_script.specs.spec_state.declared.task.Creator.{Creator}
+use Rattle.step_script.specs.spec_state.declared.task.Creator.TheVariants.{Committed, Live}
+use Rattle.step_script.specs.spec_state.declared.task.TaskId.{TaskId}
+use Rattle.step_script.specs.spec_state.declared.task.Task.{Task}
+use Rattle.step_script.specs.spec_state.View.{View, task_at, queue_at, finished_at}
+use Rattle.step_script.specs.spec_state.Tasks.{is_dispatched}
+use Rattle.step_script.specs.spec_state.Groups.{live_creator}
+use Rattle.step_script.specs.spec_state.Least.{Precedes}
+use Rattle.step_script.specs.spec_state.Queries.{IsOnCore, IsFinished, IsFreeCore, IsLatest}
+use Rattle.step_script.specs.spec_state.Aborts.{Aborts, OnlyNode}
+use Rattle.step_script.specs.spec_state.Room.{Asker, Enqueuer, Splitter, IsLeastAsker, IsVictim, QueueHasRoom, IsFull}
+use Rattle.step_script.specs.spec_state.Room.{NoneMoves}
+use Rattle.step_script.specs.spec_state.Room.{Coalesces, MakesRoom, queue_has_room, coalesces, aborts_victim}
+use Rattle.step_script.specs.spec_state.Room.{aborts_creator}
+use Rattle.step_script.specs.event_def.Causes.{AllCoresHeld}
+use Rattle.step_script.specs.event_def.Events.{FreesCore, FreesCommit}
+use Rattle.step_script.specs.event_def.Events as ended
+use Rattle.step_script.specs.spec_law.Sound.{SoundOrder}
+use Rattle.step_script.proofs.Below.spec_law.Proved.{in_contains, not_both_ways}
 use Rattle.outcome_law.specs.Alike.{IdPermutation, inverse_of, IsAlikeTask, AreAlike}
 use Rattle.outcome_law.proofs.Alike.{partner, alike_turned, task_turned}
 use Rattle.outcome_law.proofs.Aborts.{AreFirsts, AbortAlike, aborts_alike, one_to, live_permuted}

@@ -5,20 +5,20 @@ use Rattle.guest_image.specs.ImageValue.{ImageValue}
 use Rattle.rv_core.specs.declared.state.Stop.TheVariants as stop
 use Rattle.rv_core.specs.LegValue.{LegValue, IsLegOfImage}
 use Rattle.rv_core.specs.Legs.{IsLeg}
-use Rattle.spec_state.specs.declared.settings.Settings.{Settings}
-use Rattle.spec_state.specs.declared.task.Task.{Task}
-use Rattle.spec_law.specs.Sound.{Sound}
-use Rattle.event_def.specs.declared.event.Advance.{Advance}
-use Rattle.event_def.specs.declared.event.Advance.TheVariants as answers
-use Rattle.event_def.specs.declared.event.Event.{Event}
-use Rattle.event_def.specs.declared.event.Event.TheVariants as event
-use Rattle.event_def.specs.declared.event.Reply.{Reply}
-use Rattle.event_def.specs.declared.event.Reply.TheVariants as replies
-use Rattle.event_def.specs.Advancing.{AdvanceAnswers, IsNoCommit, IsNextEvent}
-use Rattle.event_def.specs.End.{IsOver}
-use Rattle.event_def.specs.Events.{IsGiven}
-use Rattle.event_def.specs.Happens.{Happens}
-use Rattle.event_law.proofs.Proved.{running_within, next_event_is_given, happens_keeps, leg_is_run}
+use Rattle.step_script.specs.spec_state.declared.settings.Settings.{Settings}
+use Rattle.step_script.specs.spec_state.declared.task.Task.{Task}
+use Rattle.step_script.specs.spec_law.Sound.{Sound}
+use Rattle.step_script.specs.event_def.declared.event.Advance.{Advance}
+use Rattle.step_script.specs.event_def.declared.event.Advance.TheVariants as answers
+use Rattle.step_script.specs.event_def.declared.event.Event.{Event}
+use Rattle.step_script.specs.event_def.declared.event.Event.TheVariants as event
+use Rattle.step_script.specs.event_def.declared.event.Reply.{Reply}
+use Rattle.step_script.specs.event_def.declared.event.Reply.TheVariants as replies
+use Rattle.step_script.specs.event_def.Advancing.{AdvanceAnswers, IsNoCommit, IsNextEvent}
+use Rattle.step_script.specs.event_def.End.{IsOver}
+use Rattle.step_script.specs.event_def.Events.{IsGiven}
+use Rattle.step_script.specs.event_def.Happens.{Happens}
+use Rattle.step_script.proofs.Below.event_law.Proved.{running_within, next_event_is_given, happens_keeps, leg_is_run}
 use Rattle.step_script.specs.declared.act.Act.{Act}
 use Rattle.step_script.specs.declared.act.Act.TheVariants as acts
 use Rattle.step_script.specs.declared.saying.Said.{Said}

@@ -5,11 +5,11 @@ use Rattle.std.proofs.lemmas.List.{take-append-drop, take-take}
 use Rattle.guest_image.specs.ImageValue.{ImageValue, IsImage}
 use Rattle.place_policy.specs.Policy.{Policy}
 use Rattle.trace_tap.specs.TapValue.{TapValue}
-use Rattle.spec_state.specs.declared.settings.Settings.{Settings}
-use Rattle.spec_state.specs.Settings.{IsValid}
-use Rattle.event_def.specs.Book.{BookView}
-use Rattle.event_def.specs.Opening.{IsOpening}
-use Rattle.event_law.proofs.Proved.{opening_is_sound}
+use Rattle.step_script.specs.spec_state.declared.settings.Settings.{Settings}
+use Rattle.step_script.specs.spec_state.Settings.{IsValid}
+use Rattle.step_script.specs.event_def.Book.{BookView}
+use Rattle.step_script.specs.event_def.Opening.{IsOpening}
+use Rattle.step_script.proofs.Below.event_law.Proved.{opening_is_sound}
 use Rattle.step_script.specs.declared.act.Act.{Act}
 use Rattle.step_script.specs.declared.saying.Said.{Said}
 use Rattle.step_script.specs.Playing.{PlayState, DoesAll, Plays}

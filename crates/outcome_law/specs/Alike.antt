@@ -1,12 +1,12 @@
--- Views, and books of them, that are alike: the same but for the ids of tasks, what stands behind the last task, and
--- how a filter holds its lines.
+-- Views, and books of them, that are alike: the same but for the ids of tasks, what follows the last task, and how a
+-- filter holds its lines.
 use Rattle.std.specs.Prelude.{◌≡◌, ℕ, map, Option, Some, None, option_map}
-use Rattle.spec_state.specs.declared.task.Creator.{Creator}
-use Rattle.spec_state.specs.declared.task.Creator.TheVariants.{Committed, Live}
-use Rattle.spec_state.specs.declared.task.Task.{Task}
-use Rattle.spec_state.specs.Filters.{has_touched, has_written}
-use Rattle.spec_state.specs.View.{View, task_at}
-use Rattle.event_def.specs.Book.{BookView}
+use Rattle.step_script.specs.spec_state.declared.task.Creator.{Creator}
+use Rattle.step_script.specs.spec_state.declared.task.Creator.TheVariants.{Committed, Live}
+use Rattle.step_script.specs.spec_state.declared.task.Task.{Task}
+use Rattle.step_script.specs.spec_state.Filters.{has_touched, has_written}
+use Rattle.step_script.specs.spec_state.View.{View, task_at}
+use Rattle.step_script.specs.event_def.Book.{BookView}
 
 -- each id is given an id, maybe the same, and no two are given the same one: all ids, so that it maps lists of them,
 -- and a new task swaps two of them
@@ -31,7 +31,7 @@ pub record IsAlikeTask (to : ℕ → ℕ) (x y : Task) : Type 0 where
   pub touched : (line : ℕ) → has_touched y line ≡ has_touched x line
   pub written : (line : ℕ) → has_written y line ≡ has_written x line
 
--- likewise of what may stand under an id
+-- what is under one id in two views that are alike
 abbrev pub IsAlikeAt : (ℕ → ℕ) → Option Task → Option Task → Type 0
 IsAlikeAt to None None = Unit {0}
 IsAlikeAt to (Some x) (Some y) = IsAlikeTask to x y

@@ -1,26 +1,26 @@
 -- Laws of views and books that are alike.
 use Rattle.std.specs.Prelude.{◌≡◌, ◌≢◌, ℕ, List, All}
 use Rattle.guest_image.specs.ImageValue.{ImageValue, IsImage}
-use Rattle.spec_state.specs.Settings.{IsValid}
+use Rattle.step_script.specs.spec_state.Settings.{IsValid}
 use Rattle.std.specs.List.{AllByRecursion}
 use Rattle.run_journal.specs.declared.closed.Closed.{Closed}
 use Rattle.run_journal.specs.declared.end.End.{End}
-use Rattle.event_def.specs.Advancing.{AdvancesBy}
-use Rattle.event_def.specs.Closing.{Closes}
-use Rattle.spec_state.specs.View.{View}
+use Rattle.step_script.specs.event_def.Advancing.{AdvancesBy}
+use Rattle.step_script.specs.event_def.Closing.{Closes}
+use Rattle.step_script.specs.spec_state.View.{View}
 use Rattle.place_policy.specs.Policy.{Policy}
 use Rattle.trace_tap.specs.TapValue.{TapValue}
-use Rattle.spec_state.specs.declared.settings.Settings.{Settings}
-use Rattle.event_def.specs.Opening.{IsOpening}
-use Rattle.spec_law.specs.Sound.{Sound}
-use Rattle.event_def.specs.declared.event.Applied.{Applied}
-use Rattle.event_def.specs.declared.event.Event.{Event}
-use Rattle.event_def.specs.declared.event.Reply.{Reply}
-use Rattle.event_def.specs.declared.event.Reply.TheVariants as replies
-use Rattle.event_def.specs.Book.{BookView}
-use Rattle.event_def.specs.End.{HasEnd}
-use Rattle.event_def.specs.Events.{IsGiven}
-use Rattle.event_def.specs.Happens.{Happens, HappenAll}
+use Rattle.step_script.specs.spec_state.declared.settings.Settings.{Settings}
+use Rattle.step_script.specs.event_def.Opening.{IsOpening}
+use Rattle.step_script.specs.spec_law.Sound.{Sound}
+use Rattle.step_script.specs.event_def.declared.event.Applied.{Applied}
+use Rattle.step_script.specs.event_def.declared.event.Event.{Event}
+use Rattle.step_script.specs.event_def.declared.event.Reply.{Reply}
+use Rattle.step_script.specs.event_def.declared.event.Reply.TheVariants as replies
+use Rattle.step_script.specs.event_def.Book.{BookView}
+use Rattle.step_script.specs.event_def.End.{HasEnd}
+use Rattle.step_script.specs.event_def.Events.{IsGiven}
+use Rattle.step_script.specs.event_def.Happens.{Happens, HappenAll}
 use Rattle.step_script.specs.declared.act.Act.{Act}
 use Rattle.step_script.specs.declared.saying.Said.{Said}
 use Rattle.step_script.specs.Playing.{Plays}
@@ -35,13 +35,13 @@ EndIsAlike = (r : IdPermutation) (a b : View) (end : End) → AreAlike r a b →
 abbrev pub AreSameBooks : BookView → BookView → Type 0
 AreSameBooks a b = (r : IdPermutation) × AreAlikeBooks r a b
 
--- one reply, as many taken back, and books that are alike
+-- one reply, as many aborted tasks, and books that are alike
 pub record IsSameOutcome (reply other : Reply) (aborted other_aborted : ℕ) (new other_new : BookView) : Type 0 where
   pub reply_is : other ≡ reply
   pub aborted_is : other_aborted ≡ aborted
   pub books : AreSameBooks new other_new
 
--- what comes of one event on sound books that are alike is one thing, want of memory aside
+-- the outcome of one event on sound books that are alike is unique, unless memory runs out
 abbrev pub OutcomeIsOne : Type 0 → Type 0
 OutcomeIsOne N =
     (image : ImageValue) (old other_old new other_new : BookView) (event : Event N) (reply other : Reply)
@@ -55,8 +55,8 @@ OutcomeIsOne N =
 abbrev pub HasMemory : Applied → Type 0
 HasMemory applied = applied.reply ≢ replies.Memory
 
--- the same events on sound books that are alike have the same answers, want of memory aside, and leave books that
--- are alike
+-- equal events on sound books that are alike have the same answers and leave books that are alike, unless memory runs
+-- out
 abbrev pub EventsAreOne : Type 0 → Type 0
 EventsAreOne N =
     (image : ImageValue) (old other_old new other_new : BookView) (events : List (Event N))
@@ -81,8 +81,8 @@ CloseIsOne =
     (old other : BookView) (closed other_closed : Closed) → AreSameBooks old other
     → Closes old closed → Closes other other_closed → other_closed ≡ closed
 
--- of the acts of a script that is played to its end on sound books that are alike the same is said, and the books that
--- it leaves are alike
+-- the acts of a script that is played to its end on sound books that are alike have the same replies, and the books
+-- that it leaves are alike
 abbrev pub PlayIsOne : Type 0 → Type 0
 PlayIsOne N =
     (image : ImageValue) (script : List Act) (old other_old new other_new : BookView) (said other_said : List Said)
@@ -98,8 +98,8 @@ OpeningIsOne =
     → IsOpening image settings placers taps book → IsOpening image settings placers taps other
     → AreSameBooks book other
 
--- a script that is played to its end from the opening on says the same each time, and leaves the same journal, memory,
--- output, count of events and end, whatever ids the new tasks had
+-- a script that is played to its end from the opening on has the same replies each time, and leaves the same journal,
+-- memory, output, count of events and end, whatever ids the new tasks had
 abbrev pub ScriptIsOne : Type 0 → Type 0
 ScriptIsOne N =
     (image : ImageValue) (settings : Settings) (placers : List Policy) (taps : List TapValue) (script : List Act)

@@ -4,19 +4,19 @@ use Rattle.std.specs.List.{AllByRecursion}
 use Rattle.guest_image.specs.ImageValue.{ImageValue, IsImage}
 use Rattle.place_policy.specs.Policy.{Policy}
 use Rattle.trace_tap.specs.TapValue.{TapValue}
-use Rattle.spec_state.specs.declared.settings.Settings.{Settings}
-use Rattle.spec_state.specs.Settings.{IsValid}
-use Rattle.spec_law.specs.Sound.{Sound}
-use Rattle.event_def.specs.Book.{BookView}
-use Rattle.event_def.specs.Opening.{IsOpening}
+use Rattle.step_script.specs.spec_state.declared.settings.Settings.{Settings}
+use Rattle.step_script.specs.spec_state.Settings.{IsValid}
+use Rattle.step_script.specs.spec_law.Sound.{Sound}
+use Rattle.step_script.specs.event_def.Book.{BookView}
+use Rattle.step_script.specs.event_def.Opening.{IsOpening}
 use Rattle.step_script.specs.declared.act.Act.{Act}
 use Rattle.step_script.specs.declared.saying.Said.{Said}
 use Rattle.step_script.specs.Playing.{HeldLeg, PlayState, DoesAll, Plays, PlaysSome}
 use Rattle.step_script.specs.Ranges.{ActIsInRange}
 use Rattle.outcome_law.specs.Laws.{AreSameBooks}
 
--- a play of acts in front and of others behind: of those in front this is said, the book that they lead to is alike to
--- this one, and from there it plays those behind
+-- a play of acts followed by others: these are the replies to the first ones, the book that they lead to is alike to
+-- this one, and from there it plays the others
 pub record PlaysOnBehind (N : Type 0) (image : ImageValue) (front behind : List Act) (said : List Said)
     (left : BookView)
     (old : BookView) (all_said : List Said) (new : BookView) : Type 0 where
@@ -28,8 +28,8 @@ pub record PlaysOnBehind (N : Type 0) (image : ImageValue) (front behind : List 
   pub held : List HeldLeg
   pub goes_on : DoesAll N image behind mid said_behind (record { book = new; held = held })
 
--- a play of some acts, and one of the same acts and others behind them, on sound books that are alike: the second one
--- plays the first one's acts as the first does, and goes on from there
+-- a play of some acts, and one of the same acts followed by others, on sound books that are alike: the second one plays
+-- the first one's acts as the first does, and continues from there
 abbrev pub FrontIsOne : Type 0 → Type 0
 FrontIsOne N =
     (image : ImageValue) (front behind : List Act) (old other_old new other_new : BookView)
@@ -39,8 +39,8 @@ FrontIsOne N =
     → Plays N image front old said new → Plays N image (front ++ behind) other_old other_said other_new
     → PlaysOnBehind N image front behind said new other_old other_said other_new
 
--- a script of which memory stopped one play, from an opening on, and of which another play, from another opening on,
--- came to the end: the other plays the acts up to there as the first does, and goes on from there
+-- memory stopped one play of a script, from an opening on, and another play, from another opening on, reached the end:
+-- the other plays the acts up to there as the first does, and continues from there
 abbrev pub StopIsOne : Type 0 → Type 0
 StopIsOne N =
     (image : ImageValue) (settings : Settings) (placers : List Policy) (taps : List TapValue) (script : List Act)
@@ -52,7 +52,8 @@ StopIsOne N =
     → PlaysOnBehind N image (take stopped.count script) (drop stopped.count script) stopped.said new
     other_opened other_said other_new
 
--- likewise where memory stopped both plays, the first one no later than the other
+-- memory stopped two plays of a script, from two openings, the first one no later than the other: the other plays the
+-- acts up to there as the first does, and continues from there
 abbrev pub StopsAreOne : Type 0 → Type 0
 StopsAreOne N =
     (image : ImageValue) (settings : Settings) (placers : List Policy) (taps : List TapValue) (script : List Act)

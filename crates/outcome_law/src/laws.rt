@@ -11,13 +11,13 @@ pub fn end_is_alike()
     ensures { EndIsAlike }
 {}
 
-/// What comes of one event on sound books that are alike is one thing, want of memory aside.
+/// The outcome of one event on sound books that are alike is unique, unless memory runs out.
 pub fn outcome_is_one<N: Naming>()
     ensures { OutcomeIsOne N }
 {}
 
-/// The same events on sound books that are alike have the same answers, want of memory aside, and leave books that
-/// are alike.
+/// Equal events on sound books that are alike have the same answers and leave books that are alike, unless memory runs
+/// out.
 pub fn events_are_one<N: Naming>()
     ensures { EventsAreOne N }
 {}
@@ -32,7 +32,7 @@ pub fn close_is_one()
     ensures { CloseIsOne }
 {}
 
-/// Of the acts of a script that is played to its end the same is said, and the books that it leaves are alike.
+/// The acts of a script that is played to its end have the same replies, and the books that it leaves are alike.
 pub fn play_is_one<N: Naming>()
     ensures { PlayIsOne N }
 {}
@@ -42,17 +42,17 @@ pub fn opening_is_one()
     ensures { OpeningIsOne }
 {}
 
-/// A script that is played to its end from the opening on says and leaves the same each time.
+/// A script that is played to its end from the opening on has the same replies and result each time.
 pub fn script_is_one<N: Naming>()
     ensures { ScriptIsOne N }
 {}
 
-/// A play of some acts, and one of the same acts and others behind them, agree up to there.
+/// A play of some acts, and one of the same acts followed by others, agree up to there.
 pub fn front_is_one<N: Naming>()
     ensures { FrontIsOne N }
 {}
 
-/// A play that memory stopped agrees up to there with one of the same script that came to its end.
+/// A play that memory stopped agrees up to there with one of the same script that reached its end.
 pub fn stop_is_one<N: Naming>()
     ensures { StopIsOne N }
 {}

@@ -165,3 +165,51 @@ fn cleared_lines_tell_none(rt: HostRuntime) {
     noted_is_told();
     lines_agree();
 }
+
+/// The kinds of filters.
+static KINDS: [FilterKind; 3] = [FilterKind::Modulo, FilterKind::Bloom, FilterKind::Exact];
+
+/// Lines of this kind, of those accesses.
+fn lines_writer(kind: FilterKind) -> Result<Lines, AllocError> {
+    let mut filter = Lines::of(kind, 16);
+    note_all(&mut filter)?;
+    Ok(filter)
+}
+
+/// The filter with its notes forgotten.
+fn cleared<F: Filter>(mut filter: F) -> F {
+    filter.clear();
+    filter
+}
+
+#[test]
+fn lines_of_each_kind_are_a_filter(rt: HostRuntime) -> Result<(), Fail> {
+    for kind in &KINDS {
+        let filter = lines_writer(*kind)?;
+        assert_eq!(rt; answers(&filter), NOTED);
+        assert!(rt; filter.meets(&filter));
+    }
+    Ok(())
+}
+
+#[test]
+fn lines_stay_of_their_kind_where_a_filter_is_cleared(rt: HostRuntime) -> Result<(), Fail> {
+    for kind in &KINDS {
+        let filter = cleared(lines_writer(*kind)?);
+        assert_eq!(rt; answers(&filter), [(false, false); 3]);
+        assert_eq!(rt; (filter.kind(), filter.size()), (*kind, 16));
+    }
+    Ok(())
+}
+
+#[test]
+fn lines_of_two_kinds_meet_where_one_wrote_what_the_other_touched(
+    rt: HostRuntime,
+) -> Result<(), Fail> {
+    let bits = lines_writer(FilterKind::Modulo)?;
+    let mut reader = Lines::of(FilterKind::Exact, 16);
+    reader.note(1_024 + 5, false)?;
+    assert_eq!(rt; meetings(&bits, &reader), (true, false));
+    assert!(rt; lines_writer(FilterKind::Bloom)?.meets(&bits));
+    Ok(())
+}

@@ -2,13 +2,13 @@
 
 ghost use Rattle.std.specs.Prelude.{◌<◌, length};
 
+use command_line::serial_machine::TurnFault;
 use guest_image::{Image, read_image};
 use report_text::{
     JournalFault, Report, Verdict, Window, WindowWord, check, read_journal,
     verdicts_agree_on_the_line, write_body, write_report, written_reports_read_back,
 };
 use run_journal::{Bytes, Closed, End, Entry, Journal};
-use serial_machine::TurnFault;
 use sim_io::{Failed, MemSink};
 use std::alloc::{AllocError, Global};
 use std::test::Fail;

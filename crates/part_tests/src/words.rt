@@ -1,8 +1,8 @@
 //! Worked words of a command line, and words that are refused.
 
+use command_line::spec_state::{FilterKind, Settings};
 use command_line::{Command, Refusal, Request, read_words};
 use load_gen::Load;
-use spec_state::{FilterKind, Settings};
 use std::alloc::{AllocError, Global};
 use std::test::Fail;
 

@@ -12,9 +12,9 @@ use Rattle.std.proofs.lemmas.List.Sorted.{IsPermutation-refl, IsPermutation-sym,
 use Rattle.std.proofs.lemmas.List.Sorted.{IsPermutation-trans, IsPermutation-middle, sum_by-IsPermutation}
 use Rattle.std.proofs.lemmas.List.Sums.{sum_by-cons}
 use Rattle.task_desc.specs.declared.desc.Name.{Name}
-use Rattle.serial_machine.specs.Names.{one}
-use Rattle.spec_state.specs.declared.pending.Pending.{Pending}
-use Rattle.spec_state.specs.Pendings.{pending_before, IsBefore}
+use Rattle.spec_law.specs.serial_machine.Names.{one}
+use Rattle.spec_law.specs.spec_state.declared.pending.Pending.{Pending}
+use Rattle.spec_law.specs.spec_state.Pendings.{pending_before, IsBefore}
 
 -- whether a task has a name
 abbrev pub named : Name → Pending → Bool

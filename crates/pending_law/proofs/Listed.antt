@@ -7,22 +7,23 @@ use Rattle.std.proofs.lemmas.Bool.Decides.{nat_tests}
 use Rattle.task_desc.specs.declared.desc.Desc.{Desc}
 use Rattle.task_desc.specs.declared.desc.Name.{Name}
 use Rattle.pending_list.specs.declared.task.PendingTask.{PendingTask}
-use Rattle.serial_machine.specs.BagValue.{BagValue}
-use Rattle.serial_machine.specs.Names.{one, times, times_in}
+use Rattle.spec_law.specs.serial_machine.BagValue.{BagValue}
+use Rattle.spec_law.specs.serial_machine.Names.{one, times, times_in}
 use Rattle.spill_store.specs.SpilledTasks.{Spilled}
-use Rattle.task_law.specs.Tasks as bags
-use Rattle.task_law.specs.Tasks.{In, IsFree, IsSpilled, SpilledBagTask}
-use Rattle.task_law.specs.Commit.{Stands}
-use Rattle.task_law.specs.Sound.{AreSound, IsFresh, NamesDiffer}
-use Rattle.spec_state.specs.declared.pending.Pending.{Pending}
-use Rattle.spec_state.specs.declared.task.Creator.{Creator}
-use Rattle.spec_state.specs.declared.task.Creator.TheVariants.{Committed, Live}
-use Rattle.spec_state.specs.declared.task.Task.{Task}
-use Rattle.spec_state.specs.View.{View, task_at}
-use Rattle.spec_state.specs.Tasks.{depth_of}
-use Rattle.spec_state.specs.Groups.{all_spilled, bag_creator, bag_spilled, bag_task, bag_tasks, bags_spilled}
-use Rattle.spec_state.specs.Pendings.{all_pending, pending_at, pending_by, pending_queued, pending_spilled, pendings_in}
-use Rattle.spec_state.specs.Pendings.{spilled_pending}
+use Rattle.spec_law.specs.task_law.Tasks as bags
+use Rattle.spec_law.specs.task_law.Tasks.{In, IsFree, IsSpilled, SpilledBagTask}
+use Rattle.spec_law.specs.task_law.Commit.{Stands}
+use Rattle.spec_law.specs.task_law.Sound.{AreSound, IsFresh, NamesDiffer}
+use Rattle.spec_law.specs.spec_state.declared.pending.Pending.{Pending}
+use Rattle.spec_law.specs.spec_state.declared.task.Creator.{Creator}
+use Rattle.spec_law.specs.spec_state.declared.task.Creator.TheVariants.{Committed, Live}
+use Rattle.spec_law.specs.spec_state.declared.task.Task.{Task}
+use Rattle.spec_law.specs.spec_state.View.{View, task_at}
+use Rattle.spec_law.specs.spec_state.Tasks.{depth_of}
+use Rattle.spec_law.specs.spec_state.Groups.{all_spilled, bag_creator, bag_spilled, bag_task, bag_tasks, bags_spilled}
+use Rattle.spec_law.specs.spec_state.Pendings.{all_pending, pending_at, pending_by, pending_queued, pending_spilled}
+use Rattle.spec_law.specs.spec_state.Pendings.{pendings_in}
+use Rattle.spec_law.specs.spec_state.Pendings.{spilled_pending}
 use Rattle.pending_law.proofs.Counts.{AreApart, count, count-append, Holds, named, named_so}
 use Rattle.fractal_vt.proofs.Proved.{mapped_some}
 

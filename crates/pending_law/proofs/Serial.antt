@@ -4,18 +4,18 @@ use Rattle.std.specs.Prelude.{IsPermutation}
 use Rattle.std.specs.List.Sorted.{IsSortedBy}
 use Rattle.std.proofs.lemmas.List.Sorted.{IsPermutation-sym, IsPermutation-trans}
 use Rattle.guest_image.specs.ImageValue.{ImageValue}
-use Rattle.run_law.proofs.Counted.{AreNamed-run}
-use Rattle.run_law.proofs.Proved.{at_most_one}
-use Rattle.spec_state.specs.declared.pending.Pending.{Pending}
-use Rattle.spec_state.specs.View.{View}
-use Rattle.spec_state.specs.Pendings.{all_pending, pending_before, pendings_in, ArePendings}
+use Rattle.spec_law.proofs.Below.run_law.Counted.{AreNamed-run}
+use Rattle.spec_law.proofs.Below.run_law.Proved.{at_most_one}
+use Rattle.spec_law.specs.spec_state.declared.pending.Pending.{Pending}
+use Rattle.spec_law.specs.spec_state.View.{View}
+use Rattle.spec_law.specs.spec_state.Pendings.{all_pending, pending_before, pendings_in, ArePendings}
 use Rattle.spec_law.specs.Sound.{Sound}
 use Rattle.pending_law.proofs.Counts.{AreApart, count, count-permutation, Holds, permuted, strictly}
 use Rattle.pending_law.proofs.Listed.{count_all, free_is_held, held_is_free, held_stands, pendings_apart}
 use Rattle.pending_law.proofs.Listed.{stands_is_held}
 
 module _ (image : ImageValue) (view : View) (sound : Sound image view) where
-  abbrev stack : List Rattle.serial_machine.specs.BagValue.BagValue
+  abbrev stack : List Rattle.spec_law.specs.serial_machine.BagValue.BagValue
   stack = sound.serial.stack
 
   abbrev least : ℕ

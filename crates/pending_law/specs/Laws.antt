@@ -2,9 +2,9 @@
 use Rattle.std.specs.Prelude.{List, IsPermutation}
 use Rattle.std.specs.List.Sorted.{IsSortedBy}
 use Rattle.guest_image.specs.ImageValue.{ImageValue}
-use Rattle.spec_state.specs.declared.pending.Pending.{Pending}
-use Rattle.spec_state.specs.View.{View}
-use Rattle.spec_state.specs.Pendings.{pending_before, pendings_in, ArePendings}
+use Rattle.spec_law.specs.spec_state.declared.pending.Pending.{Pending}
+use Rattle.spec_law.specs.spec_state.View.{View}
+use Rattle.spec_law.specs.spec_state.Pendings.{pending_before, pendings_in, ArePendings}
 use Rattle.spec_law.specs.Sound.{Sound}
 
 -- the tasks that pend in a sound view, sorted by their names, are those of the serial machine's bags

@@ -1,7 +1,9 @@
 -- What is found at the front and is told is an answer, whatever the program does with an image.
-use Rattle.std.proofs.Common.{◌≡◌, ◌≢◌, ◌⊎◌, ◌∙◌, inl, inr, ap, subst, sym, drop, ℕ, List, Some}
+use Rattle.std.proofs.Common.{◌≡◌, ◌≢◌, ◌⊎◌, ◌∙◌, inl, inr, ap, subst, sym, drop, ℕ, List, [], Some}
 use Rattle.std.proofs.lemmas.Bool.{cases_eq}
 use Rattle.sim_io.specs.Streams.{SinkState}
+use Rattle.guest_image.specs.ImageValue.{ImageValue, image_value}
+use Rattle.guest_image.specs.declared.image.Kind.TheVariants.{Ordered}
 use Rattle.guest_image.specs.Reading.{image_of}
 use Rattle.run_law.proofs.Proved.{lawful}
 use Rattle.program_call.specs.declared.input.FrontFault.{FrontFault}
@@ -79,25 +81,30 @@ fault_is_empty front (faults.NoImage fault) before after o (IsMade tells) = tell
 fault_is_empty front (faults.NoImage fault) before after o (IsWant is empty same) = empty
 
 -- whatever run an outcome holds is lawful
-pub holds_lawful : (program : Program) (input : Input) (o : Outcome)
-    → HoldsLawfulRun program.front program.HasImage input o
-holds_lawful program input o = λ h. lawful h.image (program.front.budget h.asked) o.journal h.run.state h.run.is_run
+pub holds_lawful : (program : Program) (image : ImageValue) (input : Input) (o : Outcome)
+    → HoldsLawfulRun program.front program.HasImage image input o
+holds_lawful program image input o = λ h. lawful image (program.front.budget h.asked) o.journal h.run.state h.run.is_run
 
-module _ (program : Program) (input : Input) (before after : SinkState) (o : Outcome) where
+-- no image was read: any serves
+pub no_image : ImageValue
+no_image = image_value Ordered [] [] 0 0 0 []
+
+module _ (program : Program) (image : ImageValue) (input : Input) (before after : SinkState) (o : Outcome) where
   -- a line that tells why there is no run, which is told whole, or of which the sink may have taken a part
-  pub line_answers : (status : ℕ) (line : List ℕ) → (IsEmpty o → IsToldBy program input o status line)
-      → (IsEmpty o → IsCut program input o line)
+  pub line_answers : (status : ℕ) (line : List ℕ) → (IsEmpty o → IsToldBy program image input o status line)
+      → (IsEmpty o → IsCut program image input o line)
       → ((bytes : List ℕ) → IsKnown program.front input bytes → IsDue program input.words bytes status)
       → TellsLine status line before after o → Answers program (call_on input before after) o
   line_answers status line answer cut is_due tells = record {
+    image = image;
     run = inl tells.empty;
-    laws = holds_lawful program input o;
+    laws = holds_lawful program image input o;
     told = told (cases_eq o.status 7);
     complete = λ bytes known well.
         let said = tells.told (λ seven. well.sink (tells.failed seven).0) in
         inr (subst (IsDue program input.words bytes) (sym said.0) (is_due bytes known));
   } where
-    told : (o.status ≡ 7) ⊎ (o.status ≢ 7) → TellsOutcome program (call_on input before after) o
+    told : (o.status ≡ 7) ⊎ (o.status ≢ 7) → TellsOutcome program image (call_on input before after) o
     told (inl seven) =
         let failed = tells.failed seven in
         inr (inr (inl record {
@@ -111,7 +118,7 @@ module _ (program : Program) (input : Input) (before after : SinkState) (o : Out
         let well = tells.told other in
         inr (inr (inr record {
           text = line;
-          answer = subst (λ s. IsToldBy program input o s line) (sym well.0) (answer tells.empty);
+          answer = subst (λ s. IsToldBy program image input o s line) (sym well.0) (answer tells.empty);
           took = well.1;
         }))
 
@@ -119,15 +126,16 @@ module _ (program : Program) (input : Input) (before after : SinkState) (o : Out
   pub want_answers : o.status ≡ 5 → IsEmpty o → ReadsAsAsked program.front input → after ≡ before
       → Answers program (call_on input before after) o
   want_answers is empty read same = record {
+    image = image;
     run = inl empty;
-    laws = holds_lawful program input o;
+    laws = holds_lawful program image input o;
     told = inl record { status_is = is; want = inl record { empty = empty; read = read; untouched = same } };
     complete = λ bytes known well. inl is;
   }
 
   -- so it may for such a line
-  pub made_answers : (status : ℕ) (line : List ℕ) → (IsEmpty o → IsToldBy program input o status line)
-      → (IsEmpty o → IsCut program input o line)
+  pub made_answers : (status : ℕ) (line : List ℕ) → (IsEmpty o → IsToldBy program image input o status line)
+      → (IsEmpty o → IsCut program image input o line)
       → ((bytes : List ℕ) → IsKnown program.front input bytes → IsDue program input.words bytes status)
       → ReadsAsAsked program.front input → TellsMadeLine status line before after o
       → Answers program (call_on input before after) o
@@ -138,8 +146,9 @@ module _ (program : Program) (input : Input) (before after : SinkState) (o : Out
   unread_answers : o.status ≡ 6 → IsEmpty o → IsUnread program.front input → after ≡ before
       → Answers program (call_on input before after) o
   unread_answers is empty unread same = record {
+    image = image;
     run = inl empty;
-    laws = holds_lawful program input o;
+    laws = holds_lawful program image input o;
     told = inr (inl record { status_is = is; empty = empty; unread = unread; untouched = same });
     complete = λ bytes known well. absurd (well.source unread.rose);
   }

@@ -1,4 +1,4 @@
--- Which status and which text tell that a call comes to no run, and why; and a sink that failed.
+-- Which status and which text report that a call makes no run, and why; and a sink that failed.
 use Rattle.std.specs.Prelude.{◌≡◌, ℕ, List}
 use Rattle.sim_io.specs.Causes.{Rose}
 use Rattle.sim_io.specs.Parts.{TakesFront}
@@ -19,8 +19,8 @@ module _ (front : Front) where
     Long : IsLong front input → IsRefused input 10 front.long_line
     NoImage : (fault : ImageFault) → IsNoImage front input fault → IsRefused input 2 (front.image_line fault)
 
-  -- memory ran out before a run was begun: the outcome is empty, no more was read than the words ask for, and the sink
-  -- was left alone
+  -- memory ran out before a run was begun: the outcome is empty, no more was read than the arguments request, and
+  -- nothing was written
   pub record IsWantOfRun (call : Call) (o : Outcome) : Type 0 where
     pub empty : IsEmpty o
     pub read : ReadsAsAsked front call.input
@@ -33,7 +33,7 @@ module _ (front : Front) where
     pub unread : IsUnread front call.input
     pub untouched : call.sink_after ≡ call.sink_before
 
-  -- how it is told why a call comes to no image
+  -- how it is reported why a call finds no image
   abbrev pub TellsFrontFault : FrontFault → (before after : SinkState) → Outcome → Type 0
   TellsFrontFault faults.Usage before after o = TellsLine 1 front.usage_line before after o
   TellsFrontFault faults.Memory before after o = (o.status ≡ 5) × IsEmpty o × (after ≡ before)

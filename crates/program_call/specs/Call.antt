@@ -20,7 +20,7 @@ pub record Call : Type 0 where
   pub sink_before : SinkState
   pub sink_after : SinkState
 
--- an input with these words behind their references
+-- an input with the arguments of these references
 abbrev pub input_of : List (Bor (List ℕ)) → List Policy → List TapValue
     → (source_before source_after : SourceState) → Input
 input_of words placers taps source_before source_after = record {

@@ -8,7 +8,8 @@ use Rattle.program_call.specs.Front.{Front}
 use Rattle.program_call.specs.Given.{NeedsNoInput}
 
 module _ (front : Front) where
-  -- the words ask for this, and the bytes are no more than are read and begin with this image, behind which these stand
+  -- this is what the arguments request, and the bytes are within the limit of reading and consist of this image
+  -- followed by these
   pub record BeginsWithImage (words : List (List ℕ)) (bytes : List ℕ) (asked : front.Asked) (image : ImageValue)
       (behind : List ℕ) : Type 0 where
     pub asks : front.asked_in words ≡ Some asked
@@ -17,7 +18,7 @@ module _ (front : Front) where
     pub image_is : image_of bytes ≡ Ok (image, size)
     pub behind_is : behind ≡ drop size bytes
 
-  -- the status that is due to words and to bytes that are all there is, where they come to no image
+  -- the status that is due to arguments and to these bytes as the whole input, if they give no image
   pub data IsDueAtFront (words : List (List ℕ)) (bytes : List ℕ) : ℕ → Type 0 where
     Usage : front.asked_in words ≡ None → IsDueAtFront words bytes 1
     Long : (asked : front.Asked) → front.asked_in words ≡ Some asked → front.Reads asked → input_limit < length bytes

@@ -1,11 +1,11 @@
--- The front of a program: what its words may ask for, and the lines that tell that a call comes to no image.
+-- The front end of a program: what its arguments may request, and the lines that report a call without an image.
 use Rattle.std.specs.Prelude.{ℕ, List}
 use Rattle.std.specs.declared.option.Option.{Option}
 use Rattle.guest_image.specs.declared.fault.ImageFault.{ImageFault}
 
--- what words may ask for, which is read from them; which of it reads the source, and is within the ranges that the
--- words keep; how many tasks a run that it asks for commits at most, and how many instructions each may take; and the
--- lines that tell that words are refused, that an input is too long, and that it begins with no image
+-- what arguments may request, and how that is read; which requests read the source, and are within the ranges; how many
+-- tasks a requested run commits at most, and how many instructions each may take; and the lines that report that
+-- arguments are invalid, that an input is too long, and that it doesn't begin with an image
 pub record Front : Type 1 where
   pub Asked : Type 0
   pub asked_in : List (List ℕ) → Option Asked

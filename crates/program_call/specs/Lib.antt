@@ -1,4 +1,5 @@
--- Contracts of public calls of both programs mean all but Reading, and of Answers all but how a fault is told.
+-- Contracts of public calls of both programs use all of these except Reading, and Answers except how a fault is
+-- reported.
 pub mod Call
 pub mod Outcomes
 pub mod Front

@@ -1,4 +1,4 @@
--- What is read of a source, whatever asks for it: all bytes and the image at their front, or why there is none.
+-- What is read of a source, whatever the request: all bytes and the image at their front, or why there is none.
 use Rattle.std.specs.Prelude.{◌≡◌, ℕ, List, Ok, Err}
 use Rattle.sim_io.specs.Causes.{Rose}
 use Rattle.sim_io.specs.Parts.{ReadsAll, ReadsPast, ReadsSome}

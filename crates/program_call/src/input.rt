@@ -10,10 +10,10 @@ use std::alloc::Global;
 /// How many bytes an input has at most: 64 MiB. Of a longer one that many are taken, and one more.
 pub const INPUT_LIMIT: usize = 67_108_864;
 
-/// Why a call comes to no image.
+/// Why a call finds no image.
 #[derive(Clone, Copy, Debug, PartialEq, Eq)]
 pub enum FrontFault {
-    /// The words are refused.
+    /// The arguments are invalid.
     Usage,
     /// Out of memory.
     Memory,

@@ -1,10 +1,11 @@
-//! What both programs are called with and what they answer: words, placers, taps, a source and a sink; an outcome with
-//! its status and the run that it holds. Their front door is here: how the words of a process and the input are read,
-//! up to the image, and how it is told that a call comes to none. So is what an answer of either says of its call.
+//! What both programs are called with and what they return: arguments, placers, taps, a source and a sink; an outcome
+//! with its status and the run that it holds. It has the front end of both: how the arguments of a process and the
+//! input are read, up to the image, how a call without an image is reported, and what an answer of either program
+//! means.
 //!
 //! Contracts of both programs are stated over one `Call`, and over what a program does with an image (`Program`). It
-//! stands on images, on the serial machine, whose run an outcome holds, and on its laws, on streams, and on placers and
-//! taps; `fractal_sim` and `fractal_watch` call it. It costs a look at each byte of the input, and the line that it
+//! depends on images, on the serial machine, whose run an outcome holds, and on its laws, on streams, and on placers
+//! and taps; `fractal_sim` and `fractal_watch` call it. It costs a look at each byte of the input, and the line that it
 //! writes.
 #![tactic(auto)]
 

@@ -3,7 +3,7 @@
 ghost use Rattle.std.specs.Prelude.{◌≡◌};
 ghost use Rattle.program_call.specs.Outcomes.{IsEmpty};
 
-use serial_machine::{Bytes, End, Journal};
+use run_law::serial_machine::{Bytes, End, Journal};
 use std::alloc::Global;
 
 /// What the program answers: its exit status, and the run that it made or accepted.
@@ -11,14 +11,14 @@ use std::alloc::Global;
 pub struct Outcome {
     /// The exit status.
     pub status: u8,
-    /// The journal of the run; empty where there is none.
+    /// The journal of the run; empty if there is none.
     pub journal: Journal,
-    /// The data memory that the run leads to; empty where there is none.
+    /// The data memory after the run; empty if there is none.
     pub memory: Bytes,
-    /// The bytes that the run emitted; empty where there is none.
+    /// The bytes that the run emitted; empty if there is none.
     pub output: Bytes,
-    /// The end of the run, or of the report that was accepted, or how the run stands where its acts end; None where
-    /// there is none of these, where memory ran out, and where the sink failed in a call of `fractal_watch`.
+    /// The end of the run, or of the report that was accepted, or the state of the run after its acts; None if there is
+    /// none of these, if memory ran out, and if the sink failed in a call of `fractal_watch`.
     pub end: Option<End>,
     /// How many events made the run, up to 2^64 - 1; None where no image was run, and where workers ran it.
     pub steps: Option<u64>,

@@ -1,4 +1,4 @@
-//! The words of a process as texts, and its exit code. No contract says what words a process has.
+//! The arguments of a process as texts, and its exit code. No contract says which arguments a process has.
 
 ghost use Rattle.std.specs.Prelude.{◌≡◌, IfOk, map};
 ghost use Rattle.std.specs.Process.{exit_status};
@@ -11,11 +11,11 @@ use std::env::{self, Env};
 use std::io::ErrorKind;
 use std::process::ExitCode;
 
-/// The words behind the program's name. There are none where one of them is no UTF-8, so that they are refused as one
-/// that is not known.
+/// The arguments after the program's name. None are returned if one of them isn't UTF-8, so that they are refused like
+/// an unknown one.
 ///
-/// Nothing is promised of them: the kit's `Env` tells of a word only that it fits the buffer, and `env::args`, which
-/// gathers them, tells nothing.
+/// Nothing is promised of them: the contract of `Env` in the toolchain library says only that an argument fits the
+/// buffer, and that of `env::args`, which gathers them, nothing.
 pub fn process_words<R: Env + Alloc<A = Global>>(rt: &R) -> Result<Vec<String>, AllocError> {
     let alloc = rt.alloc();
     let mut words = Vec::new(alloc);

@@ -1,11 +1,11 @@
-//! The statuses that an outcome and the process of a program show. Answers for each stand in the `specs/Answers` of
-//! the program.
+//! The statuses of an outcome and of the process of a program. The answers for each are in the `specs/Answers` of the
+//! program.
 
-/// A run ended with nothing pending, a report was accepted, acts were played to where the run may go on, or the lists
-/// of taps were written, whatever the run's end.
+/// A run ended with nothing pending, a report was accepted, acts were played and the run may continue, or the lists of
+/// taps were written, whatever the run's end.
 pub const DONE: u8 = 0;
 
-/// The words are refused.
+/// The arguments are invalid.
 pub const USAGE: u8 = 1;
 
 /// The bytes begin with no image.
@@ -35,8 +35,8 @@ pub const SCRIPT_FAULT: u8 = 9;
 /// The source has more bytes than are read.
 pub const LONG: u8 = 10;
 
-/// A run can't be saved, since a task that pends is in a subdomain.
+/// A run can't be saved, since a pending task is in a subdomain.
 pub const NESTED: u8 = 12;
 
-/// A run can't be saved, since more tasks pend than an image has.
+/// A run can't be saved, since more tasks are pending than an image has.
 pub const TOO_MANY: u8 = 13;

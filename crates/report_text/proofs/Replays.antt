@@ -7,13 +7,13 @@ use Rattle.std.proofs.Math.Seq.{take-length}
 use Rattle.guest_image.specs.ImageValue.{ImageValue}
 use Rattle.task_desc.specs.declared.desc.Name.{Name}
 use Rattle.run_journal.specs.declared.journal.Entry.{Entry}
-use Rattle.serial_machine.specs.declared.fault.TurnFault.{TurnFault}
-use Rattle.serial_machine.specs.declared.fault.TurnFault.TheVariants as faults
-use Rattle.serial_machine.specs.BagValue.{BagValue}
-use Rattle.serial_machine.specs.State.{SerialState}
-use Rattle.serial_machine.specs.TaskRun.{TaskEnd, Done, Trapped}
-use Rattle.serial_machine.specs.Turn.{turn, TrapsSo, run_in_bag, RefusesTurn, find_named}
-use Rattle.serial_machine.proofs.Proved.{may-why}
+use Rattle.run_law.specs.serial_machine.declared.fault.TurnFault.{TurnFault}
+use Rattle.run_law.specs.serial_machine.declared.fault.TurnFault.TheVariants as faults
+use Rattle.run_law.specs.serial_machine.BagValue.{BagValue}
+use Rattle.run_law.specs.serial_machine.State.{SerialState}
+use Rattle.run_law.specs.serial_machine.TaskRun.{TaskEnd, Done, Trapped}
+use Rattle.run_law.specs.serial_machine.Turn.{turn, TrapsSo, run_in_bag, RefusesTurn, find_named}
+use Rattle.run_law.proofs.Below.serial_machine.Proved.{may-why}
 
 pub found_at : (es : List Entry) (i : ℕ) (d e : Entry) → i < length es → e ≡ get_or es i d → slice_get es i ≡ Some e
 found_at es i d e lt is = slice_get-get_or es i d lt ∙ ap Some (sym is)

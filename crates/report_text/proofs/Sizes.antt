@@ -4,8 +4,8 @@ use Rattle.guest_image.specs.ImageValue.{ImageValue}
 use Rattle.run_law.proofs.Proved.{turn-did, turned-keeps}
 use Rattle.task_desc.specs.declared.desc.Name.{Name}
 use Rattle.run_journal.specs.declared.journal.Entry.{Entry}
-use Rattle.serial_machine.specs.State.{SerialState}
-use Rattle.serial_machine.specs.Turn.{turn}
+use Rattle.run_law.specs.serial_machine.State.{SerialState}
+use Rattle.run_law.specs.serial_machine.Turn.{turn}
 
 -- a turn counts one and keeps the size of the memory
 pub record TurnKeeps (s after : SerialState) : Type 0 where

@@ -10,14 +10,15 @@ use Rattle.guest_image.specs.ImageValue.{ImageValue}
 use Rattle.task_desc.specs.declared.desc.Name.{Name}
 use Rattle.pending_list.specs.declared.task.PendingTask.{PendingTask}
 use Rattle.run_journal.specs.declared.journal.Entry.{Entry}
-use Rattle.serial_machine.specs.declared.fault.TurnFault.{TurnFault}
-use Rattle.serial_machine.specs.declared.fault.TurnFault.TheVariants as faults
-use Rattle.serial_machine.specs.BagValue.{BagValue}
-use Rattle.serial_machine.specs.State.{SerialState}
-use Rattle.serial_machine.specs.Turn.{turn, turn_from_stack, RefusesTurn, find_named, is_named, is_least, is_pending}
-use Rattle.serial_machine.specs.Turn.{inner}
-use Rattle.serial_machine.specs.Run.{Runs, IsRun, IsEnd, opening}
-use Rattle.serial_machine.proofs.Proved.{is_pending-inner, least-none}
+use Rattle.run_law.specs.serial_machine.declared.fault.TurnFault.{TurnFault}
+use Rattle.run_law.specs.serial_machine.declared.fault.TurnFault.TheVariants as faults
+use Rattle.run_law.specs.serial_machine.BagValue.{BagValue}
+use Rattle.run_law.specs.serial_machine.State.{SerialState}
+use Rattle.run_law.specs.serial_machine.Turn.{turn, turn_from_stack, RefusesTurn, find_named, is_named, is_least}
+use Rattle.run_law.specs.serial_machine.Turn.{is_pending}
+use Rattle.run_law.specs.serial_machine.Turn.{inner}
+use Rattle.run_law.specs.serial_machine.Run.{Runs, IsRun, IsEnd, opening}
+use Rattle.run_law.proofs.Below.serial_machine.Proved.{is_pending-inner, least-none}
 use Rattle.report_text.specs.declared.report.Report.{Report}
 use Rattle.report_text.specs.declared.verdict.Verdict.TheVariants as verdicts
 use Rattle.report_text.specs.Report.{window_of}

@@ -3,11 +3,11 @@ use Rattle.std.specs.Prelude.{ℕ, ◌≡◌, ◌≢◌, ◌<◌, ◌≤◌, ◌
 use Rattle.std.specs.declared.option.Option.{Option}
 use Rattle.guest_image.specs.ImageValue.{ImageValue}
 use Rattle.run_journal.specs.declared.journal.Entry.{Entry}
-use Rattle.serial_machine.specs.declared.fault.TurnFault.{TurnFault}
-use Rattle.serial_machine.specs.declared.fault.TurnFault.TheVariants as faults
-use Rattle.serial_machine.specs.State.{SerialState}
-use Rattle.serial_machine.specs.Turn.{turn, RefusesTurn}
-use Rattle.serial_machine.specs.Run.{IsRun, IsEnd}
+use Rattle.run_law.specs.serial_machine.declared.fault.TurnFault.{TurnFault}
+use Rattle.run_law.specs.serial_machine.declared.fault.TurnFault.TheVariants as faults
+use Rattle.run_law.specs.serial_machine.State.{SerialState}
+use Rattle.run_law.specs.serial_machine.Turn.{turn, RefusesTurn}
+use Rattle.run_law.specs.serial_machine.Run.{IsRun, IsEnd}
 use Rattle.run_law.specs.Laws.{AreLawful}
 use Rattle.report_text.specs.declared.report.Report.{Report}
 use Rattle.report_text.specs.declared.verdict.Examined.{Examined}

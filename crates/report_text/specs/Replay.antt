@@ -3,8 +3,8 @@ use Rattle.std.specs.Prelude.{ℕ, ◌≡◌, Bool, List, length, MatchBool}
 use Rattle.guest_image.specs.ImageValue.{ImageValue}
 use Rattle.run_journal.specs.declared.journal.Entry.{Entry}
 use Rattle.run_journal.specs.declared.end.End.{End}
-use Rattle.serial_machine.specs.Run.{IsEnd}
-use Rattle.serial_machine.specs.State.{SerialValue}
+use Rattle.run_law.specs.serial_machine.Run.{IsEnd}
+use Rattle.run_law.specs.serial_machine.State.{SerialValue}
 use Rattle.report_text.specs.declared.verdict.NoRun.{NoRun}
 use Rattle.report_text.specs.declared.verdict.NoRun.TheVariants as noruns
 use Rattle.report_text.specs.Check.{IsWrongEntry}

@@ -2,8 +2,8 @@
 
 ghost use Rattle.std.specs.Prelude.{◌≡◌, ◌≢◌, ◌+◌, ◌<◌, ◌≤◌, length, take, Some, slice_get, true};
 ghost use Rattle.std.specs.Prelude.{IfErr, IfOk, IfSome, MatchBool, MatchOption};
-ghost use Rattle.serial_machine.specs.declared.limits.TheConstants.{MAX_BUDGET, MAX_COMMITS};
-ghost use Rattle.serial_machine.specs.Run.{IsRun};
+ghost use Rattle.run_law.specs.serial_machine.declared.limits.TheConstants.{MAX_BUDGET, MAX_COMMITS};
+ghost use Rattle.run_law.specs.serial_machine.Run.{IsRun};
 ghost use Rattle.report_text.specs.Check.{AgreeOnTheLine, DifferFirst, HasLawfulRun, IsExamined, IsReplayed, IsVerdict};
 ghost use Rattle.report_text.specs.Replay.{IsNoRun, TellsWhetherItEnds};
 ghost use Rattle.report_text.specs.Report.{window_of};
@@ -12,7 +12,7 @@ use crate::report::{Report, WindowWord};
 use crate::verdict::{Examined, NoRun, Verdict};
 use crate::window::{window_len, word_of};
 use guest_image::Image;
-use serial_machine::{End, Entry, Serial, TurnFault};
+use run_law::serial_machine::{End, Entry, Serial, TurnFault};
 use std::alloc::Global;
 
 /// Whether a report is that of a run of the image with these limits: `commits` is 1 to 1,000,000 and

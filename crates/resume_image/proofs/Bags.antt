@@ -6,8 +6,9 @@ use Rattle.task_desc.specs.declared.desc.Name.{Name}
 use Rattle.task_desc.specs.declared.desc.Spawn.{Spawn}
 use Rattle.task_desc.specs.declared.desc.Place.TheVariants.{Same, Sub, Super}
 use Rattle.pending_list.specs.declared.task.PendingTask.{PendingTask}
-use Rattle.serial_machine.specs.BagValue.{BagValue}
-use Rattle.serial_machine.specs.Turn.{children, inner, kind_outside, stack_after, sub_bags, with_super, without_name}
+use Rattle.conflict_book.specs.serial_machine.BagValue.{BagValue}
+use Rattle.conflict_book.specs.serial_machine.Turn.{children, inner, kind_outside, stack_after, sub_bags, with_super}
+use Rattle.conflict_book.specs.serial_machine.Turn.{without_name}
 
 module _ (Good : Kind → List PendingTask → Type 0) where
   abbrev pub AreGood : List BagValue → Type 0

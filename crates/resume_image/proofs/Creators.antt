@@ -11,10 +11,10 @@ use Rattle.guest_image.specs.declared.image.Kind.{Kind}
 use Rattle.task_desc.specs.declared.desc.Name.{Name}
 use Rattle.pending_list.specs.declared.task.PendingTask.{PendingTask}
 use Rattle.run_journal.specs.declared.journal.Entry.{Entry}
-use Rattle.serial_machine.specs.Run.{IsRun, Runs, opening}
-use Rattle.serial_machine.specs.State.{SerialState}
-use Rattle.serial_machine.specs.Turn.{find_named, is_named}
-use Rattle.run_law.proofs.Proved.{turn-did, Turned}
+use Rattle.conflict_book.specs.serial_machine.Run.{IsRun, Runs, opening}
+use Rattle.conflict_book.specs.serial_machine.State.{SerialState}
+use Rattle.conflict_book.specs.serial_machine.Turn.{find_named, is_named}
+use Rattle.conflict_book.proofs.Below.run_law.Proved.{turn-did, Turned}
 use Rattle.resume_image.proofs.Bags.{AreGood, good_inner}
 use Rattle.resume_image.proofs.Rising.{AreOld, IsOld}
 use Rattle.resume_image.proofs.Standing.{Stands, opening_stands, turn_stands}

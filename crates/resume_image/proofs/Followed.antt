@@ -14,15 +14,16 @@ use Rattle.task_desc.specs.declared.desc.Place.{Place}
 use Rattle.task_desc.specs.declared.desc.Place.TheVariants.{Same, Sub, Super}
 use Rattle.pending_list.specs.declared.task.PendingTask.{PendingTask}
 use Rattle.run_journal.specs.declared.journal.Entry.{Entry}
-use Rattle.spec_state.specs.declared.pending.Pending.{Pending}
-use Rattle.serial_machine.specs.BagValue.{BagValue}
-use Rattle.serial_machine.specs.State.{SerialState}
-use Rattle.serial_machine.specs.TaskRun.{Done, task_run}
-use Rattle.serial_machine.specs.Run.{Runs}
-use Rattle.serial_machine.specs.Turn.{child, children, context_in_bag, find_named, inner, is_for, is_named, run_in_bag}
-use Rattle.serial_machine.specs.Turn.{stack_after, sub_bags, turn, with_super, without_name, MayTurn}
-use Rattle.serial_machine.proofs.Proved.{turn-done}
-use Rattle.run_law.proofs.Proved.{turn-did, Turned}
+use Rattle.conflict_book.specs.spec_state.declared.pending.Pending.{Pending}
+use Rattle.conflict_book.specs.serial_machine.BagValue.{BagValue}
+use Rattle.conflict_book.specs.serial_machine.State.{SerialState}
+use Rattle.conflict_book.specs.serial_machine.TaskRun.{Done, task_run}
+use Rattle.conflict_book.specs.serial_machine.Run.{Runs}
+use Rattle.conflict_book.specs.serial_machine.Turn.{child, children, context_in_bag, find_named, inner, is_for}
+use Rattle.conflict_book.specs.serial_machine.Turn.{is_named, run_in_bag}
+use Rattle.conflict_book.specs.serial_machine.Turn.{stack_after, sub_bags, turn, with_super, without_name, MayTurn}
+use Rattle.conflict_book.proofs.Below.serial_machine.Proved.{turn-done}
+use Rattle.conflict_book.proofs.Below.run_law.Proved.{turn-did, Turned}
 use Rattle.resume_image.specs.Joined.{shifted_name, shifted_entry}
 use Rattle.resume_image.proofs.Names.{AreSaved, IsKnown, Know}
 use Rattle.resume_image.proofs.Bags.{AreGood, good_after, good_inner}
@@ -125,7 +126,7 @@ module _ (image : ImageValue) (budget : ℕ) (initial : List ℕ) (tasks : List 
             ∙ find_shifted turns pendings saved e.name did.bag.tasks named known.0
             ∙ ap (option_map (shifted_task turns pendings)) did.may.found;
         least =
-            ap (λ (x : BagValue). Rattle.serial_machine.specs.Turn.is_least did.task.ts x.tasks) one
+            ap (λ (x : BagValue). Rattle.conflict_book.specs.serial_machine.Turn.is_least did.task.ts x.tasks) one
             ∙ least_shifted turns pendings did.task.ts did.bag.tasks
             ∙ did.may.least;
       }

@@ -7,18 +7,18 @@ use Rattle.guest_image.specs.ImageValue.{ImageValue}
 use Rattle.task_desc.specs.declared.desc.Name.{Name}
 use Rattle.pending_list.specs.declared.task.PendingTask.{PendingTask}
 use Rattle.run_journal.specs.declared.journal.Entry.{Entry}
-use Rattle.spec_state.specs.declared.pending.Pending.{Pending}
-use Rattle.serial_machine.specs.BagValue.{BagValue}
-use Rattle.serial_machine.specs.Run.{Runs, opening}
-use Rattle.serial_machine.specs.State.{SerialState}
-use Rattle.serial_machine.specs.Turn.{inner, is_named, is_pending}
-use Rattle.serial_machine.proofs.Proved.{is_pending-inner}
+use Rattle.conflict_book.specs.spec_state.declared.pending.Pending.{Pending}
+use Rattle.conflict_book.specs.serial_machine.BagValue.{BagValue}
+use Rattle.conflict_book.specs.serial_machine.Run.{Runs, opening}
+use Rattle.conflict_book.specs.serial_machine.State.{SerialState}
+use Rattle.conflict_book.specs.serial_machine.Turn.{inner, is_named, is_pending}
+use Rattle.conflict_book.proofs.Below.serial_machine.Proved.{is_pending-inner}
 use Rattle.resume_image.specs.Saved.{saved_image, saved_task}
 use Rattle.resume_image.specs.Joined.{RunsJoin, shifted_name, shifted_entry}
 use Rattle.resume_image.proofs.Followed.{runs_followed}
 use Rattle.resume_image.proofs.Opened.{saved_opens}
 use Rattle.resume_image.proofs.Shifted.{AreShifted, shifted_task}
-use Rattle.task_law.proofs.Proved.{named_same, same_named}
+use Rattle.conflict_book.proofs.Below.task_law.Proved.{named_same, same_named}
 
 runs_more : (image : ImageValue) (budget : ℕ) (es more : List Entry) (s mid after : SerialState)
     → Runs image budget s es mid → Runs image budget mid more after

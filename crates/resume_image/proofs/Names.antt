@@ -9,8 +9,8 @@ use Rattle.std.proofs.lemmas.List.{get_or-map}
 use Rattle.task_desc.specs.declared.desc.Name.{Name}
 use Rattle.pending_list.specs.declared.task.PendingTask.{PendingTask}
 use Rattle.pending_list.specs.Pending.{name_before}
-use Rattle.spec_state.specs.declared.pending.Pending.{Pending}
-use Rattle.spec_state.specs.Pendings.{IsBefore}
+use Rattle.conflict_book.specs.spec_state.declared.pending.Pending.{Pending}
+use Rattle.conflict_book.specs.spec_state.Pendings.{IsBefore}
 use Rattle.resume_image.specs.Joined.{shifted_name}
 
 -- whether two names are one

@@ -14,21 +14,21 @@ use Rattle.guest_image.specs.declared.image.Kind.{Kind}
 use Rattle.task_desc.specs.declared.desc.Name.{Name}
 use Rattle.pending_list.specs.declared.task.PendingTask.{PendingTask}
 use Rattle.run_journal.specs.declared.journal.Entry.{Entry}
-use Rattle.spec_state.specs.declared.pending.Pending.{Pending}
-use Rattle.serial_machine.specs.BagValue.{BagValue}
-use Rattle.serial_machine.specs.Run.{image_task, opening, opening_memory}
-use Rattle.serial_machine.specs.State.{IsStack, SerialState}
-use Rattle.serial_machine.specs.Turn.{inner}
-use Rattle.run_law.proofs.Proved.{count-run, run_sized}
-use Rattle.serial_machine.proofs.Proved.{IsStack-inner}
-use Rattle.spec_state.specs.Pendings.{ArePendings, IsBefore, RunLeaves, all_pending, pending_at}
+use Rattle.conflict_book.specs.spec_state.declared.pending.Pending.{Pending}
+use Rattle.conflict_book.specs.serial_machine.BagValue.{BagValue}
+use Rattle.conflict_book.specs.serial_machine.Run.{image_task, opening, opening_memory}
+use Rattle.conflict_book.specs.serial_machine.State.{IsStack, SerialState}
+use Rattle.conflict_book.specs.serial_machine.Turn.{inner}
+use Rattle.conflict_book.proofs.Below.run_law.Proved.{count-run, run_sized}
+use Rattle.conflict_book.proofs.Below.serial_machine.Proved.{IsStack-inner}
+use Rattle.conflict_book.specs.spec_state.Pendings.{ArePendings, IsBefore, RunLeaves, all_pending, pending_at}
 use Rattle.resume_image.specs.Saved.{saved_image, saved_task}
 use Rattle.resume_image.proofs.Bags.{AreGood, good_inner}
 use Rattle.resume_image.proofs.Followed.{Follows}
 use Rattle.resume_image.proofs.Names.{AreSaved, Know}
 use Rattle.resume_image.proofs.Rising.{AllBehind, AreOld, IsOld, Rise}
 use Rattle.resume_image.proofs.Shifted.{AreShifted, shifted_task}
-use Rattle.pending_law.proofs.Proved.{Holds}
+use Rattle.conflict_book.proofs.Below.pending_law.Proved.{Holds}
 use Rattle.resume_image.proofs.Sorted.{AreInOrder, holds_permuted, in_order, one_list}
 use Rattle.resume_image.proofs.Standing.{IsRooted, Stands, rooted_inner, run_stands}
 

@@ -6,11 +6,11 @@ use Rattle.std.proofs.lemmas.List.Sorted.{All-permutation, IsPermutation-sym}
 use Rattle.guest_image.specs.ImageValue.{ImageValue, IsImage}
 use Rattle.pending_list.specs.declared.task.PendingTask.{PendingTask}
 use Rattle.run_journal.specs.declared.journal.Entry.{Entry}
-use Rattle.spec_state.specs.declared.pending.Pending.{Pending}
-use Rattle.serial_machine.specs.BagValue.{BagValue}
-use Rattle.serial_machine.specs.State.{IsStack}
-use Rattle.run_law.proofs.Proved.{run_sized}
-use Rattle.spec_state.specs.Pendings.{RunLeaves, all_pending, pending_at}
+use Rattle.conflict_book.specs.spec_state.declared.pending.Pending.{Pending}
+use Rattle.conflict_book.specs.serial_machine.BagValue.{BagValue}
+use Rattle.conflict_book.specs.serial_machine.State.{IsStack}
+use Rattle.conflict_book.proofs.Below.run_law.Proved.{run_sized}
+use Rattle.conflict_book.specs.spec_state.Pendings.{RunLeaves, all_pending, pending_at}
 use Rattle.resume_image.proofs.Standing.{run_stands}
 
 tasks_deep : (depth : ℕ) (ts : List PendingTask) (rest : List Pending) → 1 ≤ depth

@@ -14,10 +14,11 @@ use Rattle.task_desc.specs.declared.desc.Place.{Place}
 use Rattle.task_desc.specs.declared.desc.Place.TheVariants.{Same, Sub, Super}
 use Rattle.pending_list.specs.declared.task.PendingTask.{PendingTask}
 use Rattle.pending_list.specs.Pending.{name_before}
-use Rattle.serial_machine.specs.BagValue.{BagValue}
-use Rattle.serial_machine.specs.Run.{image_task}
-use Rattle.serial_machine.specs.Turn.{child, children, is_for, is_named, kind_outside, place_number, stack_after}
-use Rattle.serial_machine.specs.Turn.{without_name}
+use Rattle.conflict_book.specs.serial_machine.BagValue.{BagValue}
+use Rattle.conflict_book.specs.serial_machine.Run.{image_task}
+use Rattle.conflict_book.specs.serial_machine.Turn.{child, children, is_for, is_named, kind_outside, place_number}
+use Rattle.conflict_book.specs.serial_machine.Turn.{stack_after}
+use Rattle.conflict_book.specs.serial_machine.Turn.{without_name}
 use Rattle.resume_image.proofs.Bags.{AreGood, good_after}
 use Rattle.resume_image.proofs.Settled.{IsSettled, Settle, SettlesIn, settled_ts}
 

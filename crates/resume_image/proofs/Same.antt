@@ -12,8 +12,9 @@ use Rattle.rv_table.specs.Exec.{acts_on}
 use Rattle.rv_core.specs.declared.state.Core.{Core}
 use Rattle.rv_core.specs.Legs.{effect_next, instr_next, next_at, traps, word_next}
 use Rattle.task_desc.specs.declared.desc.Ctx.{Ctx}
-use Rattle.serial_machine.specs.TaskRun.{after_next, task_at_start, task_end_after, after_instruction}
-use Rattle.serial_machine.specs.TaskRun.{after_instructions, task_run, Continuation, Continues, Ends, Traps, TaskEnd}
+use Rattle.conflict_book.specs.serial_machine.TaskRun.{after_next, task_at_start, task_end_after, after_instruction}
+use Rattle.conflict_book.specs.serial_machine.TaskRun.{after_instructions, task_run, Continuation, Continues, Ends}
+use Rattle.conflict_book.specs.serial_machine.TaskRun.{Traps, TaskEnd}
 use Rattle.task_request.specs.TaskState.{TaskState}
 
 -- the image with these initial data and these tasks

@@ -12,11 +12,11 @@ use Rattle.task_desc.specs.declared.desc.Place.TheVariants.{Same, Sub, Super}
 use Rattle.task_desc.specs.Calls.{most_children, allowed_spawn, allowed_at, allowed_sub, allowed_super, one_more_child}
 use Rattle.task_desc.specs.Calls.{domain_ts, is_early}
 use Rattle.pending_list.specs.declared.task.PendingTask.{PendingTask}
-use Rattle.serial_machine.specs.BagValue.{BagValue}
-use Rattle.serial_machine.specs.State.{SerialState}
-use Rattle.serial_machine.specs.TaskRun.{task_run, Done}
-use Rattle.serial_machine.specs.Turn.{context_in_bag, kind_outside, run_in_bag}
-use Rattle.serial_machine.proofs.Proved.{EndHolds, HoldsAfter, task_run-holds}
+use Rattle.conflict_book.specs.serial_machine.BagValue.{BagValue}
+use Rattle.conflict_book.specs.serial_machine.State.{SerialState}
+use Rattle.conflict_book.specs.serial_machine.TaskRun.{task_run, Done}
+use Rattle.conflict_book.specs.serial_machine.Turn.{context_in_bag, kind_outside, run_in_bag}
+use Rattle.conflict_book.proofs.Below.serial_machine.Proved.{EndHolds, HoldsAfter, task_run-holds}
 use Rattle.task_request.specs.declared.request.Request.{Request}
 use Rattle.task_request.specs.declared.request.Request.TheVariants as request
 use Rattle.task_request.specs.Effects.{after_request}

@@ -10,10 +10,11 @@ use Rattle.task_desc.specs.declared.desc.Spawn.{Spawn}
 use Rattle.task_desc.specs.declared.desc.Place.{Place}
 use Rattle.task_desc.specs.declared.desc.Place.TheVariants.{Same, Sub, Super}
 use Rattle.pending_list.specs.declared.task.PendingTask.{PendingTask}
-use Rattle.spec_state.specs.declared.pending.Pending.{Pending}
-use Rattle.serial_machine.specs.BagValue.{BagValue}
-use Rattle.serial_machine.specs.Turn.{child, children, context_in_bag, find_named, inner, is_least, is_named}
-use Rattle.serial_machine.specs.Turn.{kind_outside, stack_after, sub_bags, with_super, without_name}
+use Rattle.conflict_book.specs.spec_state.declared.pending.Pending.{Pending}
+use Rattle.conflict_book.specs.serial_machine.BagValue.{BagValue}
+use Rattle.conflict_book.specs.serial_machine.Turn.{child, children, context_in_bag, find_named, inner, is_least}
+use Rattle.conflict_book.specs.serial_machine.Turn.{is_named}
+use Rattle.conflict_book.specs.serial_machine.Turn.{kind_outside, stack_after, sub_bags, with_super, without_name}
 use Rattle.resume_image.specs.Joined.{shifted_name}
 use Rattle.resume_image.proofs.Names.{AreSaved, IsKnown, Know, same_name}
 

@@ -7,9 +7,9 @@ use Rattle.std.proofs.lemmas.Bool.Decides.{nat_tests}
 use Rattle.std.proofs.lemmas.Grind.{common_steps}
 use Rattle.std.proofs.lemmas.List.Sorted.{Contains-permutation}
 use Rattle.std.proofs.lemmas.List.Elements.{recursion_from_All}
-use Rattle.spec_state.specs.declared.pending.Pending.{Pending}
-use Rattle.spec_state.specs.Pendings.{IsBefore}
-use Rattle.pending_law.proofs.Proved.{Holds}
+use Rattle.conflict_book.specs.spec_state.declared.pending.Pending.{Pending}
+use Rattle.conflict_book.specs.spec_state.Pendings.{IsBefore}
+use Rattle.conflict_book.proofs.Below.pending_law.Proved.{Holds}
 
 -- sorted by names: each task stands before those behind it
 abbrev pub AreInOrder : List Pending → Type 0

@@ -9,13 +9,14 @@ use Rattle.task_desc.specs.declared.desc.Spawn.{Spawn}
 use Rattle.task_desc.specs.declared.desc.Place.TheVariants.{Same, Sub, Super}
 use Rattle.pending_list.specs.declared.task.PendingTask.{PendingTask}
 use Rattle.run_journal.specs.declared.journal.Entry.{Entry}
-use Rattle.serial_machine.specs.BagValue.{BagValue}
-use Rattle.serial_machine.specs.Legs.{SubFits}
-use Rattle.serial_machine.specs.Run.{IsRun, Runs, opening}
-use Rattle.serial_machine.specs.State.{IsStack, SerialState}
-use Rattle.serial_machine.specs.Turn.{children, context_in_bag, inner, stack_after, sub_bags, with_super, without_name}
-use Rattle.serial_machine.proofs.Proved.{EndHolds, IsStack-after, IsStack-inner, task_run-sub_fits}
-use Rattle.run_law.proofs.Proved.{turn-did, Turned}
+use Rattle.conflict_book.specs.serial_machine.BagValue.{BagValue}
+use Rattle.conflict_book.specs.serial_machine.Legs.{SubFits}
+use Rattle.conflict_book.specs.serial_machine.Run.{IsRun, Runs, opening}
+use Rattle.conflict_book.specs.serial_machine.State.{IsStack, SerialState}
+use Rattle.conflict_book.specs.serial_machine.Turn.{children, context_in_bag, inner, stack_after, sub_bags, with_super}
+use Rattle.conflict_book.specs.serial_machine.Turn.{without_name}
+use Rattle.conflict_book.proofs.Below.serial_machine.Proved.{EndHolds, IsStack-after, IsStack-inner, task_run-sub_fits}
+use Rattle.conflict_book.proofs.Below.run_law.Proved.{turn-did, Turned}
 use Rattle.resume_image.proofs.Bags.{AreGood, good_inner}
 use Rattle.resume_image.proofs.Rising.{AreOld, IsOld, image_numbered, image_settled, old_after}
 use Rattle.resume_image.proofs.Settled.{IsSettled, done_settles}

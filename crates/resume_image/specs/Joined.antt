@@ -4,11 +4,11 @@ use Rattle.std.specs.Prelude.{if◌then◌else◌}
 use Rattle.guest_image.specs.ImageValue.{ImageValue, IsImage}
 use Rattle.task_desc.specs.declared.desc.Name.{Name}
 use Rattle.run_journal.specs.declared.journal.Entry.{Entry}
-use Rattle.spec_state.specs.declared.pending.Pending.{Pending}
-use Rattle.spec_state.specs.Pendings.{RunLeaves}
-use Rattle.serial_machine.specs.Run.{IsRun}
-use Rattle.serial_machine.specs.State.{SerialState}
-use Rattle.serial_machine.specs.Turn.{is_pending}
+use Rattle.conflict_book.specs.spec_state.declared.pending.Pending.{Pending}
+use Rattle.conflict_book.specs.spec_state.Pendings.{RunLeaves}
+use Rattle.conflict_book.specs.serial_machine.Run.{IsRun}
+use Rattle.conflict_book.specs.serial_machine.State.{SerialState}
+use Rattle.conflict_book.specs.serial_machine.Turn.{is_pending}
 use Rattle.resume_image.specs.Pendings.{AreOfRoot}
 use Rattle.resume_image.specs.Saved.{saved_image}
 
@@ -25,7 +25,7 @@ shifted_name turns pendings name =
 abbrev pub shifted_entry : ℕ → List Pending → Entry → Entry
 shifted_entry turns pendings e = record e { name = shifted_name turns pendings e.name }
 
--- the first journal, and behind it the second with its names shifted
+-- the first journal, followed by the second with its names shifted
 abbrev pub joined_journal : List Entry → List Pending → List Entry → List Entry
 joined_journal one pendings two = one ++ map (shifted_entry (length one) pendings) two
 
@@ -40,8 +40,8 @@ pub record IsJoinedRun (image : ImageValue) (budget : ℕ) (one two : List Entry
   pub pending : (name : Name) → is_pending name state.stack ≡ true
       ↔ ((own : Name) × (is_pending own second.stack ≡ true) × (name ≡ shifted_name (length one) pendings own))
 
--- a run, of which some tasks pend, all in the root domain, and a run of the image with these tasks and the memory of
--- the first are one run
+-- a run whose pending tasks are all in the root domain, and a run of the image with these tasks and the memory of the
+-- first are one run
 abbrev pub RunsJoin : Type 0
 RunsJoin =
     (image : ImageValue) → IsImage image → (budget : ℕ) → (one two : List Entry) → (memory output : List ℕ)

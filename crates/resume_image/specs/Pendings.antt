@@ -1,6 +1,6 @@
--- How deep pending tasks stand.
+-- The depths of pending tasks.
 use Rattle.std.specs.Prelude.{◌≡◌, ◌≤◌, ℕ, List, All, Any}
-use Rattle.spec_state.specs.declared.pending.Pending.{Pending}
+use Rattle.conflict_book.specs.spec_state.declared.pending.Pending.{Pending}
 
 -- all tasks are of the root domain
 abbrev pub AreOfRoot : List Pending → Type 0

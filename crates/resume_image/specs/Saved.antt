@@ -1,10 +1,10 @@
--- The image from which a stopped run goes on.
+-- The image from which a stopped run continues.
 use Rattle.std.specs.Prelude.{◌≡◌, ◌≤◌, ◌<◌, ◌-◌, ◌^◌, ℕ, List, length, map, min}
 use Rattle.guest_image.specs.declared.limits.TheConstants.{MAX_TASKS}
 use Rattle.guest_image.specs.ImageValue.{ImageValue}
 use Rattle.guest_image.specs.declared.image.ImageTask.{ImageTask}
 use Rattle.conflict_book.specs.declared.freezing.Frozen.{Frozen}
-use Rattle.spec_state.specs.declared.pending.Pending.{Pending}
+use Rattle.conflict_book.specs.spec_state.declared.pending.Pending.{Pending}
 use Rattle.resume_image.specs.declared.fault.SaveFault.{SaveFault}
 use Rattle.resume_image.specs.declared.fault.SaveFault.TheVariants as faults
 use Rattle.resume_image.specs.Pendings.{AreOfRoot, IsGreatestDepth}
@@ -17,14 +17,13 @@ saved_task p = record { entry = p.entry; ts = p.ts; args = p.args }
 abbrev pub saved_image : ImageValue → List ℕ → List Pending → ImageValue
 saved_image image memory pendings = record image { initial = memory; tasks = map saved_task pendings }
 
--- the image from which a stopped run goes on: something pends, and all of it in the root domain
+-- the image from which a stopped run continues: tasks are pending, all of them in the root domain
 pub record IsSavedOf (image : ImageValue) (frozen : Frozen) (saved : ImageValue) : Type 0 where
   pub some : 0 < length frozen.pending
   pub root : AreOfRoot frozen.pending
   pub saved_is : saved ≡ saved_image image frozen.closed.memory frozen.pending
 
--- why these pending tasks can't be saved; the first two exclude each other, and memory runs out only where neither
--- stands in the way
+-- why these pending tasks can't be saved; the first two exclude each other, and memory runs out only if neither holds
 abbrev pub CannotSave : List Pending → SaveFault → Type 0
 CannotSave pendings (faults.Nested depth) = IsGreatestDepth pendings depth × (1 < depth)
 CannotSave pendings (faults.TooMany count) =

@@ -9,13 +9,13 @@ use thiserror::Error;
 /// Why a stopped run can't be saved. They are tried in this order.
 #[derive(Clone, Copy, Debug, PartialEq, Eq, Error)]
 pub enum SaveFault {
-    /// A task pends inside a domain of another task; an image has tasks of the root domain alone.
+    /// A task is pending inside a domain of another task; an image has tasks of the root domain alone.
     #[error("a task pends at depth {depth}")]
     Nested {
         /// The greatest depth of a pending task: 2 to 16.
         depth: u8,
     },
-    /// More than 65,536 tasks pend, which is as many as an image may have.
+    /// More than 65,536 tasks are pending, which is as many as an image may have.
     #[error("{count} tasks pend")]
     TooMany {
         /// How many they are, up to 4,294,967,295.

@@ -3,27 +3,27 @@
 ghost use Rattle.std.specs.Prelude.{◌≡◌, ◌<◌, ◌≤◌, ◌+◌, ◌^◌, ℕ, List, All, length, IfOk};
 ghost use Rattle.guest_image.specs.ImageValue.{ImageValue};
 ghost use Rattle.run_journal.specs.declared.journal.Entry.{Entry};
-ghost use Rattle.serial_machine.specs.Run.{IsRun};
-ghost use Rattle.serial_machine.specs.State.{SerialState};
+ghost use Rattle.conflict_book.specs.serial_machine.Run.{IsRun};
+ghost use Rattle.conflict_book.specs.serial_machine.State.{SerialState};
 ghost use Rattle.conflict_book.specs.Frozen.{IsFrozenOf};
 ghost use Rattle.resume_image.specs.Saved.{IsSavedOf};
 ghost use Rattle.resume_image.specs.Joined.{IsJoinedRun, RunsJoin, joined_journal, shifted_name, shifted_entry};
 
 use conflict_book::Frozen;
+use conflict_book::serial_machine::MAX_COMMITS;
+use conflict_book::spec_state::Pending;
 use guest_image::Image;
 use run_journal::{Entry, Journal};
-use serial_machine::MAX_COMMITS;
-use spec_state::Pending;
 use std::alloc::{AllocError, Global};
 use task_desc::Name;
 
-/// Law: a run, of which some tasks pend, all in the root domain, and a run of the image with these tasks and the memory
-/// of the first are one run.
+/// Law: a run whose pending tasks are all in the root domain, and a run of the image with these tasks and the memory of
+/// the first are one run.
 pub fn runs_join()
     ensures { RunsJoin }
 {}
 
-/// Law: whoever takes a turn of a run was made by the image or by a turn of that run.
+/// Law: each task that takes a turn of a run was made by the image or by a turn of that run.
 fn creators_are_turns()
     ensures { (image : ImageValue) → (budget : ℕ) → (journal : List Entry) → (state : SerialState)
         → IsRun image budget journal state → All (λ e. e.name.creator ≤ length journal) journal }
@@ -70,11 +70,11 @@ fn shift_entry(turns: u32, pending: &[Pending], entry: &Entry) -> Entry
     }
 }
 
-/// The journal of a stopped run of `image`, and behind it that of a run of its saved image with the same budget, each
-/// task under the name that it has in the one run that both are. Each journal has at most 1,000,000 entries,
-/// since a creator's number grows by the first; `snapshot` asks nothing of that.
+/// The journal of a stopped run of `image`, followed by that of a run of its saved image with the same budget, each
+/// task under the name that it has in the one run that both are. Each journal has at most 1,000,000 entries, since a
+/// creator's number grows by the first; `snapshot` doesn't require that.
 ///
-/// `AllocError` where memory runs out.
+/// `AllocError` if memory runs out.
 pub fn join_runs(
     alloc: Global,
     image: &Image,

@@ -1,12 +1,12 @@
-//! A run that met its commit limit goes on later from an image of what it left.
+//! A run that met its commit limit continues later from an image of what it left.
 //!
-//! The saved image has the first one's text, the memory that the first run left, and the tasks that pend after it.
-//! What runs from it is what the first run would have gone on with: both journals, the second with its names
-//! shifted, are one run of the first image.
+//! The saved image has the first one's text, the memory that the first run left, and the tasks that are pending after
+//! it. A run of it is the rest of the first run: both journals, the second with its names shifted, are one run of the
+//! first image.
 //!
-//! It stands on the book's frozen runs, on the serial machine and on the laws of runs and of what pends; the
-//! program saves by it, and a library's caller joins. A saved image costs a copy of the text, the memory and the
-//! tasks, a joined journal a copy of both.
+//! It depends on the book's frozen runs, on the serial machine and on the laws of runs and of pending tasks; the
+//! program saves by it, and a library's caller joins. A saved image costs a copy of the text, the memory and the tasks,
+//! a joined journal a copy of both.
 #![tactic(auto)]
 
 mod fault;
@@ -14,7 +14,7 @@ mod joining;
 mod saving;
 
 pub use conflict_book::Frozen;
+pub use conflict_book::spec_state::{Pending, Pendings};
 pub use fault::SaveFault;
 pub use joining::{join_runs, runs_join};
 pub use saving::snapshot;
-pub use spec_state::{Pending, Pendings};

@@ -1,4 +1,4 @@
-//! The image from which a stopped run goes on.
+//! The image from which a stopped run continues.
 
 ghost use Rattle.std.specs.Prelude.{◌≡◌, ◌<◌, ◌≤◌, ◌↔◌, ◌-◌, ◌^◌, ℕ, All};
 ghost use Rattle.std.specs.Prelude.{Any, length, map, min, IfOk, IfErr, IsOk, OnOk};
@@ -11,8 +11,8 @@ ghost use Rattle.resume_image.specs.Saved.{CannotSave, IsSavedOf, saved_task};
 
 use crate::fault::SaveFault;
 use conflict_book::Frozen;
+use conflict_book::spec_state::Pending;
 use guest_image::{Image, ImageTask, Kind, MAX_TASKS};
-use spec_state::Pending;
 use std::alloc::{AllocError, Global};
 
 /// Law: a stopped run's memory is as long as the image's data, and no depth is 0.
@@ -26,7 +26,7 @@ fn frozen_fits(image: &Image, frozen: &Frozen)
     let _ = frozen.pending.as_slice();
 }
 
-/// A number as a fault tells it.
+/// A number as a fault reports it.
 fn fault_count(number: usize) -> u32
     ensures { result ≡ min number (2 ^ 32 - 1) }
 {
@@ -134,8 +134,8 @@ pub(crate) fn image_of(
     )
 }
 
-/// The image from which a stopped run of `image` goes on: its data are the memory that the run left, and its tasks the
-/// pending ones, in the order of their names.
+/// The image from which a stopped run of `image` continues: its data are the memory that the run left, and its tasks
+/// the pending ones, in the order of their names.
 ///
 /// It takes time and memory for a copy of the text, of the memory and of the tasks.
 pub fn snapshot(alloc: Global, image: &Image, frozen: &Frozen) -> Result<Image, SaveFault>

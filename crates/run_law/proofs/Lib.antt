@@ -9,3 +9,4 @@ pub mod Forced
 pub mod Lawful
 pub mod Sized
 pub mod Proved
+pub mod Below

@@ -8,3 +8,4 @@
 mod laws;
 
 pub use laws::runs_are_lawful;
+pub use serial_machine;

@@ -1,2 +1,3 @@
 pub mod Written
 pub mod Quiet
+pub mod Below

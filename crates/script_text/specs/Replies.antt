@@ -1,8 +1,8 @@
--- The text of what was said of the acts of a script.
+-- The text of the replies to the acts of a script.
 use Rattle.std.specs.Prelude.{ℕ, List, ◌++◌, codes, decimal}
 use Rattle.std.specs.List.{flat_map}
-use Rattle.event_def.specs.declared.event.Reply.{Reply}
-use Rattle.event_def.specs.declared.event.Reply.TheVariants as reply
+use Rattle.step_script.specs.event_def.declared.event.Reply.{Reply}
+use Rattle.step_script.specs.event_def.declared.event.Reply.TheVariants as reply
 use Rattle.step_script.specs.declared.saying.Said.{Said}
 use Rattle.step_script.specs.declared.saying.Word.{Word}
 use Rattle.step_script.specs.declared.saying.Word.TheVariants as words
@@ -24,7 +24,7 @@ word_text (words.Plain answer) = reply_text answer
 word_text words.Moved = codes "moved"
 word_text words.Committed = codes "committed"
 
--- the line of an act: `<word> <tasks taken back>`
+-- the line of an act: `<word> <tasks aborted>`
 unfoldable pub reply_line : Said → List ℕ
 reply_line said = word_text said.word ++ codes " " ++ decimal said.aborted ++ codes "\n"
 

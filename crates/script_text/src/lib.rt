@@ -1,6 +1,6 @@
-//! The text of what was said of the acts of a script, and of what taps saw: written line by line without memory.
-//! Each line is one piece for the sink, with its newline, and costs its digits. It stands on sinks, on the
-//! lines of `report_text`, and on the types of scripts; the program calls it.
+//! The text of the replies to the acts of a script, and of what taps saw: written line by line without allocating. Each
+//! line is one piece for the sink, with its newline, and costs its digits. It depends on sinks, on the lines of
+//! `report_text`, and on the types of scripts; the program calls it.
 #![tactic(auto)]
 
 mod line;
@@ -8,4 +8,10 @@ mod replies;
 mod traces;
 
 pub use replies::write_replies;
+pub use report_text;
+pub use step_script;
+pub use step_script::{
+    conflict_book, event_def, event_move, event_prelude, event_step, serial_machine, spec_dispatch,
+    spec_state,
+};
 pub use traces::write_trace;

@@ -6,9 +6,9 @@ ghost use Rattle.step_script.specs.declared.saying.Word.TheVariants.{Plain};
 ghost use Rattle.script_text.specs.Replies.{reply_line, reply_lines, reply_text, word_text};
 
 use crate::line::put_count;
-use event_def::Reply;
 use report_text::{Line, put};
 use sim_io::{Failed, Sink, write_all};
+use step_script::event_def::Reply;
 use step_script::{Said, Word};
 
 /// The word for a reply.
@@ -53,7 +53,7 @@ fn line_of(said: Said) -> Line
     line
 }
 
-/// The line of a reply to an act that took no task back.
+/// The line of a reply to an act that aborted no task.
 fn quiet_reply(reply: Reply) -> &'static [u8]
     ensures { result.now ≡ reply_line (record { word = Plain reply; aborted = 0 }) }
 {
@@ -69,7 +69,7 @@ fn quiet_reply(reply: Reply) -> &'static [u8]
     }
 }
 
-/// The line of an act that took no task back, which most acts are.
+/// The line of an act that aborted no task, which most acts are.
 fn quiet_line(word: Word) -> &'static [u8]
     ensures { result.now ≡ reply_line (record { word = word; aborted = 0 }) }
 {
@@ -90,8 +90,8 @@ fn write_reply<K: Sink>(sink: &mut K, said: Said) -> Result<(), Failed>
     }
 }
 
-/// Writes what was said of acts: a line for each, with its word and how many tasks it took back. After `Failed` a
-/// prefix of the text was taken.
+/// Writes the replies to acts: a line for each, with its word and how many tasks it aborted. After `Failed` a prefix of
+/// the text was taken.
 pub fn write_replies<K: Sink>(sink: &mut K, said: &[Said]) -> Result<(), Failed>
     ensures { Writes (K.state sink.old) (K.state sink.new) result (reply_lines said.now) }
 {

@@ -149,20 +149,20 @@ impl Model for MemSink {
 }
 
 impl MemSink {
-    /// A sink that takes at most `most` bytes, and at most `piece` of them a call. The calls
+    /// A sink that takes at most `room` bytes, and at most `piece` of them a call. The calls
     /// whose numbers are in `fail_at`, counted from 1, fail. All its memory is taken here.
     pub fn new(
         alloc: Global,
-        most: usize,
+        room: usize,
         piece: usize,
         fail_at: Vec<u32>,
     ) -> Result<MemSink, AllocError>
         requires { 1 ≤ piece }
-        ensures { IfOk result (λ s. s ≡ new_sink most piece fail_at.items) }
+        ensures { IfOk result (λ s. s ≡ new_sink room piece fail_at.items) }
     {
         Ok(MemSink {
-            bytes: Vec::with_capacity(alloc, most)?,
-            most,
+            bytes: Vec::with_capacity(alloc, room)?,
+            most: room,
             piece,
             fail_at,
             calls: 0,

@@ -16,14 +16,14 @@ use Rattle.task_request.proofs.Proved.{request_at-reaches}
 use Rattle.undo_log.specs.declared.access.Access.{Access}
 use Rattle.undo_log.specs.Number.{IsAccessible}
 use Rattle.undo_log.specs.Undo.{MemoryCall, access_of, after_call, AllAccessible}
-use Rattle.spec_state.specs.declared.settings.Settings.{Settings}
-use Rattle.spec_state.specs.declared.task.Task.{Task}
-use Rattle.spec_state.specs.View.{View, task_at}
-use Rattle.spec_state.specs.Tasks.{context_of}
-use Rattle.spec_state.specs.Filters.{Lines, HasNotes}
-use Rattle.spec_state.specs.Changes.{Accesses}
+use Rattle.spec_dispatch.specs.spec_state.declared.settings.Settings.{Settings}
+use Rattle.spec_dispatch.specs.spec_state.declared.task.Task.{Task}
+use Rattle.spec_dispatch.specs.spec_state.View.{View, task_at}
+use Rattle.spec_dispatch.specs.spec_state.Tasks.{context_of}
+use Rattle.spec_dispatch.specs.spec_state.Filters.{Lines, HasNotes}
+use Rattle.spec_dispatch.specs.spec_state.Changes.{Accesses}
 use Rattle.spec_access.specs.Asking.{Asks}
-use Rattle.spec_state.proofs.Proved.{others_set, task_set}
+use Rattle.spec_dispatch.proofs.Below.spec_state.Proved.{others_set, task_set}
 
 -- what is asked for at a stop inside the data lies in the data
 pub asks_inside : (size : ℕ) (view : View) (leg : LegValue) (id : ℕ) (request : Request) → Asks view leg id request

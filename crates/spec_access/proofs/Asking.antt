@@ -5,10 +5,10 @@ use Rattle.rv_core.specs.LegValue.{LegValue}
 use Rattle.task_request.specs.Conditions.{KeepsLimits}
 use Rattle.task_request.specs.declared.request.Request.{Request}
 use Rattle.task_request.proofs.Proved.{allowed_by-limits, AllowedBy, request_at-allowed_spawn}
-use Rattle.spec_state.specs.declared.task.Task.{Task}
-use Rattle.spec_state.specs.View.{View, task_at}
-use Rattle.spec_state.specs.Tasks.{context_of}
-use Rattle.spec_state.specs.Changes.{request_of}
+use Rattle.spec_dispatch.specs.spec_state.declared.task.Task.{Task}
+use Rattle.spec_dispatch.specs.spec_state.View.{View, task_at}
+use Rattle.spec_dispatch.specs.spec_state.Tasks.{context_of}
+use Rattle.spec_dispatch.specs.spec_state.Changes.{request_of}
 use Rattle.spec_access.specs.Asking.{Asks}
 
 module _ (view seen : View) (leg : LegValue) (id : ℕ) (request : Request) (task : Task)

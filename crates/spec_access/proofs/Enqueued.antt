@@ -17,15 +17,16 @@ use Rattle.task_desc.specs.declared.desc.Place.TheVariants.{Same, Sub, Super}
 use Rattle.task_desc.specs.declared.desc.Spawn.{Spawn}
 use Rattle.task_desc.specs.Calls.{allowed_at, allowed_sub}
 use Rattle.task_request.specs.declared.request.Request.TheVariants.{Enqueue}
-use Rattle.spec_state.specs.declared.task.Creator.TheVariants.{Live}
-use Rattle.spec_state.specs.declared.task.Task.{Task}
-use Rattle.spec_state.specs.declared.task.TaskId.{TaskId}
-use Rattle.spec_state.specs.View.{View, task_at, queued_last}
-use Rattle.spec_state.specs.Tasks.{depth_of, sub_bit, child_domain, child_kinds, child_descriptor, own_level}
-use Rattle.spec_state.specs.Tasks.{idle_task, context_of}
-use Rattle.spec_state.specs.Stored.{IsWellFormed}
-use Rattle.spec_state.specs.Opening.{Adds}
-use Rattle.spec_state.specs.Changes.{Keeps, task_past_leg}
+use Rattle.spec_dispatch.specs.spec_state.declared.task.Creator.TheVariants.{Live}
+use Rattle.spec_dispatch.specs.spec_state.declared.task.Task.{Task}
+use Rattle.spec_dispatch.specs.spec_state.declared.task.TaskId.{TaskId}
+use Rattle.spec_dispatch.specs.spec_state.View.{View, task_at, queued_last}
+use Rattle.spec_dispatch.specs.spec_state.Tasks.{depth_of, sub_bit, child_domain, child_kinds, child_descriptor}
+use Rattle.spec_dispatch.specs.spec_state.Tasks.{own_level}
+use Rattle.spec_dispatch.specs.spec_state.Tasks.{idle_task, context_of}
+use Rattle.spec_dispatch.specs.spec_state.Stored.{IsWellFormed}
+use Rattle.spec_dispatch.specs.spec_state.Opening.{Adds}
+use Rattle.spec_dispatch.specs.spec_state.Changes.{Keeps, task_past_leg}
 use Rattle.spec_access.specs.Asking.{Asks}
 use Rattle.spec_access.specs.Telling.{EnqueuesTold}
 use Rattle.spec_access.proofs.Asking.{asked_allowed}

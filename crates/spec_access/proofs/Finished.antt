@@ -6,19 +6,19 @@ use Rattle.std.proofs.lemmas.Bool.{cases_eq}
 use Rattle.std.proofs.lemmas.List.{get_or-set_same, get_or-set_other, get_or-map, map-set}
 use Rattle.std.proofs.lemmas.List.Elements.{Contains-push, Contains-push_cases, Contains-append_left}
 use Rattle.std.proofs.lemmas.Option.{same_Some, slice_get_within}
-use Rattle.spec_state.specs.declared.task.Status.TheVariants.{Running, Finished}
-use Rattle.spec_state.specs.declared.task.Task.{Task}
-use Rattle.spec_state.specs.declared.task.TaskId.{TaskId}
+use Rattle.spec_dispatch.specs.spec_state.declared.task.Status.TheVariants.{Running, Finished}
+use Rattle.spec_dispatch.specs.spec_state.declared.task.Task.{Task}
+use Rattle.spec_dispatch.specs.spec_state.declared.task.TaskId.{TaskId}
 use Rattle.tile_queues.specs.Queue.{QueueValue}
-use Rattle.spec_state.specs.declared.settings.Settings.{Settings}
-use Rattle.spec_state.specs.Fits.{HasTiles}
-use Rattle.spec_state.specs.View.{View, task_at, core_ids, finished_at, cores_at, ChangesTask}
-use Rattle.spec_state.specs.Stored.{HasCore, HasTask, IsWellFormed, IsStored}
-use Rattle.spec_state.specs.Changes.{with_core, TakesLeg, Finishes}
+use Rattle.spec_dispatch.specs.spec_state.declared.settings.Settings.{Settings}
+use Rattle.spec_dispatch.specs.spec_state.Fits.{HasTiles}
+use Rattle.spec_dispatch.specs.spec_state.View.{View, task_at, core_ids, finished_at, cores_at, ChangesTask}
+use Rattle.spec_dispatch.specs.spec_state.Stored.{HasCore, HasTask, IsWellFormed, IsStored}
+use Rattle.spec_dispatch.specs.spec_state.Changes.{with_core, TakesLeg, Finishes}
 use Rattle.rv_core.specs.declared.state.Core.{Core}
 use Rattle.rv_core.specs.LegValue.{LegValue}
 use Rattle.rv_core.specs.Legs.{after_other_of}
-use Rattle.spec_state.proofs.Proved.{others_set, set_here, set_there, task_set, within_lists}
+use Rattle.spec_dispatch.proofs.Below.spec_state.Proved.{others_set, set_here, set_there, task_set, within_lists}
 use Rattle.spec_access.specs.Asking.{CommitQueueHasRoom}
 use Rattle.spec_access.proofs.Kept.{place_forth, place_back, formed_all}
 

@@ -9,10 +9,10 @@ use Rattle.task_desc.specs.declared.desc.Spawn.{Spawn}
 use Rattle.task_request.specs.declared.request.Request.{Request}
 use Rattle.task_request.specs.declared.request.Request.TheVariants.{Continue, Load, Store, Enqueue, MakeSub, Emit}
 use Rattle.task_request.specs.declared.request.Request.TheVariants.{Trap}
-use Rattle.spec_state.specs.declared.task.Task.{Task}
-use Rattle.spec_state.specs.declared.task.TaskId.{TaskId}
-use Rattle.spec_state.specs.View.{View}
-use Rattle.spec_state.specs.Changes.{TakesLeg, request_of, LoadsFrom, StoresTo, MakesSub, Emits}
+use Rattle.spec_dispatch.specs.spec_state.declared.task.Task.{Task}
+use Rattle.spec_dispatch.specs.spec_state.declared.task.TaskId.{TaskId}
+use Rattle.spec_dispatch.specs.spec_state.View.{View}
+use Rattle.spec_dispatch.specs.spec_state.Changes.{TakesLeg, request_of, LoadsFrom, StoresTo, MakesSub, Emits}
 use Rattle.spec_access.specs.Asking.{Asks, AsksForNothing, HasOwnNotes, HasTaker, OfTaker, OfTakerAsking}
 use Rattle.spec_access.specs.Telling.{EnqueuesTold}
 use Rattle.spec_access.proofs.Asking.{asked_is}

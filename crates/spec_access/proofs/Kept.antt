@@ -4,12 +4,12 @@ use Rattle.std.specs.Prelude.{is_some}
 use Rattle.std.proofs.lemmas.Bool.{cases_eq}
 use Rattle.std.proofs.lemmas.Option.{same_Some}
 use Rattle.rv_core.specs.declared.state.Core.{Core}
-use Rattle.spec_state.specs.declared.task.Status.{Status}
-use Rattle.spec_state.specs.declared.task.Status.TheVariants.{Running}
-use Rattle.spec_state.specs.declared.task.Task.{Task}
-use Rattle.spec_state.specs.View.{View, task_at, ChangesTask}
-use Rattle.spec_state.specs.Tasks.{kept_core}
-use Rattle.spec_state.specs.Stored.{HasTask, IsWellFormed, IsStored}
+use Rattle.spec_dispatch.specs.spec_state.declared.task.Status.{Status}
+use Rattle.spec_dispatch.specs.spec_state.declared.task.Status.TheVariants.{Running}
+use Rattle.spec_dispatch.specs.spec_state.declared.task.Task.{Task}
+use Rattle.spec_dispatch.specs.spec_state.View.{View, task_at, ChangesTask}
+use Rattle.spec_dispatch.specs.spec_state.Tasks.{kept_core}
+use Rattle.spec_dispatch.specs.spec_state.Stored.{HasTask, IsWellFormed, IsStored}
 
 module _ (id : ℕ) (old new : View) (task now : Task) (there : task_at old id ≡ Some task)
     (changes : ChangesTask old new id (Some now)) where

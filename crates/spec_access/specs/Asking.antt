@@ -6,11 +6,11 @@ use Rattle.rv_table.specs.declared.instr.LoadWidth.{LoadWidth}
 use Rattle.task_desc.specs.declared.desc.Spawn.{Spawn}
 use Rattle.task_request.specs.declared.request.Request.{Request}
 use Rattle.task_request.specs.declared.request.Request.TheVariants.{Continue, Load, Store, Enqueue, MakeSub, Emit, Trap}
-use Rattle.spec_state.specs.declared.task.Task.{Task}
-use Rattle.spec_state.specs.Filters.{HasNotes}
-use Rattle.spec_state.specs.View.{View, finished_at}
-use Rattle.spec_state.specs.Queries.{IsOnCore}
-use Rattle.spec_state.specs.Changes.{TakesLeg, request_of}
+use Rattle.spec_dispatch.specs.spec_state.declared.task.Task.{Task}
+use Rattle.spec_dispatch.specs.spec_state.Filters.{HasNotes}
+use Rattle.spec_dispatch.specs.spec_state.View.{View, finished_at}
+use Rattle.spec_dispatch.specs.spec_state.Queries.{IsOnCore}
+use Rattle.spec_dispatch.specs.spec_state.Changes.{TakesLeg, request_of}
 
 -- the task of this id takes the leg, on a core of this tile
 abbrev pub HasTakerIn : View → ℕ → LegValue → ℕ → Type 0

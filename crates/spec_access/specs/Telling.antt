@@ -3,10 +3,10 @@ use Rattle.std.specs.Prelude.{◌≡◌, ℕ, Some}
 use Rattle.std.specs.declared.option.Option.{Option}
 use Rattle.rv_core.specs.LegValue.{LegValue}
 use Rattle.task_desc.specs.declared.desc.Spawn.{Spawn}
-use Rattle.spec_state.specs.declared.task.Task.{Task}
-use Rattle.spec_state.specs.declared.task.TaskId.{TaskId}
-use Rattle.spec_state.specs.Changes.{Enqueues}
-use Rattle.spec_state.specs.View.{View}
+use Rattle.spec_dispatch.specs.spec_state.declared.task.Task.{Task}
+use Rattle.spec_dispatch.specs.spec_state.declared.task.TaskId.{TaskId}
+use Rattle.spec_dispatch.specs.spec_state.Changes.{Enqueues}
+use Rattle.spec_dispatch.specs.spec_state.View.{View}
 
 -- the child is enqueued, and is told as the one that came
 abbrev pub EnqueuesTold : ℕ → Task → LegValue → Spawn → ℕ → View → View → Option TaskId → Type 0

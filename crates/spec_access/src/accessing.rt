@@ -3,15 +3,15 @@
 
 ghost use Rattle.std.specs.Prelude.{◌≡◌, IsOk, IsSome, OnOk, OnErr};
 ghost use Rattle.task_request.specs.declared.request.Request.TheVariants.{Load, Store};
-ghost use Rattle.spec_state.specs.View.{task_at};
-ghost use Rattle.spec_state.specs.StateValue.{CoversLog};
-ghost use Rattle.spec_state.specs.Changes.{LoadsFrom, StoresTo};
+ghost use Rattle.spec_dispatch.specs.spec_state.View.{task_at};
+ghost use Rattle.spec_dispatch.specs.spec_state.StateValue.{CoversLog};
+ghost use Rattle.spec_dispatch.specs.spec_state.Changes.{LoadsFrom, StoresTo};
 ghost use Rattle.spec_access.specs.Asking.{Asks, HasOwnNotes, OfTaker};
 
 use crate::calling::put_behind;
 use rv_core::{Leg, Naming, width_of_load};
 use rv_table::{LoadWidth, Reg};
-use spec_state::{State, TaskId};
+use spec_dispatch::spec_state::{State, TaskId};
 use std::alloc::AllocError;
 use undo_log::{load_with, store_with};
 

@@ -4,13 +4,13 @@ ghost use Rattle.std.specs.Prelude.{◌≡◌, ◌<◌, ◌-◌, ◌^◌, ◌∷
 ghost use Rattle.rv_core.specs.Legs.{after_other_of};
 ghost use Rattle.task_request.specs.declared.request.Request.TheVariants.{Continue, MakeSub};
 ghost use Rattle.task_request.specs.declared.request.Request.TheVariants.{Emit, Trap};
-ghost use Rattle.spec_state.specs.declared.task.Status.TheVariants.{Running};
-ghost use Rattle.spec_state.specs.Changes.{KeepsQuantum, KeepsTrap, MakesSub, Emits};
+ghost use Rattle.spec_dispatch.specs.spec_state.declared.task.Status.TheVariants.{Running};
+ghost use Rattle.spec_dispatch.specs.spec_state.Changes.{KeepsQuantum, KeepsTrap, MakesSub, Emits};
 ghost use Rattle.spec_access.specs.Asking.{Asks, OfTaker};
 
 use guest_image::Kind;
 use rv_core::{Leg, Naming, NotedCore};
-use spec_state::{State, Status, TaskId};
+use spec_dispatch::spec_state::{State, Status, TaskId};
 
 /// The core of its tile on which a task with this status runs.
 #[inline]
@@ -48,17 +48,17 @@ pub fn end_quantum<N: Naming>(state: &mut State<N>, id: TaskId, leg: &Leg<N>)
 }
 
 /// A task that came to a trap keeps the cause, 1 to 17, and its core as it was at the end of the leg.
-pub fn call_trap<N: Naming>(state: &mut State<N>, id: TaskId, leg: &Leg<N>, cause: u8)
-    requires asks { Asks state.old.view leg.now id.0 (Trap cause) }
-    ensures traps { OfTaker state.old.view leg.now id.0 (λ tile core task.
-        KeepsTrap id.0 task leg.now core cause state.old.view state.new.view) }
+pub fn call_trap<N: Naming>(state: &mut State<N>, task: TaskId, leg: &Leg<N>, cause: u8)
+    requires asks { Asks state.old.view leg.now task.0 (Trap cause) }
+    ensures traps { OfTaker state.old.view leg.now task.0 (λ tile core taker.
+        KeepsTrap task.0 taker leg.now core cause state.old.view state.new.view) }
     ensures effect { state.new.effect ≡ state.old.effect }
     ensures spare { state.new.spare ≡ state.old.spare }
 {
-    let task = &mut state.tasks[id.0];
-    let core = held_core(task.status);
-    leg.put_end(&mut task.core);
-    task.status = Status::Trapped { core, cause };
+    let taker = &mut state.tasks[task.0];
+    let core = held_core(taker.status);
+    leg.put_end(&mut taker.core);
+    taker.status = Status::Trapped { core, cause };
 }
 
 /// A task makes its subdomain, of this kind.

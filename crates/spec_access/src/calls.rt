@@ -6,10 +6,10 @@ ghost use Rattle.rv_table.specs.declared.instr.LoadWidth.{LoadWidth};
 ghost use Rattle.task_desc.specs.declared.desc.Spawn.{Spawn};
 ghost use Rattle.task_request.specs.declared.request.Request.TheVariants.{Continue, Load, Store};
 ghost use Rattle.task_request.specs.declared.request.Request.TheVariants.{Enqueue, MakeSub, Emit, Trap};
-ghost use Rattle.spec_state.specs.StateValue.{CoversLog, CoversChild};
-ghost use Rattle.spec_state.specs.Room.{QueueHasRoom};
-ghost use Rattle.spec_state.specs.Changes.{LoadsFrom, StoresTo};
-ghost use Rattle.spec_state.specs.Changes.{MakesSub, Emits, KeepsQuantum, KeepsTrap};
+ghost use Rattle.spec_dispatch.specs.spec_state.StateValue.{CoversLog, CoversChild};
+ghost use Rattle.spec_dispatch.specs.spec_state.Room.{QueueHasRoom};
+ghost use Rattle.spec_dispatch.specs.spec_state.Changes.{LoadsFrom, StoresTo};
+ghost use Rattle.spec_dispatch.specs.spec_state.Changes.{MakesSub, Emits, KeepsQuantum, KeepsTrap};
 ghost use Rattle.spec_access.specs.Asking.{AsksToLoad, AsksToStore, AsksForChild};
 ghost use Rattle.spec_access.specs.Asking.{AsksForSubdomain, AsksToEmit, AsksForNothing};
 ghost use Rattle.spec_access.specs.Asking.{HasOwnNotes, OfTakerAsking};
@@ -20,7 +20,7 @@ use crate::calling::{call_trap, end_quantum, open_sub, put_byte};
 use crate::requests::{byte_of, cause_of, kind_of, load_of, request_of_task, spawn_of, store_of};
 use crate::spawning::enqueue_child;
 use rv_core::{Leg, Naming};
-use spec_state::{State, TaskId};
+use spec_dispatch::spec_state::{State, TaskId};
 use std::alloc::AllocError;
 
 /// Makes the load at which a task's leg stopped: its register has what the memory has there, and the access joins

@@ -2,14 +2,14 @@
 
 ghost use Rattle.std.specs.Prelude.{◌≡◌, ◌<◌, ◌*◌, ◌-◌, ◌^◌, ℕ, true, take, length, IsSome};
 ghost use Rattle.task_desc.specs.declared.desc.Place.TheVariants.{Sub};
-ghost use Rattle.spec_state.specs.declared.task.Creator.TheVariants.{Live};
-ghost use Rattle.spec_state.specs.Tasks.{is_dispatched, sub_bit, child_domain, child_kinds};
-ghost use Rattle.spec_state.specs.Tasks.{child_descriptor, idle_task};
-ghost use Rattle.spec_state.specs.Stored.{IsWellFormed};
+ghost use Rattle.spec_dispatch.specs.spec_state.declared.task.Creator.TheVariants.{Live};
+ghost use Rattle.spec_dispatch.specs.spec_state.Tasks.{is_dispatched, sub_bit, child_domain, child_kinds};
+ghost use Rattle.spec_dispatch.specs.spec_state.Tasks.{child_descriptor, idle_task};
+ghost use Rattle.spec_dispatch.specs.spec_state.Stored.{IsWellFormed};
 
 use fractal_vt::{Vt, as_domain};
 use guest_image::Kind;
-use spec_state::{Creator, Fresh, Task, TaskId};
+use spec_dispatch::spec_state::{Creator, Fresh, Task, TaskId};
 use task_desc::{Place, Spawn};
 
 /// The domain in which this one lies: its levels but the last one.

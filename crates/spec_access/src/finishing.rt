@@ -3,14 +3,14 @@
 ghost use Rattle.std.specs.Prelude.{◌≡◌, ◌<◌, ◌∷◌, ◌++◌, [], ℕ, All, Contains, None, length, map};
 ghost use Rattle.std.specs.Prelude.{vec_len, slice_index_or, slice_set};
 ghost use Rattle.task_request.specs.declared.request.Request.TheVariants.{End};
-ghost use Rattle.spec_state.specs.Fits.{ids_in};
-ghost use Rattle.spec_state.specs.View.{core_ids};
-ghost use Rattle.spec_state.specs.Changes.{Finishes};
+ghost use Rattle.spec_dispatch.specs.spec_state.Fits.{ids_in};
+ghost use Rattle.spec_dispatch.specs.spec_state.View.{core_ids};
+ghost use Rattle.spec_dispatch.specs.spec_state.Changes.{Finishes};
 ghost use Rattle.spec_access.specs.Asking.{Asks, CommitQueueHasRoom, OfTaker};
 
 use crate::calling::{held_core, put_behind};
 use rv_core::{Leg, Naming};
-use spec_state::{State, Status, TaskId};
+use spec_dispatch::spec_state::{State, Status, TaskId};
 use tile_queues::CommitQueue;
 
 /// Puts an id that is not there into a queue with a free place, as the last one.
@@ -55,20 +55,20 @@ fn free_core(cores: &mut Vec<Vec<Option<TaskId>>>, tile: usize, core: usize)
 
 /// A task that asks to end leaves its core for the commit queue of its tile, where a place is
 /// free.
-pub fn finish<N: Naming>(state: &mut State<N>, id: TaskId, leg: &Leg<N>)
-    requires asks { Asks state.old.view leg.now id.0 End }
-    requires free { CommitQueueHasRoom state.old.view id.0 }
-    ensures finishes { OfTaker state.old.view leg.now id.0 (λ tile core task.
-        Finishes tile core id.0 task leg.now state.old.view state.new.view) }
+pub fn finish<N: Naming>(state: &mut State<N>, task: TaskId, leg: &Leg<N>)
+    requires asks { Asks state.old.view leg.now task.0 End }
+    requires free { CommitQueueHasRoom state.old.view task.0 }
+    ensures finishes { OfTaker state.old.view leg.now task.0 (λ tile core taker.
+        Finishes tile core task.0 taker leg.now state.old.view state.new.view) }
     ensures effect { state.new.effect ≡ state.old.effect }
     ensures spare { state.new.spare ≡ state.old.spare }
 {
     let budget = state.settings.budget;
-    let task = &mut state.tasks[id.0];
-    let tile = task.tile as usize;
-    let core = held_core(task.status) as usize;
-    put_behind(&mut task.core, budget, leg);
-    task.status = Status::Finished;
-    put_finished(&mut state.finished, tile, id.0);
+    let taker = &mut state.tasks[task.0];
+    let tile = taker.tile as usize;
+    let core = held_core(taker.status) as usize;
+    put_behind(&mut taker.core, budget, leg);
+    taker.status = Status::Finished;
+    put_finished(&mut state.finished, tile, task.0);
     free_core(&mut state.cores, tile, core);
 }

@@ -23,4 +23,5 @@ pub use calls::{emit, keep, make_sub, read, spawn, write};
 pub use finishing::finish;
 pub use requests::request_of_task;
 pub use spawning::enqueue_child;
+pub use spec_dispatch;
 pub use spec_dispatch::dispatch;

@@ -2,18 +2,18 @@
 
 ghost use Rattle.std.specs.Prelude.{◌≡◌, ◌<◌, ◌∷◌, ◌++◌, [], IsOk, IsSome, OnOk, OnErr};
 ghost use Rattle.task_request.specs.declared.request.Request.TheVariants.{Enqueue};
-ghost use Rattle.spec_state.specs.declared.task.Task.{Task};
-ghost use Rattle.spec_state.specs.View.{task_at};
-ghost use Rattle.spec_state.specs.StateValue.{CoversChild};
-ghost use Rattle.spec_state.specs.Room.{QueueHasRoom};
-ghost use Rattle.spec_state.specs.Changes.{Keeps, task_past_leg};
+ghost use Rattle.spec_dispatch.specs.spec_state.declared.task.Task.{Task};
+ghost use Rattle.spec_dispatch.specs.spec_state.View.{task_at};
+ghost use Rattle.spec_dispatch.specs.spec_state.StateValue.{CoversChild};
+ghost use Rattle.spec_dispatch.specs.spec_state.Room.{QueueHasRoom};
+ghost use Rattle.spec_dispatch.specs.spec_state.Changes.{Keeps, task_past_leg};
 ghost use Rattle.spec_access.specs.Asking.{Asks, OfTaker};
 ghost use Rattle.spec_access.specs.Telling.{EnqueuesTold};
 
 use crate::calling::put_behind;
 use crate::child::child_of;
 use rv_core::{Leg, Naming};
-use spec_state::{State, TaskId};
+use spec_dispatch::spec_state::{State, TaskId};
 use std::alloc::AllocError;
 use task_desc::Spawn;
 

@@ -24,7 +24,7 @@ use Rattle.spill_store.specs.SpilledTasks.{Spilled, after_push}
 use Rattle.spill_store.specs.Pushing.{after_pushes}
 use Rattle.tile_queues.specs.Queue.{ids_but}
 use Rattle.tile_queues.proofs.Proved.{ids_but-absent, ids_but-cons_other}
-use Rattle.task_law.specs.Room.{RoomTask, queue_after, kept_by}
+use Rattle.spec_state.specs.task_law.Room.{RoomTask, queue_after, kept_by}
 use Rattle.spec_state.specs.declared.task.Status.TheVariants.{Idle, Finished}
 use Rattle.spec_state.specs.declared.task.Status.{Status}
 use Rattle.spec_state.specs.declared.task.Task.{Task}

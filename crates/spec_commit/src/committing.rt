@@ -18,7 +18,7 @@ ghost use Rattle.spec_commit.specs.Committing.{IsAdoptedOrSame, after_adoption};
 use fractal_vt::as_domain;
 use kept_slab::KeptSlab;
 use rv_core::Naming;
-use serial_machine::Entry;
+use spec_state::serial_machine::Entry;
 use spec_state::{Children, Creator, State, Task, TaskId};
 use std::alloc::AllocError;
 use task_desc::Name;

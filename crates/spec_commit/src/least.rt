@@ -11,7 +11,7 @@ ghost use Rattle.spec_commit.specs.Committing.{HasCommittedCreator};
 
 use crate::committing::commit_task;
 use rv_core::Naming;
-use serial_machine::Entry;
+use spec_state::serial_machine::Entry;
 use spec_state::{Creator, State, Task, TaskId};
 use std::alloc::AllocError;
 

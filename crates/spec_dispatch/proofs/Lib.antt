@@ -5,3 +5,4 @@ pub mod Walked
 pub mod Tabled
 pub mod Renumbers
 pub mod Readied
+pub mod Below

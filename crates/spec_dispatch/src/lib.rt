@@ -16,3 +16,4 @@ mod table;
 
 pub use cores::free_core;
 pub use dispatching::{dispatch, dispatch_task};
+pub use spec_state;

@@ -11,3 +11,4 @@ pub mod Dispatches
 pub mod Commits
 pub mod Telling
 pub mod Proved
+pub mod Below

@@ -1,16 +1,27 @@
 -- What filters tell in a sound view.
 use Rattle.std.proofs.Common.{◌≡◌, ℕ, [], sym, ap, subst, ◌∙◌}
+use Rattle.std.specs.Prelude.{option_map}
 use Rattle.line_table.specs.declared.lines.FilterKind.TheVariants.{Modulo}
 use Rattle.line_table.specs.Lines.{IsLines, touched_by, wrote_by}
 use Rattle.line_table.specs.Signature.{touched_of, wrote_of}
 use Rattle.line_table.proofs.Proved.{bits_meet_modulo, cleared_tells_none, exact_tells_noted, meets_of-Meet}
 use Rattle.line_table.proofs.Proved.{noted_is_told, touched_as, wrote_as}
 use Rattle.memory_law.specs.Notes.{notes_of}
+use Rattle.memory_law.specs.Tasks.{IsNoted}
 use Rattle.spec_state.specs.declared.settings.Settings.{Settings}
 use Rattle.spec_state.specs.declared.task.Task.{Task}
 use Rattle.spec_state.specs.Filters.{HasNotes, has_touched, has_written}
+use Rattle.spec_state.specs.Groups.{logged_task}
 use Rattle.spec_state.proofs.Proved.{told_touched, told_written}
-use Rattle.spec_law.specs.FilterLaws.{ExactFiltersTell, FiltersTell, ModuloPullsByBits, TellsNoted}
+use Rattle.spec_law.specs.FilterLaws.{ExactFiltersTell, FiltersLeaveNoneOut, FiltersTell, ModuloPullsByBits}
+use Rattle.spec_law.specs.FilterLaws.{TellsNoted}
+
+-- it is a part of the chain of accesses
+pub filters_leave_none_out : FiltersLeaveNoneOut
+filters_leave_none_out image view id task sound there =
+    let chained = sound.memory.chained in
+    subst (λ size. IsNoted size view.settings.line (logged_task task)) (sym chained.size)
+    (chained.noted id (logged_task task) (ap (option_map logged_task) there))
 
 module _ (settings : Settings) (task : Task) (line : ℕ) (has : HasNotes settings task.lines task.log) where
   tells_noted : TellsNoted task settings.line line

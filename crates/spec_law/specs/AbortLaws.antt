@@ -3,8 +3,8 @@ use Rattle.std.specs.Prelude.{◌≡◌, ◌≢◌, ℕ, Bool, true, false, List
 use Rattle.guest_image.specs.ImageValue.{ImageValue}
 use Rattle.memory_law.specs.Events as memory
 use Rattle.order_law.specs.Events as order
-use Rattle.serial_machine.specs.State.{SerialState}
-use Rattle.task_law.specs.Moves as moves
+use Rattle.spec_state.specs.serial_machine.State.{SerialState}
+use Rattle.spec_state.specs.task_law.Moves as moves
 use Rattle.spec_state.specs.declared.task.Task.{Task}
 use Rattle.spec_state.specs.View.{View, task_at}
 use Rattle.spec_state.specs.Groups.{keyed_tasks, logged_tasks, bag_tasks}

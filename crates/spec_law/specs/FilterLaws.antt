@@ -1,13 +1,21 @@
 -- What the filters of the tasks of a sound view tell.
-use Rattle.std.specs.Prelude.{◌≡◌, ◌↔◌, ℕ, true, false, [], Some}
+use Rattle.std.specs.Prelude.{◌≡◌, ◌↔◌, ℕ, true, false, [], length, Some}
 use Rattle.guest_image.specs.ImageValue.{ImageValue}
 use Rattle.line_table.specs.declared.lines.FilterKind.TheVariants.{Modulo, Exact}
 use Rattle.line_table.specs.Note.{touched_in, wrote_in, Meet}
 use Rattle.memory_law.specs.Notes.{notes_of}
+use Rattle.memory_law.specs.Tasks.{AreNotedInFilter}
 use Rattle.spec_state.specs.declared.task.Task.{Task}
 use Rattle.spec_state.specs.View.{View, task_at}
 use Rattle.spec_state.specs.Filters.{has_stored, has_touched, has_written}
 use Rattle.spec_law.specs.Sound.{Sound}
+
+-- the filter of each task, of whatever kind, leaves out no access of its log, which is all that the laws of memory ask
+-- of it
+abbrev pub FiltersLeaveNoneOut : Type 0
+FiltersLeaveNoneOut =
+    (image : ImageValue) (view : View) (id : ℕ) (task : Task) → Sound image view → task_at view id ≡ Some task
+    → AreNotedInFilter (length view.memory) view.settings.line (has_touched task) (has_written task) task.log
 
 -- of a line, what is true of a filter of each kind where these are the notes of its task's log: what was noted is told;
 -- what is told as written is told as touched; where nothing was noted nothing is told

@@ -4,7 +4,7 @@ use Rattle.guest_image.specs.declared.image.Kind.{Kind}
 use Rattle.guest_image.specs.ImageValue.{ImageValue}
 use Rattle.rv_core.specs.LegValue.{LegValue, IsLegOfImage}
 use Rattle.rv_table.specs.declared.instr.LoadWidth.{LoadWidth}
-use Rattle.serial_machine.specs.Turn.{turn}
+use Rattle.spec_state.specs.serial_machine.Turn.{turn}
 use Rattle.task_desc.specs.declared.desc.Spawn.{Spawn}
 use Rattle.spec_state.specs.declared.numbers.TheConstants.{DISPATCH_NUMBERS}
 use Rattle.task_request.specs.declared.request.Request.{Request}

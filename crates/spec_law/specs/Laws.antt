@@ -4,9 +4,9 @@ use Rattle.std.specs.declared.cmp.Ordering.TheVariants.{Less}
 use Rattle.abort_cascade.specs.Cascade.{Marked}
 use Rattle.fractal_vt.specs.Keys.{key_cmp}
 use Rattle.guest_image.specs.ImageValue.{ImageValue}
-use Rattle.serial_machine.specs.BagValue.{BagValue}
+use Rattle.spec_state.specs.serial_machine.BagValue.{BagValue}
 use Rattle.spill_store.specs.SpilledTasks.{Spilled}
-use Rattle.task_law.specs.Commit.{HasTurn}
+use Rattle.spec_state.specs.task_law.Commit.{HasTurn}
 use Rattle.spec_state.specs.declared.task.Creator.{Creator}
 use Rattle.spec_state.specs.declared.task.Creator.TheVariants.{Committed}
 use Rattle.spec_state.specs.declared.task.Task.{Task}
@@ -17,7 +17,7 @@ use Rattle.spec_state.specs.Least.{Spot, Spilled_at, IsLeastSpot, IsLeastTask, H
 use Rattle.spec_state.specs.Queries.{Conflicts}
 use Rattle.spec_state.specs.Aborts.{IsCascade, IsUndone, OnlyNode, UndoesAll}
 use Rattle.spec_law.specs.Sound.{Sound}
-use Rattle.task_law.specs.Tasks.{pending}
+use Rattle.spec_state.specs.task_law.Tasks.{pending}
 
 -- there is one least task at most: two spots of least tasks are one
 abbrev pub LeastIsOne : Type 0

@@ -9,7 +9,7 @@ use Rattle.order_law.specs.Events.{IsPlaced}
 use Rattle.rv_core.specs.LegValue.{LegValue}
 use Rattle.task_desc.specs.declared.desc.Spawn.{Spawn}
 use Rattle.task_request.specs.declared.request.Request.TheVariants.{Enqueue}
-use Rattle.task_law.specs.Room as room
+use Rattle.spec_state.specs.task_law.Room as room
 use Rattle.spec_state.specs.declared.task.Creator.TheVariants.{Live}
 use Rattle.spec_state.specs.declared.task.Task.{Task}
 use Rattle.spec_state.specs.View.{View, task_at, queue_at, block_at}

@@ -6,8 +6,8 @@ use Rattle.fractal_vt.specs.Levels.{closed_level}
 use Rattle.guest_image.specs.ImageValue.{ImageValue}
 use Rattle.memory_law.specs.Chain.{IsChained}
 use Rattle.order_law.specs.Ordered.{IsOrdered}
-use Rattle.serial_machine.specs.Run.{IsRun}
-use Rattle.serial_machine.specs.State.{SerialState}
+use Rattle.spec_state.specs.serial_machine.Run.{IsRun}
+use Rattle.spec_state.specs.serial_machine.State.{SerialState}
 use Rattle.spill_store.specs.SpilledTasks.{Spilled}
 use Rattle.task_desc.specs.declared.desc.Spawn.{Spawn}
 use Rattle.task_desc.specs.Record.{IsDesc}
@@ -16,10 +16,10 @@ use Rattle.task_request.specs.declared.request.Request.TheVariants.{End, Trap}
 use Rattle.task_request.specs.Effects.{task_at_next}
 use Rattle.task_request.specs.TaskState.{TaskState, task_at_start}
 use Rattle.tile_queues.specs.Queue.{AreDistinct}
-use Rattle.task_law.specs.Commit.{Matches}
-use Rattle.task_law.specs.Domains.{FitsBags}
-use Rattle.task_law.specs.Logged.{CoreAsks, LoggedRun}
-use Rattle.task_law.specs.Sound.{AreSound}
+use Rattle.spec_state.specs.task_law.Commit.{Matches}
+use Rattle.spec_state.specs.task_law.Domains.{FitsBags}
+use Rattle.spec_state.specs.task_law.Logged.{CoreAsks, LoggedRun}
+use Rattle.spec_state.specs.task_law.Sound.{AreSound}
 use Rattle.spec_state.specs.declared.emitted.TheConstants.{MAX_EMITTED}
 use Rattle.spec_state.specs.declared.numbers.TheConstants.{DISPATCH_NUMBERS}
 use Rattle.spec_state.specs.declared.task.Creator.TheVariants.{Committed, Live}

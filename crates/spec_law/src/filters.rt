@@ -1,6 +1,11 @@
 //! What filters tell in a sound view. Each is the contract of a function that does nothing.
 
-ghost use Rattle.spec_law.specs.FilterLaws.{ExactFiltersTell, FiltersTell, ModuloPullsByBits};
+ghost use Rattle.spec_law.specs.FilterLaws.{ExactFiltersTell, FiltersLeaveNoneOut, FiltersTell, ModuloPullsByBits};
+
+/// The filter of each task, of whatever kind, leaves out no access of its log. The laws of memory ask no more of it.
+pub fn filters_leave_none_out()
+    ensures { FiltersLeaveNoneOut }
+{}
 
 /// A filter of each kind tells each line that its task's log has noted, as written where it has a store to it; what it
 /// tells as written it tells as touched; and one of a task that has done nothing tells nothing.

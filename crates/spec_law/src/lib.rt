@@ -25,7 +25,7 @@ pub use aborting::{
 };
 pub use accessing::{enqueue_stays_sound, load_stays_sound, store_stays_sound};
 pub use committing::commit_is_sound_turn;
-pub use filters::{exact_filters_tell, filters_tell, modulo_pulls_by_bits};
+pub use filters::{exact_filters_tell, filters_leave_none_out, filters_tell, modulo_pulls_by_bits};
 pub use laws::{
     all_undone_is_serial, cascade_is_later, conflicts_spare_asker, least_is_next, least_is_one,
     least_spilled_is_next, spilled_are_firm, undo_all_is_serial,

@@ -6,7 +6,7 @@ use Rattle.std.proofs.lemmas.Bool.{cases_eq}
 use Rattle.std.proofs.lemmas.Bool.Decides.{nat_tests}
 use Rattle.std.proofs.lemmas.Simd.{map-map}
 use Rattle.tile_queues.specs.Queue.{ids_but}
-use Rattle.task_law.specs.Room.{RoomTask, queue_after, kept_by}
+use Rattle.spec_state.specs.task_law.Room.{RoomTask, queue_after, kept_by}
 use Rattle.spec_state.specs.declared.task.Task.{Task}
 use Rattle.spec_state.specs.View.{View, task_at}
 use Rattle.spec_state.specs.Groups.{room_tasks, room_task, live_creator}

@@ -1,7 +1,7 @@
 -- Marked tasks that are taken back one after another.
 use Rattle.std.specs.Prelude.{◌≡◌, ◌⊎◌, ℕ, Bool, true, false, not, List, map, filter, Option, None, Some}
 use Rattle.std.specs.Prelude.{if◌then◌else◌}
-use Rattle.task_law.specs.Room.{queue_after}
+use Rattle.spec_state.specs.task_law.Room.{queue_after}
 use Rattle.spec_state.specs.declared.task.Task.{Task}
 use Rattle.spec_state.specs.View.{View, task_at}
 use Rattle.spec_state.specs.Groups.{room_tasks, live_creator}

@@ -26,3 +26,4 @@ pub mod Idles
 pub mod Named
 pub mod Touched
 pub mod Proved
+pub mod Below

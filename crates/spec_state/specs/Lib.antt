@@ -21,3 +21,7 @@ pub mod Opening
 pub mod Leaving
 pub mod Picks
 pub mod Pendings
+-- What the crates above name of the crates below.
+pub use Rattle.task_law.specs.serial_machine as serial_machine
+pub use Rattle.task_law.specs.run_law as run_law
+pub use Rattle.task_law.specs as task_law

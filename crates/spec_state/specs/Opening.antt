@@ -1,7 +1,7 @@
 -- A view before the first task, and a task that comes to be.
 use Rattle.std.specs.Prelude.{◌≡◌, ◌<◌, ℕ, List, [], Option, replicate, Some, None}
 use Rattle.guest_image.specs.ImageValue.{ImageValue}
-use Rattle.serial_machine.specs.Run.{opening_memory}
+use Rattle.task_law.specs.serial_machine.Run.{opening_memory}
 use Rattle.spill_store.specs.SpilledTasks.{Spilled}
 use Rattle.task_desc.specs.declared.desc.Desc.{Desc}
 use Rattle.tile_queues.specs.Queue.{QueueValue}

@@ -6,9 +6,9 @@ use Rattle.guest_image.specs.ImageValue.{ImageValue}
 use Rattle.pending_list.specs.Pending as names
 use Rattle.pending_list.specs.declared.task.PendingTask.{PendingTask}
 use Rattle.run_journal.specs.declared.journal.Entry.{Entry}
-use Rattle.serial_machine.specs.BagValue.{BagValue}
-use Rattle.serial_machine.specs.Run.{IsRun}
-use Rattle.serial_machine.specs.State.{SerialState}
+use Rattle.task_law.specs.serial_machine.BagValue.{BagValue}
+use Rattle.task_law.specs.serial_machine.Run.{IsRun}
+use Rattle.task_law.specs.serial_machine.State.{SerialState}
 use Rattle.task_desc.specs.declared.desc.Desc.{Desc}
 use Rattle.spill_store.specs.SpilledTasks.{Spilled}
 use Rattle.spec_state.specs.declared.pending.Pending.{Pending}

@@ -1,7 +1,7 @@
 -- The ranges of the settings, and which machine a naming speaks of.
 use Rattle.std.specs.Prelude.{◌≡◌, ◌⊎◌, ◌≤◌, ℕ}
 use Rattle.guest_image.specs.ImageValue.{ImageValue}
-use Rattle.serial_machine.specs.declared.limits.TheConstants.{MAX_BUDGET, MAX_COMMITS}
+use Rattle.task_law.specs.serial_machine.declared.limits.TheConstants.{MAX_BUDGET, MAX_COMMITS}
 use Rattle.spec_state.specs.declared.settings.Settings.{Settings}
 
 -- the number lies between these two, both included

@@ -13,8 +13,8 @@ use crate::task::{Task, TaskId};
 use fractal_vt::Vt;
 use guest_image::Kind;
 use rv_core::Naming;
-use serial_machine::{Bytes, Journal};
 use task_desc::Ctx;
+use task_law::serial_machine::{Bytes, Journal};
 
 /// What a run leaves of a state.
 #[derive(Drop)]

@@ -50,4 +50,5 @@ pub use reserving::{Buffers, MAX_MOVED};
 pub use settings::Settings;
 pub use state::State;
 pub use task::{Creator, Spawns, Status, Task, TaskId, Where};
+pub use task_law::serial_machine;
 pub use touching::line_of;

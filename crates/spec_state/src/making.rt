@@ -21,10 +21,10 @@ use fractal_vt::Vt;
 use guest_image::Image;
 use kept_slab::KeptSlab;
 use rv_core::{Decoded, Naming};
-use serial_machine::Bytes;
 use spill_store::Blocks;
 use std::alloc::{AllocError, Global};
 use std::marker::PhantomData;
+use task_law::serial_machine::Bytes;
 use tile_queues::{CommitQueue, Queue, TaskQueue};
 use undo_log::Memory;
 

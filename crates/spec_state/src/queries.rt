@@ -12,8 +12,8 @@ use crate::state::State;
 use crate::task::{Status, Task, TaskId};
 use fractal_vt::{Key, Vt};
 use rv_core::{Core, Decoded, Naming};
-use serial_machine::Entry;
 use std::alloc::Global;
+use task_law::serial_machine::Entry;
 use tile_queues::TaskQueue;
 
 impl<N: Naming> State<N> {

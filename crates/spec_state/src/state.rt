@@ -10,10 +10,10 @@ use commit_arbiter::Index;
 use fractal_vt::Vt;
 use kept_slab::KeptSlab;
 use rv_core::{Decoded, Naming};
-use serial_machine::Bytes;
 use spill_store::Blocks;
 use std::alloc::Global;
 use std::marker::{Model, PhantomData};
+use task_law::serial_machine::Bytes;
 use tile_queues::{CommitQueue, TaskQueue};
 use undo_log::Memory;
 

@@ -5,8 +5,8 @@ use fractal_vt::Key;
 use guest_image::Kind;
 use line_table::Lines;
 use rv_core::NotedCore;
-use serial_machine::Items;
 use task_desc::Spawn;
+use task_law::serial_machine::Items;
 use undo_log::Log;
 
 /// An uncommitted task that isn't spilled, by its slot in the state's slab. It says nothing of the task: an id is

@@ -8,23 +8,23 @@ use Rattle.std.proofs.lemmas.Option.{slice_get_within}
 use Rattle.std.proofs.lemmas.Result.{IfOk-weaker, on_err_weaker}
 use Rattle.guest_image.specs.ImageValue.{ImageValue}
 use Rattle.rv_core.specs.LegValue.{LegValue}
-use Rattle.spec_state.specs.declared.task.Status.TheVariants.{Running}
-use Rattle.spec_state.specs.declared.task.Task.{Task}
-use Rattle.spec_state.specs.declared.task.TaskId.{TaskId}
-use Rattle.spec_state.specs.declared.task.Where.{Where}
-use Rattle.spec_state.specs.declared.task.Where.TheVariants as where_
-use Rattle.spec_state.specs.Least.{IsLeast, IsLeastTask}
-use Rattle.spec_state.specs.Queries.{IsRunning}
-use Rattle.spec_state.specs.Stored.{HasCore}
-use Rattle.spec_state.specs.View.{View, cores_at, task_at}
-use Rattle.spec_law.specs.Sound.{Sound}
-use Rattle.event_def.specs.declared.event.Event.{Event}
-use Rattle.event_def.specs.declared.event.Event.TheVariants as event
-use Rattle.event_def.specs.declared.event.Reply.TheVariants as reply
-use Rattle.event_def.specs.Advancing.{IsNextEvent}
-use Rattle.event_def.specs.Book.{BookView}
-use Rattle.event_def.specs.End.{IsOver}
-use Rattle.event_basis.proofs.Proved.{next_is_step, trapped_is_over}
+use Rattle.conflict_book.specs.spec_state.declared.task.Status.TheVariants.{Running}
+use Rattle.conflict_book.specs.spec_state.declared.task.Task.{Task}
+use Rattle.conflict_book.specs.spec_state.declared.task.TaskId.{TaskId}
+use Rattle.conflict_book.specs.spec_state.declared.task.Where.{Where}
+use Rattle.conflict_book.specs.spec_state.declared.task.Where.TheVariants as where_
+use Rattle.conflict_book.specs.spec_state.Least.{IsLeast, IsLeastTask}
+use Rattle.conflict_book.specs.spec_state.Queries.{IsRunning}
+use Rattle.conflict_book.specs.spec_state.Stored.{HasCore}
+use Rattle.conflict_book.specs.spec_state.View.{View, cores_at, task_at}
+use Rattle.conflict_book.specs.spec_law.Sound.{Sound}
+use Rattle.conflict_book.specs.event_def.declared.event.Event.{Event}
+use Rattle.conflict_book.specs.event_def.declared.event.Event.TheVariants as event
+use Rattle.conflict_book.specs.event_def.declared.event.Reply.TheVariants as reply
+use Rattle.conflict_book.specs.event_def.Advancing.{IsNextEvent}
+use Rattle.conflict_book.specs.event_def.Book.{BookView}
+use Rattle.conflict_book.specs.event_def.End.{IsOver}
+use Rattle.conflict_book.proofs.Below.event_basis.Proved.{next_is_step, trapped_is_over}
 use Rattle.step_script.specs.declared.act.Act.{Act}
 use Rattle.step_script.specs.declared.act.Act.TheVariants as acts
 use Rattle.step_script.specs.Playing.{HasLegAt, HeldLeg, PlayerValue, held_for, holding}

@@ -1,11 +1,11 @@
 -- What an act comes to, and what comes of that, do the act.
 use Rattle.std.proofs.Common.{◌≢◌, ℕ, refl, subst}
 use Rattle.guest_image.specs.ImageValue.{ImageValue}
-use Rattle.event_def.specs.declared.event.Event.{Event}
-use Rattle.event_def.specs.declared.event.Event.TheVariants as event
-use Rattle.event_def.specs.declared.event.Reply.{Reply}
-use Rattle.event_def.specs.declared.event.Reply.TheVariants as replies
-use Rattle.event_def.specs.Book.{BookView}
+use Rattle.conflict_book.specs.event_def.declared.event.Event.{Event}
+use Rattle.conflict_book.specs.event_def.declared.event.Event.TheVariants as event
+use Rattle.conflict_book.specs.event_def.declared.event.Reply.{Reply}
+use Rattle.conflict_book.specs.event_def.declared.event.Reply.TheVariants as replies
+use Rattle.conflict_book.specs.event_def.Book.{BookView}
 use Rattle.step_script.specs.declared.act.Act.{Act}
 use Rattle.step_script.specs.declared.act.Act.TheVariants as acts
 use Rattle.step_script.specs.declared.saying.Said.{Said}

@@ -11,7 +11,7 @@ use Rattle.std.proofs.Common.{subst, ◌++◌, if◌then◌else◌}
 use Rattle.rv_core.specs.LegValue.{LegValue, IsLegOfImage}
 use Rattle.step_script.specs.Playing.{HeldLeg, is_held_for, held_for, without_held_leg}
 use Rattle.guest_image.specs.ImageValue.{ImageValue}
-use Rattle.spec_state.specs.declared.settings.Settings.{Settings}
+use Rattle.conflict_book.specs.spec_state.declared.settings.Settings.{Settings}
 
 -- the first leg that stands there for a core is what is held for it
 held_at : (tile core : ℕ) (held : List HeldLeg) (i : ℕ) (d : HeldLeg) → i < length held

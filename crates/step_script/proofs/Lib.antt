@@ -7,3 +7,4 @@ pub mod Steps
 pub mod WrittenBack
 pub mod WrittenOnly
 pub mod Proved
+pub mod Below

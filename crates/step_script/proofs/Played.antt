@@ -3,7 +3,7 @@ use Rattle.std.proofs.Common.{◌≡◌, ℕ, ◌+◌, ◌<◌, List, [], ◌∷
 use Rattle.std.specs.Prelude.{OnErr, slice_index_or}
 use Rattle.std.proofs.lemmas.List.{take_more}
 use Rattle.guest_image.specs.ImageValue.{ImageValue}
-use Rattle.event_def.specs.Book.{BookView}
+use Rattle.conflict_book.specs.event_def.Book.{BookView}
 use Rattle.step_script.specs.declared.act.Act.{Act}
 use Rattle.step_script.specs.declared.saying.Said.{Said}
 use Rattle.step_script.specs.Playing.{HeldLeg, PlayState, Does, DoesAll, PlaysSome}

@@ -14,15 +14,15 @@ unfoldable pub core_in : ℕ → ℕ → List ℕ → Option (ℕ × ℕ)
 core_in tiles cores places =
     cut 32 places >>= λ p. number_below tiles p.0 >>= λ tile. number_below cores p.1 >>= λ core. Some (tile, core)
 
--- an act on the tile that stands there
+-- an act on the tile that this number names
 abbrev pub on_tile : ℕ → (ℕ → Act) → List ℕ → Option Act
 on_tile tiles act places = number_below tiles places >>= λ tile. Some (act tile)
 
--- an act on the core that stands there
+-- an act on the core that these numbers name
 abbrev pub on_core : ℕ → ℕ → (ℕ → ℕ → Act) → List ℕ → Option Act
 on_core tiles cores act places = core_in tiles cores places >>= λ p. Some (act p.0 p.1)
 
--- the act that a word names, with what stands behind the word
+-- the act that a word names, with the rest of the line
 unfoldable pub act_at : ℕ → ℕ → List ℕ → List ℕ → Option Act
 act_at tiles cores word places =
     if bytes_eq word (codes "dispatch") then on_tile tiles acts.Dispatch places
@@ -46,7 +46,7 @@ abbrev pub onto_acts : List Act → Result (List Act) ℕ → Result (List Act) 
 onto_acts front (Ok acts) = Ok (front ++ acts)
 onto_acts front (Err line) = Err line
 
--- line k is an act, with what the lines behind it say, or it is outside
+-- line k is an act, with the result of the lines after it, or it is outside
 abbrev pub after_act : ℕ → Option Act → Result (List Act) ℕ → Result (List Act) ℕ
 after_act k None rest = Err k
 after_act k (Some act) rest = onto_acts (act ∷ []) rest

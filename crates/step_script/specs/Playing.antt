@@ -1,22 +1,22 @@
--- What playing a script does to a book, and what is said of each act.
+-- What playing a script does to a book, and the reply to each act.
 use Rattle.std.specs.Prelude.{◌≡◌, ◌≢◌, ℕ, List, [], ◌∷◌, ◌++◌, ◌==◌, ◌&&◌, not, Bool, filter, take, Some, None}
 use Rattle.std.specs.Prelude.{if◌then◌else◌}
 use Rattle.std.specs.declared.option.Option.{Option}
 use Rattle.guest_image.specs.ImageValue.{ImageValue}
 use Rattle.rv_core.specs.LegValue.{LegValue}
-use Rattle.spec_state.specs.declared.task.Task.{Task}
-use Rattle.spec_state.specs.Queries.{IsRunning}
-use Rattle.spec_state.specs.View.{View}
-use Rattle.event_def.specs.declared.event.Advance.{Advance}
-use Rattle.event_def.specs.declared.event.Advance.TheVariants as answers
-use Rattle.event_def.specs.declared.event.Event.{Event}
-use Rattle.event_def.specs.declared.event.Event.TheVariants as event
-use Rattle.event_def.specs.declared.event.Reply.{Reply}
-use Rattle.event_def.specs.declared.event.Reply.TheVariants as replies
-use Rattle.event_def.specs.Advancing.{AdvanceAnswers, IsLegFrom}
-use Rattle.event_def.specs.Book.{BookView}
-use Rattle.event_def.specs.End.{IsOver}
-use Rattle.event_def.specs.Happens.{Happens}
+use Rattle.conflict_book.specs.spec_state.declared.task.Task.{Task}
+use Rattle.conflict_book.specs.spec_state.Queries.{IsRunning}
+use Rattle.conflict_book.specs.spec_state.View.{View}
+use Rattle.conflict_book.specs.event_def.declared.event.Advance.{Advance}
+use Rattle.conflict_book.specs.event_def.declared.event.Advance.TheVariants as answers
+use Rattle.conflict_book.specs.event_def.declared.event.Event.{Event}
+use Rattle.conflict_book.specs.event_def.declared.event.Event.TheVariants as event
+use Rattle.conflict_book.specs.event_def.declared.event.Reply.{Reply}
+use Rattle.conflict_book.specs.event_def.declared.event.Reply.TheVariants as replies
+use Rattle.conflict_book.specs.event_def.Advancing.{AdvanceAnswers, IsLegFrom}
+use Rattle.conflict_book.specs.event_def.Book.{BookView}
+use Rattle.conflict_book.specs.event_def.End.{IsOver}
+use Rattle.conflict_book.specs.event_def.Happens.{Happens}
 use Rattle.step_script.specs.declared.act.Act.{Act}
 use Rattle.step_script.specs.declared.act.Act.TheVariants as acts
 use Rattle.step_script.specs.declared.saying.Said.{Said}
@@ -46,7 +46,7 @@ without_held_leg tile core held = filter (λ h. not (is_held_for tile core h)) h
 abbrev pub holding : ℕ → ℕ → LegValue → List HeldLeg → List HeldLeg
 holding tile core leg held = without_held_leg tile core held ++ record { tile = tile; core = core; leg = leg } ∷ []
 
--- what stands between acts: the legs that are held, and the leg that stands ready to be handed in
+-- the state between acts: the legs that are held, and the leg that is ready
 pub record PlayerValue : Type 0 where
   pub held : List HeldLeg
   pub leg : LegValue
@@ -56,25 +56,25 @@ pub record PlayState : Type 0 where
   pub book : BookView
   pub held : List HeldLeg
 
--- ---- what is said
+-- ---- replies
 
--- this word is said, and no task was taken back
+-- this reply, with no task aborted
 abbrev pub plainly : Reply → Said
 plainly reply = record { word = words.Plain reply; aborted = 0 }
 
--- the event is handed in, and its reply is said, which isn't that memory ran out
+-- the event is made, and this is its reply, which isn't that memory ran out
 pub record HandsIn {N : Type 0} (event : Event N) (old : BookView) (said : Said) (new : BookView) : Type 0 where
   pub reply : Reply
   pub word : said.word ≡ words.Plain reply
   pub there : reply ≢ replies.Memory
   pub happens : Happens old event reply said.aborted new
 
--- the event is handed in, and the legs stay that are held
+-- the event is made, and the held legs stay
 pub record MakesInPlay {N : Type 0} (event : Event N) (old : PlayState) (said : Said) (new : PlayState) : Type 0 where
   pub hands_in : HandsIn event old.book said new.book
   pub held : new.held ≡ old.held
 
--- nothing happens but that this word is said
+-- nothing happens, and this is the reply
 pub record Stays (reply : Reply) (old : PlayState) (said : Said) (new : PlayState) : Type 0 where
   pub word : said ≡ plainly reply
   pub same : new ≡ old
@@ -92,7 +92,8 @@ NoneRuns view tile core = (id : ℕ) (task : Task) → IsRunning view tile core 
 
 -- ---- acts
 
--- `step`: the leg of the running task there is handed in; at the end of a run, and where none runs there, that is said
+-- `step`: the event of the leg of the running task there; at the end of a run, and if none runs there, that is the
+-- reply
 pub data Steps (N : Type 0) (image : ImageValue) (tile core : ℕ) (old : PlayState) (said : Said)
     (new : PlayState) : Type 0 where
   step_runs : (leg : LegValue) → (IsOver old.book.view → ⊥) → HasLegAt image old.book.view tile core leg
@@ -101,7 +102,7 @@ pub data Steps (N : Type 0) (image : ImageValue) (tile core : ℕ) (old : PlaySt
   step_stale : (IsOver old.book.view → ⊥) → NoneRuns old.book.view tile core → Stays replies.Stale old said new
       → Steps N image tile core old said new
 
--- `take`: the leg of the running task there is held; where none runs there nothing is held for that core. It is no
+-- `take`: the leg of the running task there is held; if none runs there nothing is held for that core. It isn't an
 -- event, and an end does not refuse it
 pub data Takes (image : ImageValue) (tile core : ℕ) (old : PlayState) (said : Said) (new : PlayState) : Type 0 where
   take_holds : (leg : LegValue) → HasLegAt image old.book.view tile core leg → said ≡ plainly replies.Ok
@@ -109,8 +110,8 @@ pub data Takes (image : ImageValue) (tile core : ℕ) (old : PlayState) (said : 
   take_stale : NoneRuns old.book.view tile core → said ≡ plainly replies.Stale
       → new ≡ record old { held = without_held_leg tile core old.held } → Takes image tile core old said new
 
--- `give`: the leg that is held for that core is handed in, and is no longer held, whatever the reply; at the end of
--- a run it stays held
+-- `give`: the event of the leg that is held for that core is made, and the leg is no longer held, whatever the reply;
+-- at the end of a run it stays held
 pub data Gives (N : Type 0) (tile core : ℕ) (old : PlayState) (said : Said) (new : PlayState) : Type 0 where
   give_hands : (leg : LegValue) → (IsOver old.book.view → ⊥) → held_for tile core old.held ≡ Some leg
       → HandsIn {N = N} (event.Step tile core leg) old.book said new.book
@@ -120,7 +121,7 @@ pub data Gives (N : Type 0) (tile core : ℕ) (old : PlayState) (said : Said) (n
   give_stale : (IsOver old.book.view → ⊥) → held_for tile core old.held ≡ None → Stays replies.Stale old said new
       → Gives N tile core old said new
 
--- what is said of an advance; nothing where memory ran out
+-- the reply to an advance; nothing if memory ran out
 abbrev pub said_of : Advance → Option Said
 said_of (answers.Moved aborted) = Some (record { word = words.Moved; aborted = aborted })
 said_of answers.Committed = Some (record { word = words.Committed; aborted = 0 })
@@ -135,7 +136,7 @@ pub record DoesAdvance (N : Type 0) (image : ImageValue) (old : PlayState) (said
   pub answers : AdvanceAnswers N image old.book answer new.book
   pub held : new.held ≡ old.held
 
--- the act is played, this is said of it, and it leaves this
+-- the act is played, this is the reply to it, and it leaves this
 abbrev pub Does : Type 0 → ImageValue → Act → PlayState → Said → PlayState → Type 0
 Does N image (acts.Dispatch tile) old said new = MakesInPlay {N = N} (event.Dispatch tile) old said new
 Does N image (acts.Step tile core) old said new = Steps N image tile core old said new
@@ -147,7 +148,7 @@ Does N image (acts.Coalesce tile) old said new = MakesInPlay {N = N} (event.Coal
 Does N image (acts.Split tile) old said new = MakesInPlay {N = N} (event.Split tile) old said new
 Does N image acts.Advance old said new = DoesAdvance N image old said new
 
--- these acts, one after another, of which this is said
+-- these acts, one after another, with these replies
 abbrev pub DoesAll : Type 0 → ImageValue → List Act → PlayState → List Said → PlayState → Type 0
 DoesAll N image [] old [] new = old ≡ new
 DoesAll N image (act ∷ acts) old (said ∷ saids) new =
@@ -155,13 +156,13 @@ DoesAll N image (act ∷ acts) old (said ∷ saids) new =
 DoesAll N image [] old (said ∷ saids) new = ⊥
 DoesAll N image (act ∷ acts) old [] new = ⊥
 
--- the script is played from a book on, where no leg is held: this is said of its acts, and it leaves this book
+-- the script is played from a book on, with no leg held: these are the replies to its acts, and it leaves this book
 abbrev pub Plays : Type 0 → ImageValue → List Act → BookView → List Said → BookView → Type 0
 Plays N image script old said new =
     (held : List HeldLeg)
     × DoesAll N image script (record { book = old; held = [] }) said (record { book = new; held = held })
 
--- so many acts at the front of the script were played, of which this is said, and they left this book
+-- the first acts of the script, as many as there are replies, were played and left this book
 pub record PlaysSome (N : Type 0) (image : ImageValue) (script : List Act) (old new : BookView) : Type 0 where
   pub count : ℕ
   pub said : List Said

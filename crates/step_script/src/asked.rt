@@ -1,20 +1,20 @@
-//! What an act comes to.
+//! What an act requests of the book.
 
 use conflict_book::Legless;
-use event_def::Reply;
+use conflict_book::event_def::Reply;
 
-/// What an act comes to before the book is asked.
+/// What an act requests of the book.
 #[derive(Clone, Copy, Debug, PartialEq, Eq)]
 pub enum Asked {
-    /// This event is handed in.
+    /// This event is made.
     Legless(Legless),
-    /// The leg that stands ready is handed in for a core.
+    /// The leg that is ready is used for a core.
     Ready {
         /// The tile.
         tile: u32,
         /// The core, among those of the tile.
         core: u32,
     },
-    /// Nothing is handed in, and this is said.
+    /// No event is made, and this is the reply.
     Says(Reply),
 }

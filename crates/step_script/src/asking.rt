@@ -1,28 +1,28 @@
-//! What acts come to, but for those that are an event by themselves.
+//! What acts request of the book, except those that are an event by themselves.
 
 ghost use Rattle.std.specs.Prelude.{◌≡◌, ◌<◌, IfOk, IfSome, IsNone, List, OnErr};
 ghost use Rattle.conflict_book.specs.BookViews.{machine_view, view_of};
 ghost use Rattle.rv_core.specs.LegValue.{LegValue};
-ghost use Rattle.spec_state.specs.declared.task.Where.TheVariants as where_;
-ghost use Rattle.spec_state.specs.Least.{IsLeast};
-ghost use Rattle.event_def.specs.End.{IsOver};
+ghost use Rattle.conflict_book.specs.spec_state.declared.task.Where.TheVariants as where_;
+ghost use Rattle.conflict_book.specs.spec_state.Least.{IsLeast};
+ghost use Rattle.conflict_book.specs.event_def.End.{IsOver};
 ghost use Rattle.step_script.specs.Playing.{HeldLeg, without_held_leg};
 ghost use Rattle.step_script.specs.Asking.{AskedIsInRange, AsksAdvance, AsksGive, AsksStep, AsksTake, asks_of};
 
 use crate::asked::Asked;
 use crate::holding::{Held, forget, hand_out, hold};
 use crate::running::{leg_at, run_at};
+use conflict_book::event_def::Reply;
+use conflict_book::event_prelude::least_going;
+use conflict_book::spec_state::{Status, TaskId, Where};
 use conflict_book::{Book, Legless};
-use event_def::Reply;
-use event_prelude::least_going;
 use guest_image::Image;
 use place_policy::Placer;
 use rv_core::{Leg, Naming};
-use spec_state::{Status, TaskId, Where};
 use std::alloc::AllocError;
 use trace_tap::Tap;
 
-/// `step`: the leg of the running task on a core is run, in the place of the one that stood ready.
+/// `step`: runs the leg of the running task on a core, which replaces the one that was ready.
 pub(crate) fn ask_step<N: Naming, P: Placer, T: Tap>(
     leg: &mut Leg<N>,
     image: &Image,
@@ -77,7 +77,7 @@ pub(crate) fn ask_take<N: Naming, P: Placer, T: Tap>(
     }
 }
 
-/// `give`: the leg that is held for a core takes the place of the one that stood ready.
+/// `give`: the leg that is held for a core replaces the one that was ready.
 pub(crate) fn ask_give<N: Naming, P: Placer, T: Tap>(
     leg: &mut Leg<N>,
     book: &Book<N, P, T>,
@@ -133,7 +133,7 @@ fn ask_running<N: Naming, P: Placer, T: Tap>(
     }
 }
 
-/// The least task, while a run goes on, for which it looks once; None where the run is over.
+/// The least task, found once, while a run continues; None if the run is over.
 fn least_of<N: Naming, P: Placer, T: Tap>(book: &Book<N, P, T>) -> Option<Where>
     ensures some { let view = machine_view book.now in
         IfSome result (λ least. (IsOver view → ⊥) × IsLeast view least) }
@@ -142,7 +142,7 @@ fn least_of<N: Naming, P: Placer, T: Tap>(book: &Book<N, P, T>) -> Option<Where>
     least_going(book.state())
 }
 
-/// `advance`: what brings the least task on.
+/// `advance`: the event for the least task.
 pub(crate) fn ask_advance<N: Naming, P: Placer, T: Tap>(
     leg: &mut Leg<N>,
     image: &Image,

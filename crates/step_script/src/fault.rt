@@ -1,4 +1,4 @@
-//! Why a text is no script.
+//! Why a text isn't a script.
 
 use thiserror::Error;
 

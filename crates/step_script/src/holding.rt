@@ -62,7 +62,7 @@ fn place_of<N: Naming>(held: &[Held<N>], tile: u32, core: u32) -> Option<usize>
     held.iter().position(|one| one.is_for(tile, core))
 }
 
-/// Hands out the leg that is held for a core, for which nothing is held then; None where nothing was.
+/// Removes and returns the leg that is held for a core; None if none was.
 pub(crate) fn hand_out<N: Naming>(held: &mut Vec<Held<N>>, tile: u32, core: u32) -> Option<Leg<N>>
     ensures leg { result ≡ held_for tile core held.old.items }
     ensures rest { held.new.items ≡ without_held_leg tile core held.old.items }

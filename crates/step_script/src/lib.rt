@@ -1,11 +1,11 @@
 //! Scripts of the machine: read from a text, one act a line, for a machine of so many tiles with so many cores each,
-//! and played on a book, with what is said of each act.
+//! and played on a book, with the reply to each act.
 //!
-//! A player stands between the acts: it holds the legs that are held back, tells what an act comes to, and hands that
-//! in. The crate stands on lines of texts and on the book, which it knows by its public calls alone; `machine_run`
-//! plays by it, `watch_play` asks and makes act by act with its player, and both programs read by it. Reading takes
-//! memory for the acts and time linear in the text. An act costs its event, if it makes one, and the leg that it runs,
-//! if it runs one. `script_text`, `watch_text` and `outcome_law` speak of scripts.
+//! Between the acts a player holds the legs that are held back, finds what an act requests, and makes that. It depends
+//! on lines of texts and on the book, which it uses by its public calls alone; `machine_run` plays by it, `watch_play`
+//! asks and makes act by act with its player, and both programs read by it. Reading takes memory for the acts and time
+//! linear in the text. An act costs its event, if it makes one, and the leg that it runs, if it runs one.
+//! `script_text`, `watch_text` and `outcome_law` use scripts.
 #![tactic(auto)]
 
 mod act;
@@ -22,6 +22,11 @@ mod saying;
 
 pub use act::Act;
 pub use asked::Asked;
+pub use conflict_book;
+pub use conflict_book::{
+    event_def, event_move, event_prelude, event_step, serial_machine, spec_access, spec_commit,
+    spec_dispatch, spec_state,
+};
 pub use fault::ScriptFault;
 pub use player::Player;
 pub use playing::play;

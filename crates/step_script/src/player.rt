@@ -1,4 +1,4 @@
-//! What stands between the acts of a play.
+//! The state between the acts of a play.
 
 ghost use Rattle.std.specs.Prelude.{◌≡◌, [], IfOk, OnErr};
 ghost use Rattle.conflict_book.specs.BookViews.{effect_of, machine_view, view_of};
@@ -10,8 +10,8 @@ use crate::asked::Asked;
 use crate::asking::{ask_advance, ask_give, ask_step, ask_take};
 use crate::holding::Held;
 use crate::running::first_leg;
+use conflict_book::event_def::Applied;
 use conflict_book::{Book, Legless};
-use event_def::Applied;
 use guest_image::Image;
 use place_policy::Placer;
 use rv_core::{Leg, Naming};
@@ -19,7 +19,7 @@ use std::alloc::{AllocError, Global};
 use std::marker::Model;
 use trace_tap::Tap;
 
-/// What stands between the acts of a play: the legs that are held, and the one that stands ready to be handed in.
+/// The state between the acts of a play: the legs that are held, and the one that is ready for its event.
 #[derive(Drop)]
 pub struct Player<N: Naming> {
     held: Vec<Held<N>>,
@@ -46,15 +46,15 @@ impl<N: Naming> Player<N> {
         }
     }
 
-    /// The leg that stands ready.
+    /// The leg that is ready.
     pub fn leg(&self) -> &Leg<N>
         ensures { result.now ≡ self.now.leg }
     {
         &self.leg
     }
 
-    /// What an act comes to, before the book is asked. A leg that is to be handed in takes the place of the one that
-    /// stood ready. Where no memory is left for a leg that is to be held, none is held for its core any more.
+    /// What an act requests of the book. A leg for an event replaces the one that was ready. If memory runs out for a
+    /// leg that is to be held, none is held for its core any more.
     pub fn ask<P: Placer, T: Tap>(
         &mut self,
         image: &Image,
@@ -83,8 +83,8 @@ impl<N: Naming> Player<N> {
         }
     }
 
-    /// Hands in what an act came to, or says its word. Behind an event the book's `effect` tells what it did beside its
-    /// one change.
+    /// Makes the event that an act requests, or gives its reply. After an event the book's `effect` lists what it did
+    /// beside its one change.
     pub fn make<P: Placer, T: Tap>(&self, book: &mut Book<N, P, T>, asked: Asked) -> Applied
         requires { AskedIsInRange N (machine_view book.old).settings asked }
         ensures comes { let old = view_of P.policy T.notes book.old in

@@ -9,15 +9,15 @@ use crate::act::Act;
 use crate::player::Player;
 use crate::saying::{Said, Word};
 use conflict_book::Book;
-use event_def::{Advance, Reply};
+use conflict_book::event_def::{Advance, Reply};
 use guest_image::Image;
 use place_policy::Placer;
 use rv_core::Naming;
 use std::alloc::{AllocError, Global};
 use trace_tap::Tap;
 
-/// `advance`: the event for the least task is made. The book's own call looks for that task once, where an advance that
-/// is asked and then made looks for it several times; and of a stopped book it doesn't tell that the run is over.
+/// `advance`: the event for the least task is made. The book's own call looks for that task once, where asking for an
+/// advance and then making it looks several times; a stopped book answers `Memory` even if the run is over.
 fn advance<N: Naming, P: Placer, T: Tap>(
     image: &Image,
     book: &mut Book<N, P, T>,
@@ -48,7 +48,7 @@ fn advance<N: Naming, P: Placer, T: Tap>(
     }
 }
 
-/// Plays one act, and says what came of it.
+/// Plays one act, and returns its reply.
 fn play_act<N: Naming, P: Placer, T: Tap>(
     player: &mut Player<N>,
     image: &Image,
@@ -80,8 +80,7 @@ fn play_act<N: Naming, P: Placer, T: Tap>(
     }
 }
 
-/// Plays acts one after another; tells what is said of each. Where memory runs out the book stands as the acts
-/// before left it.
+/// Plays acts one after another; returns the reply to each. If memory runs out the book is as the acts before left it.
 pub fn play<N: Naming, P: Placer, T: Tap>(
     alloc: Global,
     image: &Image,
@@ -98,7 +97,7 @@ pub fn play<N: Naming, P: Placer, T: Tap>(
         let new = view_of P.policy T.notes book.new in
         OnErr result (PlaysSome N N.image acts.now old new) }
 {
-    // The memory for all words comes first, so that no act is played whose word finds none.
+    // Memory for all replies is allocated first, so that no act is played whose reply has no room.
     let mut said = Vec::with_capacity(alloc, acts.len())?;
     let mut player = Player::new(alloc, image, book);
     for act in acts {

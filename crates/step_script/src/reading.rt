@@ -11,8 +11,8 @@ use crate::parsing::act_in;
 use std::alloc::Global;
 use text_lines::next_line;
 
-/// The acts that a text is, for a machine of so many tiles with so many cores each. `Line` tells
-/// the first line outside the grammar.
+/// The acts of a text, for a machine of so many tiles with so many cores each. `Line` has the first line outside the
+/// grammar.
 #[tactic(auto, using(crate::proofs::Steps::act_steps))]
 pub fn read_script(
     alloc: Global,

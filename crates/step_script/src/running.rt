@@ -31,7 +31,8 @@ pub(crate) fn leg_at<N: Naming, P: Placer, T: Tap>(
     Some(run_leg_decoded(book.decoded_text(), image, from, quantum, budget))
 }
 
-/// The same in the place of another leg, which stays where no task runs there. It tells whether one does.
+/// Runs the leg of the running task on a core in place of another leg, and returns whether a task runs there; if not,
+/// the other leg stays.
 pub(crate) fn run_at<N: Naming, P: Placer, T: Tap>(
     leg: &mut Leg<N>,
     image: &Image,

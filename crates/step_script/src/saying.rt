@@ -1,11 +1,11 @@
-//! What is said of each act that was played.
+//! The reply to each act that was played.
 
-use event_def::Reply;
+use conflict_book::event_def::Reply;
 
 /// The word for an act.
 #[derive(Clone, Copy, Debug, PartialEq, Eq)]
 pub enum Word {
-    /// The reply to the event that was handed in, or what stands in its place; never `Memory`.
+    /// The reply to its event, or what the act answers instead; never `Memory`.
     Plain(Reply),
     /// `advance` made an event other than a commit.
     Moved,
@@ -13,11 +13,11 @@ pub enum Word {
     Committed,
 }
 
-/// What is said of an act: its word, and how many tasks it took back.
+/// The reply to an act, and how many tasks it aborted.
 #[derive(Clone, Copy, Debug, PartialEq, Eq)]
 pub struct Said {
     /// The word.
     pub word: Word,
-    /// How many tasks were taken back.
+    /// How many tasks were aborted.
     pub aborted: u32,
 }

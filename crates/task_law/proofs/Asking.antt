@@ -8,7 +8,7 @@ use Rattle.task_request.specs.declared.request.Request.{Request}
 use Rattle.task_request.specs.Effects.{after_request}
 use Rattle.task_request.specs.TaskState.{TaskState, context}
 use Rattle.task_request.proofs.Proved.{AllowedBy, request_at-allowed_spawn}
-use Rattle.serial_machine.proofs.Proved.{HoldsAfter}
+use Rattle.run_law.proofs.Below.serial_machine.Proved.{HoldsAfter}
 use Rattle.task_law.specs.Logged.{CoreAsks, LoggedRun, none, plain, call, load, store}
 
 module _ (image : ImageValue) (budget size : ℕ) (ctx : Ctx) where

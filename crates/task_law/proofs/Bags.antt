@@ -12,11 +12,12 @@ use Rattle.task_desc.specs.declared.desc.Spawn.{Spawn}
 use Rattle.task_desc.specs.declared.desc.Place.{Place}
 use Rattle.task_desc.specs.declared.desc.Place.TheVariants.{Same, Sub, Super}
 use Rattle.pending_list.specs.declared.task.PendingTask.{PendingTask}
-use Rattle.serial_machine.specs.BagValue.{BagValue}
-use Rattle.serial_machine.specs.State.{IsStack}
-use Rattle.serial_machine.proofs.Proved.{children_for}
-use Rattle.serial_machine.specs.Turn.{is_named, without_name, inner, place_number, child, is_for, children, sub_bags}
-use Rattle.serial_machine.specs.Turn.{with_super, stack_after}
+use Rattle.run_law.specs.serial_machine.BagValue.{BagValue}
+use Rattle.run_law.specs.serial_machine.State.{IsStack}
+use Rattle.run_law.proofs.Below.serial_machine.Proved.{children_for}
+use Rattle.run_law.specs.serial_machine.Turn.{is_named, without_name, inner, place_number, child, is_for, children}
+use Rattle.run_law.specs.serial_machine.Turn.{sub_bags}
+use Rattle.run_law.specs.serial_machine.Turn.{with_super, stack_after}
 use Rattle.task_law.specs.Tasks.{In, IsChildDepth}
 use Rattle.task_law.specs.Commit.{Stands, HaveDomains}
 

@@ -8,11 +8,11 @@ use Rattle.task_desc.specs.declared.desc.Spawn.{Spawn}
 use Rattle.task_desc.specs.declared.desc.Place.{Place}
 use Rattle.task_desc.specs.declared.desc.Place.TheVariants.{Same, Sub, Super}
 use Rattle.pending_list.specs.declared.task.PendingTask.{PendingTask}
-use Rattle.serial_machine.specs.BagValue.{BagValue}
-use Rattle.serial_machine.specs.State.{IsStack}
-use Rattle.serial_machine.specs.Turn.{inner, without_name, child, children, sub_bags, with_super, stack_after}
-use Rattle.serial_machine.specs.Turn.{kind_outside}
-use Rattle.serial_machine.proofs.Proved.{IsStack-inner}
+use Rattle.run_law.specs.serial_machine.BagValue.{BagValue}
+use Rattle.run_law.specs.serial_machine.State.{IsStack}
+use Rattle.run_law.specs.serial_machine.Turn.{inner, without_name, child, children, sub_bags, with_super, stack_after}
+use Rattle.run_law.specs.serial_machine.Turn.{kind_outside}
+use Rattle.run_law.proofs.Below.serial_machine.Proved.{IsStack-inner}
 use Rattle.task_law.specs.Tasks.{In}
 use Rattle.task_law.specs.Commit.{HasTurn, HaveDomains}
 use Rattle.task_law.specs.Domains.{Domain, domain_of, FitsBags, first_kind, ContextFits, ChildDomains, TurnKeepsDomains}

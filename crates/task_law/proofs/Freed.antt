@@ -9,7 +9,7 @@ use Rattle.task_desc.specs.declared.desc.Name.{Name}
 use Rattle.task_desc.specs.declared.desc.Place.{Place}
 use Rattle.task_desc.specs.declared.desc.Place.TheVariants.{Same, Sub, Super}
 use Rattle.pending_list.specs.declared.task.PendingTask.{PendingTask}
-use Rattle.serial_machine.specs.Turn.{is_named}
+use Rattle.run_law.specs.serial_machine.Turn.{is_named}
 use Rattle.task_law.specs.Tasks.{BagCreator, Committed, Live, Body, spawn_body, BagTask, pending, QueuedFree, IsFree}
 use Rattle.task_law.specs.Tasks.{IsChild, IsFamily, Matched, IsChildDepth, Names, SpilledBagTask, IsSpilled}
 use Rattle.task_law.specs.Sound.{AreSound}

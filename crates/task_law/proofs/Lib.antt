@@ -15,3 +15,4 @@ pub mod Whole
 pub mod Subdomains
 pub mod Resized
 pub mod Proved
+pub mod Below

@@ -18,11 +18,13 @@ use Rattle.task_request.specs.Conditions.{IsCall}
 use Rattle.task_request.specs.Effects.{after_request, task_at_next}
 use Rattle.task_request.specs.TaskState.{TaskState}
 use Rattle.task_request.proofs.Proved.{after_request-used, HasUsed}
-use Rattle.serial_machine.specs.TaskRun.{task_end_after, after_instructions, task_at_start, task_run, after_stop}
-use Rattle.serial_machine.specs.TaskRun.{Continuation, Continues, Ends, Traps, TaskEnd, Done, Trapped}
-use Rattle.serial_machine.specs.Turn.{context_in_bag}
-use Rattle.serial_machine.proofs.Proved.{spent_traps, after_instructions-task_at_start, after_instructions-one_plain}
-use Rattle.serial_machine.proofs.Proved.{after_instructions-stop, turn-done}
+use Rattle.run_law.specs.serial_machine.TaskRun.{task_end_after, after_instructions, task_at_start, task_run}
+use Rattle.run_law.specs.serial_machine.TaskRun.{after_stop}
+use Rattle.run_law.specs.serial_machine.TaskRun.{Continuation, Continues, Ends, Traps, TaskEnd, Done, Trapped}
+use Rattle.run_law.specs.serial_machine.Turn.{context_in_bag}
+use Rattle.run_law.proofs.Below.serial_machine.Proved.{spent_traps, after_instructions-task_at_start}
+use Rattle.run_law.proofs.Below.serial_machine.Proved.{after_instructions-one_plain}
+use Rattle.run_law.proofs.Below.serial_machine.Proved.{after_instructions-stop, turn-done}
 use Rattle.memory_law.specs.Accesses.{written_if, after_access, after_accesses, Replays}
 use Rattle.memory_law.proofs.Proved.{length-after_accesses, after_accesses-append, Replays-back, Replays-front}
 use Rattle.task_law.specs.Logged.{CoreAsks, LoggedRun, none, plain, call, load, store, FinishesWithLog, TrapsWithLog}

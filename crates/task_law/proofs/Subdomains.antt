@@ -2,12 +2,12 @@
 use Rattle.std.proofs.Common.{◌≡◌, subst, ℕ, List}
 use Rattle.guest_image.specs.ImageValue.{ImageValue}
 use Rattle.pending_list.specs.declared.task.PendingTask.{PendingTask}
-use Rattle.serial_machine.specs.BagValue.{BagValue}
-use Rattle.serial_machine.specs.State.{SerialState}
-use Rattle.serial_machine.specs.Legs.{SubFits}
-use Rattle.serial_machine.specs.TaskRun.{Done}
-use Rattle.serial_machine.specs.Turn.{run_in_bag, context_in_bag}
-use Rattle.serial_machine.proofs.Proved.{EndHolds, task_run-sub_fits}
+use Rattle.run_law.specs.serial_machine.BagValue.{BagValue}
+use Rattle.run_law.specs.serial_machine.State.{SerialState}
+use Rattle.run_law.specs.serial_machine.Legs.{SubFits}
+use Rattle.run_law.specs.serial_machine.TaskRun.{Done}
+use Rattle.run_law.specs.serial_machine.Turn.{run_in_bag, context_in_bag}
+use Rattle.run_law.proofs.Below.serial_machine.Proved.{EndHolds, task_run-sub_fits}
 use Rattle.task_request.specs.TaskState.{TaskState}
 
 -- the subdomain of a task that is done

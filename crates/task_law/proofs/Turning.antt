@@ -5,10 +5,10 @@ use Rattle.std.proofs.lemmas.Bool.{false_from_ne_true, and_from}
 use Rattle.std.proofs.lemmas.Bool.Decides.{nat_tests}
 use Rattle.task_desc.specs.declared.desc.Name.{Name}
 use Rattle.pending_list.specs.declared.task.PendingTask.{PendingTask}
-use Rattle.serial_machine.specs.BagValue.{BagValue}
-use Rattle.serial_machine.specs.State.{IsStack}
-use Rattle.serial_machine.specs.Turn.{is_named, find_named, is_least, inner}
-use Rattle.serial_machine.proofs.Proved.{IsStack-inner}
+use Rattle.run_law.specs.serial_machine.BagValue.{BagValue}
+use Rattle.run_law.specs.serial_machine.State.{IsStack}
+use Rattle.run_law.specs.serial_machine.Turn.{is_named, find_named, is_least, inner}
+use Rattle.run_law.proofs.Below.serial_machine.Proved.{IsStack-inner}
 use Rattle.task_law.specs.Tasks.{In, pending, IsFree, IsSpilled}
 use Rattle.task_law.specs.Commit.{Stands, HasTurn, LeastHasTurn, HaveDomains, CommitIsTurn}
 use Rattle.task_law.proofs.Bags.{Stands-inner, inner-Stands, shallow, Freed, after-stands, stands-after}

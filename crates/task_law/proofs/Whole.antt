@@ -5,12 +5,12 @@ use Rattle.std.specs.Prelude.{IsSome}
 use Rattle.guest_image.specs.declared.image.Kind.{Kind}
 use Rattle.task_desc.specs.declared.desc.Spawn.{Spawn}
 use Rattle.pending_list.specs.declared.task.PendingTask.{PendingTask}
-use Rattle.serial_machine.specs.BagValue.{BagValue}
-use Rattle.serial_machine.specs.State.{SerialState, IsStack}
-use Rattle.serial_machine.specs.TaskState.{TaskState}
-use Rattle.serial_machine.specs.TaskRun.{Done}
-use Rattle.serial_machine.specs.Turn.{context_in_bag, kind_outside, stack_after, run_in_bag}
-use Rattle.serial_machine.proofs.Proved.{IsStack-after, IsStack-inner}
+use Rattle.run_law.specs.serial_machine.BagValue.{BagValue}
+use Rattle.run_law.specs.serial_machine.State.{SerialState, IsStack}
+use Rattle.run_law.specs.serial_machine.TaskState.{TaskState}
+use Rattle.run_law.specs.serial_machine.TaskRun.{Done}
+use Rattle.run_law.specs.serial_machine.Turn.{context_in_bag, kind_outside, stack_after, run_in_bag}
+use Rattle.run_law.proofs.Below.serial_machine.Proved.{IsStack-after, IsStack-inner}
 use Rattle.run_law.proofs.Proved.{done-placed, HasDomain, HaveDomains as HavePlaces}
 use Rattle.task_law.specs.Tasks.{pending}
 use Rattle.task_law.specs.Commit.{Matches, HasTurn, HaveDomains}

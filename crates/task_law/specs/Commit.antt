@@ -5,9 +5,9 @@ use Rattle.guest_image.specs.declared.image.Kind.{Kind}
 use Rattle.task_desc.specs.declared.desc.Spawn.{Spawn}
 use Rattle.task_desc.specs.declared.desc.Place.TheVariants.{Sub, Super}
 use Rattle.pending_list.specs.declared.task.PendingTask.{PendingTask}
-use Rattle.serial_machine.specs.BagValue.{BagValue}
-use Rattle.serial_machine.specs.State.{IsStack}
-use Rattle.serial_machine.specs.Turn.{MayTurn, stack_after}
+use Rattle.run_law.specs.serial_machine.BagValue.{BagValue}
+use Rattle.run_law.specs.serial_machine.State.{IsStack}
+use Rattle.run_law.specs.serial_machine.Turn.{MayTurn, stack_after}
 use Rattle.task_law.specs.Tasks.{BagTask, Committed, Live, In, IsFree, SpilledBagTask, IsSpilled, pending}
 use Rattle.task_law.specs.Sound.{AreSound}
 

@@ -6,9 +6,9 @@ use Rattle.task_desc.specs.declared.desc.Spawn.{Spawn}
 use Rattle.task_desc.specs.declared.desc.Place.{Place}
 use Rattle.task_desc.specs.declared.desc.Place.TheVariants.{Same, Sub, Super}
 use Rattle.pending_list.specs.declared.task.PendingTask.{PendingTask}
-use Rattle.serial_machine.specs.BagValue.{BagValue}
-use Rattle.serial_machine.specs.State.{IsStack}
-use Rattle.serial_machine.specs.Turn.{context_in_bag, stack_after}
+use Rattle.run_law.specs.serial_machine.BagValue.{BagValue}
+use Rattle.run_law.specs.serial_machine.State.{IsStack}
+use Rattle.run_law.specs.serial_machine.Turn.{context_in_bag, stack_after}
 use Rattle.task_law.specs.Commit.{HasTurn, HaveDomains}
 
 -- a domain's kind and floor

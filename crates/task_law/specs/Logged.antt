@@ -17,8 +17,8 @@ use Rattle.task_request.specs.TaskState.{TaskState, task_at_start, context}
 use Rattle.undo_log.specs.declared.access.Access.{Access}
 use Rattle.memory_law.specs.Accesses.{after_accesses, Replays}
 use Rattle.pending_list.specs.declared.task.PendingTask.{PendingTask}
-use Rattle.serial_machine.specs.State.{SerialState}
-use Rattle.serial_machine.specs.Turn.{context_in_bag, stack_after, turn, TrapsSo}
+use Rattle.run_law.specs.serial_machine.State.{SerialState}
+use Rattle.run_law.specs.serial_machine.Turn.{context_in_bag, stack_after, turn, TrapsSo}
 use Rattle.task_law.specs.Commit.{HasTurn}
 
 module _ (image : ImageValue) (budget size : ℕ) (ctx : Ctx) where

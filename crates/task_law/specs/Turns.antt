@@ -3,9 +3,9 @@
 use Rattle.std.specs.Prelude.{◌≡◌, ℕ, ◌+◌, Bool, true, List, ◌∷◌, ◌++◌, length, Option, Some}
 use Rattle.guest_image.specs.ImageValue.{ImageValue}
 use Rattle.undo_log.specs.declared.access.Access.{Access}
-use Rattle.serial_machine.specs.State.{SerialState, IsStack}
-use Rattle.serial_machine.specs.TaskState.{TaskState}
-use Rattle.serial_machine.specs.Turn.{turn, TrapsSo}
+use Rattle.run_law.specs.serial_machine.State.{SerialState, IsStack}
+use Rattle.run_law.specs.serial_machine.TaskState.{TaskState}
+use Rattle.run_law.specs.serial_machine.Turn.{turn, TrapsSo}
 use Rattle.task_law.specs.Tasks.{BagTask, SpilledBagTask, pending}
 use Rattle.task_law.specs.Sound.{AreSound}
 use Rattle.task_law.specs.Commit.{Matches, IsLeastInBags, IsNextTurn}

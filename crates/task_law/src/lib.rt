@@ -24,3 +24,4 @@ pub use moves::{
 };
 pub use progress::{advances_are_few, events_advance};
 pub use room::{coalesce_shortens_queue, some_rule_applies, victim_is_legal, victim_makes_room};
+pub use run_law::serial_machine;

@@ -3,8 +3,8 @@ use Rattle.std.proofs.Common.{◌≡◌, ◌++◌, ◌∙◌, ℕ, List, length,
 use Rattle.std.proofs.Math.Nat.{min-le_right}
 use Rattle.std.proofs.lemmas.List.{length-take, take-append-le, take-append-drop, take_all}
 use Rattle.run_journal.specs.declared.journal.Entry.{Entry}
-use Rattle.spec_state.specs.View.{View}
-use Rattle.event_def.specs.Book.{BookView}
+use Rattle.conflict_book.specs.spec_state.View.{View}
+use Rattle.conflict_book.specs.event_def.Book.{BookView}
 use Rattle.tile_worker.specs.Grows.{Grows}
 use Rattle.tile_worker.specs.Holds.{HoldsOnce}
 use Rattle.tile_worker.proofs.Holding.{holds_grow}

@@ -4,14 +4,14 @@ use Rattle.std.proofs.Common.{ℕ, zero, suc, List, [], ◌++◌, refl, sym, ap,
 use Rattle.std.proofs.lemmas.List.{append-nil, append_assoc}
 use Rattle.guest_image.specs.ImageValue.{ImageValue}
 use Rattle.place_policy.specs.Policy.{Policy}
-use Rattle.spec_state.specs.View.{View}
-use Rattle.event_def.specs.declared.event.Event.{Event}
-use Rattle.event_def.specs.declared.event.Event.TheVariants as event
-use Rattle.event_def.specs.declared.event.Halt.{Halt}
-use Rattle.event_def.specs.Advancing.{AdvancesBy}
-use Rattle.event_def.specs.Book.{BookView}
-use Rattle.event_def.specs.Events.{Makes}
-use Rattle.event_law.proofs.Proved.{Stays, event_stays}
+use Rattle.conflict_book.specs.spec_state.View.{View}
+use Rattle.conflict_book.specs.event_def.declared.event.Event.{Event}
+use Rattle.conflict_book.specs.event_def.declared.event.Event.TheVariants as event
+use Rattle.conflict_book.specs.event_def.declared.event.Halt.{Halt}
+use Rattle.conflict_book.specs.event_def.Advancing.{AdvancesBy}
+use Rattle.conflict_book.specs.event_def.Book.{BookView}
+use Rattle.conflict_book.specs.event_def.Events.{Makes}
+use Rattle.conflict_book.proofs.Below.event_law.Proved.{Stays, event_stays}
 use Rattle.conflict_book.specs.Halting.{RunsLeast}
 use Rattle.tile_worker.specs.Grows.{Grows}
 

@@ -2,16 +2,16 @@
 use Rattle.std.proofs.Common.{arith, ◌≡◌, ◌⊎◌, ◌≤◌, ◌<◌, ◌+◌, ◌^◌, ℕ, true, inl, inr, sym, ap, subst, ◌∙◌}
 use Rattle.guest_image.specs.ImageValue.{ImageValue}
 use Rattle.run_journal.specs.declared.end.End.{End}
-use Rattle.event_def.specs.declared.event.Advance.{Advance}
-use Rattle.event_def.specs.declared.event.Advance.TheVariants as answers
-use Rattle.event_def.specs.declared.event.Event.{Event}
-use Rattle.event_def.specs.declared.event.Event.TheVariants as event
-use Rattle.event_def.specs.declared.event.Reply.{Reply}
-use Rattle.event_def.specs.declared.event.Reply.TheVariants as replies
-use Rattle.event_def.specs.Advancing.{AdvanceAnswers, IsNextEvent}
-use Rattle.event_def.specs.Book.{BookView, next_count}
-use Rattle.event_def.specs.End.{IsOver}
-use Rattle.event_def.specs.Happens.{Happens}
+use Rattle.conflict_book.specs.event_def.declared.event.Advance.{Advance}
+use Rattle.conflict_book.specs.event_def.declared.event.Advance.TheVariants as answers
+use Rattle.conflict_book.specs.event_def.declared.event.Event.{Event}
+use Rattle.conflict_book.specs.event_def.declared.event.Event.TheVariants as event
+use Rattle.conflict_book.specs.event_def.declared.event.Reply.{Reply}
+use Rattle.conflict_book.specs.event_def.declared.event.Reply.TheVariants as replies
+use Rattle.conflict_book.specs.event_def.Advancing.{AdvanceAnswers, IsNextEvent}
+use Rattle.conflict_book.specs.event_def.Book.{BookView, next_count}
+use Rattle.conflict_book.specs.event_def.End.{IsOver}
+use Rattle.conflict_book.specs.event_def.Happens.{Happens}
 use Rattle.conflict_book.specs.Halting.{AdvanceGoesOn}
 use Rattle.tile_worker.specs.Counts.{CountsSo}
 use Rattle.tile_worker.specs.Grows.{Grows}

@@ -2,9 +2,9 @@
 use Rattle.std.proofs.Common.{arith, ◌≡◌, ◌≤◌, ◌<◌, ◌+◌, ◌-◌, ◌^◌, ℕ, zero, suc, subst, sym}
 use Rattle.std.proofs.Math.Nat.{le-min, min-le_right}
 use Rattle.guest_image.specs.ImageValue.{ImageValue}
-use Rattle.event_def.specs.declared.event.Halt.{Halt}
-use Rattle.event_def.specs.Advancing.{AdvancesBy}
-use Rattle.event_def.specs.Book.{BookView, next_count}
+use Rattle.conflict_book.specs.event_def.declared.event.Halt.{Halt}
+use Rattle.conflict_book.specs.event_def.Advancing.{AdvancesBy}
+use Rattle.conflict_book.specs.event_def.Book.{BookView, next_count}
 use Rattle.conflict_book.specs.Halting.{RunsLeast}
 
 -- the count is not below this one, and has its greatest value at most

@@ -11,11 +11,11 @@ use Rattle.guest_image.specs.ImageValue.{ImageValue}
 use Rattle.progress_cell.specs.Readings.{IsAtMost, IsAtPlace}
 use Rattle.progress_cell.specs.declared.reading.Reading.{Reading}
 use Rattle.run_journal.specs.declared.journal.Entry.{Entry}
-use Rattle.serial_machine.specs.Run as run
-use Rattle.serial_machine.specs.Run.{IsRun}
-use Rattle.spec_state.specs.View.{View}
-use Rattle.spec_law.specs.Sound.{Sound}
-use Rattle.event_def.specs.Book.{BookView}
+use Rattle.conflict_book.specs.serial_machine.Run as run
+use Rattle.conflict_book.specs.serial_machine.Run.{IsRun}
+use Rattle.conflict_book.specs.spec_state.View.{View}
+use Rattle.conflict_book.specs.spec_law.Sound.{Sound}
+use Rattle.conflict_book.specs.event_def.Book.{BookView}
 use Rattle.conflict_book.specs.Counts.{counts_of}
 use Rattle.tile_worker.specs.Grows.{Grows}
 use Rattle.tile_worker.specs.Holds.{HoldsOnce}

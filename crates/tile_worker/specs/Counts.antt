@@ -1,7 +1,7 @@
 -- How a try of an event counts.
 use Rattle.std.specs.Prelude.{◌≡◌, ◌⊎◌}
-use Rattle.event_def.specs.Book.{BookView}
-use Rattle.event_def.specs.End.{IsOver}
+use Rattle.conflict_book.specs.event_def.Book.{BookView}
+use Rattle.conflict_book.specs.event_def.End.{IsOver}
 use Rattle.tile_worker.specs.Holds.{MakesOne, RunsOut}
 use Rattle.tile_worker.specs.declared.hold.Tried.{Tried}
 use Rattle.tile_worker.specs.declared.hold.Tried.TheVariants as tried

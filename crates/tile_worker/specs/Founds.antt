@@ -1,7 +1,7 @@
 -- What a worker may find in a hold.
 use Rattle.std.specs.Prelude.{◌≡◌, ◌⊎◌, ◌≤◌, ◌^◌, true}
-use Rattle.event_def.specs.Book.{BookView}
-use Rattle.event_def.specs.End.{IsOver}
+use Rattle.conflict_book.specs.event_def.Book.{BookView}
+use Rattle.conflict_book.specs.event_def.End.{IsOver}
 use Rattle.tile_worker.specs.declared.hold.Found.{Found}
 use Rattle.tile_worker.specs.declared.hold.Found.TheVariants as found
 

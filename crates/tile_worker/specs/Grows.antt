@@ -1,7 +1,7 @@
 -- How a run goes on.
 use Rattle.std.specs.Prelude.{◌≡◌, ◌++◌, ℕ, List}
 use Rattle.run_journal.specs.declared.journal.Entry.{Entry}
-use Rattle.spec_state.specs.View.{View}
+use Rattle.conflict_book.specs.spec_state.View.{View}
 
 -- the journal goes on where it ended, and so does the output
 pub record Grows (old new : View) : Type 0 where

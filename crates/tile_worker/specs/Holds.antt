@@ -1,8 +1,8 @@
 -- What one hold of the lock leaves of a book.
 use Rattle.std.specs.Prelude.{◌≡◌, ℕ, true}
-use Rattle.event_def.specs.declared.event.Event.{Event}
-use Rattle.event_def.specs.Book.{BookView}
-use Rattle.event_def.specs.Happens.{IsMade, MayRunOutOfMemory}
+use Rattle.conflict_book.specs.event_def.declared.event.Event.{Event}
+use Rattle.conflict_book.specs.event_def.Book.{BookView}
+use Rattle.conflict_book.specs.event_def.Happens.{IsMade, MayRunOutOfMemory}
 
 -- memory may run out at some event, and the book was stopped for it
 pub record RunsOut (N : Type 0) (old new : BookView) : Type 0 where

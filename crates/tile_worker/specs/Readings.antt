@@ -6,9 +6,9 @@ use Rattle.progress_cell.specs.Board.{WriterValue}
 use Rattle.progress_cell.specs.Readings.{StandsIn, last_of, opening_reading}
 use Rattle.progress_cell.specs.declared.reading.Reading.{Reading}
 use Rattle.run_journal.specs.declared.journal.Entry.{Entry}
-use Rattle.serial_machine.specs.Run.{IsRun}
-use Rattle.serial_machine.specs.State.{SerialState}
-use Rattle.spec_state.specs.View.{View}
+use Rattle.conflict_book.specs.serial_machine.Run.{IsRun}
+use Rattle.conflict_book.specs.serial_machine.State.{SerialState}
+use Rattle.conflict_book.specs.spec_state.View.{View}
 use Rattle.conflict_book.specs.Counts.{counts_of}
 
 -- the journal has at least so many entries, and the run of these first ones emitted so many bytes

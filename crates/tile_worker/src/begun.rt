@@ -2,7 +2,7 @@
 
 ghost use Rattle.std.specs.Prelude.{◌≡◌, ◌≤◌, [], ℕ, List, length, take};
 ghost use Rattle.run_journal.specs.declared.journal.Entry.{Entry};
-ghost use Rattle.spec_state.specs.Settings.{IsValid};
+ghost use Rattle.conflict_book.specs.spec_state.Settings.{IsValid};
 ghost use Rattle.conflict_book.specs.BookViews.{view_of};
 ghost use Rattle.tile_worker.specs.Founds.{IsDoneAt};
 
@@ -12,10 +12,10 @@ use crate::hold::Found;
 use crate::locks::BookLock;
 use crate::tally::{Part, Tallied};
 use crate::waiting::{Bell, take};
+use conflict_book::spec_state::Settings;
 use guest_image::Image;
 use place_policy::Placer;
 use rv_core::Naming;
-use spec_state::Settings;
 use std::marker::Brand;
 use std::sync::ledger::Ledger;
 use std::sync::{Mutex, Wait};

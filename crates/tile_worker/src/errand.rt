@@ -1,13 +1,13 @@
 //! The legs that a worker computes between two holds of the lock.
 
 ghost use Rattle.std.specs.Prelude.{◌≡◌, ◌≤◌};
-ghost use Rattle.spec_state.specs.Settings.{IsValid};
+ghost use Rattle.conflict_book.specs.spec_state.Settings.{IsValid};
 
 use crate::round::TileCore;
 use crate::waiting::LONG_LEG;
+use conflict_book::spec_state::Settings;
 use guest_image::{Image, TEXT_START};
 use rv_core::{Decoded, Leg, Naming, NotedCore, Stop, run_leg};
-use spec_state::Settings;
 
 /// So many legs of a core a worker computes one after another where they are long, before it hands in the first.
 const LEGS_AHEAD: u32 = 4;
@@ -64,16 +64,16 @@ impl<N: Naming> Errand<N> {
         requires budget { budget ≡ N.budget }
     {
         let from = NotedCore::start(image.version(), TEXT_START, 0, [0; 3]);
-        let legs = Legs {
-            first: run_leg(image, from.core(), 1, budget),
-            second: run_leg(image, from.core(), 1, budget),
-            third: run_leg(image, from.core(), 1, budget),
-            fourth: run_leg(image, from.core(), 1, budget),
-        };
         Errand {
             place: None,
+            // Made in place: a leg is large, and a local of its own would take room on the stack.
+            legs: Legs {
+                first: run_leg(image, from.core(), 1, budget),
+                second: run_leg(image, from.core(), 1, budget),
+                third: run_leg(image, from.core(), 1, budget),
+                fourth: run_leg(image, from.core(), 1, budget),
+            },
             from,
-            legs,
             next: 0,
             ready: 0,
         }

@@ -9,11 +9,11 @@ ghost use Rattle.tile_worker.specs.Holds.{HoldsOnce};
 
 use crate::errand::Errand;
 use crate::round::{Round, TileCore};
+use conflict_book::spec_state::{Status, Task, Where};
 use conflict_book::{Advance, Book, Legless, Reply};
 use guest_image::Image;
 use place_policy::Placer;
 use rv_core::{Leg, Naming};
-use spec_state::{Status, Task, Where};
 use trace_tap::Tap;
 
 /// What a worker has found in a hold.

@@ -1,17 +1,17 @@
 //! Locks that workers share.
 
 ghost use Rattle.std.specs.Prelude.{◌≡◌, ◌≤◌, ℕ};
-ghost use Rattle.spec_state.specs.Settings.{IsValid};
+ghost use Rattle.conflict_book.specs.spec_state.Settings.{IsValid};
 
 use crate::carried::Carried;
 use crate::errand::Errand;
 use crate::hold::Found;
 use crate::tally::{Part, Tallied};
 use crate::waiting::{Bell, take};
+use conflict_book::spec_state::Settings;
 use guest_image::Image;
 use place_policy::Placer;
 use rv_core::Naming;
-use spec_state::Settings;
 use std::sync::ledger::Ledger;
 use std::sync::{Mutex, Wait};
 use trace_tap::Tap;

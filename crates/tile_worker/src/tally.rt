@@ -2,7 +2,7 @@
 
 ghost use Rattle.std.specs.Prelude.{◌≡◌, ◌≤◌, ◌+◌, ◌^◌, ℕ, List, length, take};
 ghost use Rattle.run_journal.specs.declared.journal.Entry.{Entry};
-ghost use Rattle.spec_state.specs.Settings.{IsValid};
+ghost use Rattle.conflict_book.specs.spec_state.Settings.{IsValid};
 ghost use Rattle.conflict_book.specs.BookViews.{events_made, view_of};
 ghost use Rattle.tile_worker.specs.Founds.{IsDoneAt};
 ghost use Rattle.tile_worker.specs.Holds.{HoldsOnce};
@@ -11,10 +11,10 @@ use crate::carried::Carried;
 use crate::errand::Errand;
 use crate::hold::{Found, serve};
 use conflict_book::Book;
+use conflict_book::spec_state::Settings;
 use guest_image::Image;
 use place_policy::Placer;
 use rv_core::Naming;
-use spec_state::Settings;
 use std::sync::ledger;
 use std::sync::ledger::{Ledger, Share};
 use trace_tap::Tap;

@@ -19,7 +19,8 @@ use std::sync::{Mutex, Wait};
 use trace_tap::Tap;
 
 /// Drives the tiles of a worker, as `work` says, over any lock in which a book stands. Its legs run on the decoded text
-/// where there is one.
+/// where there is one. It isn't inlined into `fan`, which calls itself and would keep room for legs at each depth.
+#[inline(never)]
 pub(crate) fn drive<
     N: Naming,
     L: Ledger,

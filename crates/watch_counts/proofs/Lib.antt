@@ -4,3 +4,4 @@ pub mod Ranged
 pub mod Joined
 pub mod Told
 pub mod Untouched
+pub mod Below

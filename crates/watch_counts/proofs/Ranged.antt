@@ -3,8 +3,8 @@ use Rattle.std.proofs.Common.{◌≡◌, ◌+◌, ℕ, Bool, List, ap}
 use Rattle.std.specs.Prelude.{count_by, sum_by}
 use Rattle.std.specs.declared.option.Option.{Option}
 use Rattle.std.specs.List.{range_with_len}
-use Rattle.spec_state.specs.declared.task.Task.{Task}
-use Rattle.spec_state.specs.View.{View}
+use Rattle.watch_text.specs.spec_state.declared.task.Task.{Task}
+use Rattle.watch_text.specs.spec_state.View.{View}
 use Rattle.watch_counts.specs.Counts.{cores_in, on_core}
 
 abbrev pub cores_to : View → List Bool → (Bool → Option Task → Bool) → ℕ → ℕ → ℕ

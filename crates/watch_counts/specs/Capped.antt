@@ -80,6 +80,7 @@ capped_counts c = record {
   events = capped c.events;
   made = capped_acts c.made;
   rounds = capped c.rounds;
+  advances = capped c.advances;
   work = capped_work c.work;
   committed = capped_accesses c.committed;
   undone = capped_accesses c.undone;

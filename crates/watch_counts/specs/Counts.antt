@@ -8,17 +8,18 @@ use Rattle.std.specs.List.{range_with_len}
 use Rattle.guest_image.specs.declared.image.Kind.{Kind}
 use Rattle.guest_image.specs.declared.image.Kind.TheVariants.{Unordered, Ordered}
 use Rattle.task_request.specs.declared.request.Request.{Request}
-use Rattle.spec_state.specs.declared.effect.TakenTask.{TakenTask}
-use Rattle.spec_state.specs.declared.task.Task.{Task}
-use Rattle.spec_state.specs.Effects.{EffectValue}
-use Rattle.spec_state.specs.Tasks.{trap_cause}
-use Rattle.spec_state.specs.View.{View, block_at, cores_at, finished_at, queue_at}
-use Rattle.event_def.specs.declared.event.Event.{Event}
-use Rattle.event_def.specs.declared.event.Event.TheVariants as event
-use Rattle.event_def.specs.declared.event.Reply.{Reply}
-use Rattle.event_def.specs.declared.event.Reply.TheVariants as replies
-use Rattle.step_script.specs.declared.act.Act.{Act}
-use Rattle.step_script.specs.Asking.{Attempt, Hands, Says}
+use Rattle.watch_text.specs.spec_state.declared.effect.TakenTask.{TakenTask}
+use Rattle.watch_text.specs.spec_state.declared.task.Task.{Task}
+use Rattle.watch_text.specs.spec_state.Effects.{EffectValue}
+use Rattle.watch_text.specs.spec_state.Tasks.{trap_cause}
+use Rattle.watch_text.specs.spec_state.View.{View, block_at, cores_at, finished_at, queue_at}
+use Rattle.watch_text.specs.event_def.declared.event.Event.{Event}
+use Rattle.watch_text.specs.event_def.declared.event.Event.TheVariants as event
+use Rattle.watch_text.specs.event_def.declared.event.Reply.{Reply}
+use Rattle.watch_text.specs.event_def.declared.event.Reply.TheVariants as replies
+use Rattle.watch_text.specs.step_script.declared.act.Act.{Act}
+use Rattle.watch_text.specs.step_script.declared.act.Act.TheVariants as acts
+use Rattle.watch_text.specs.step_script.Asking.{Attempt, Hands, Says}
 use Rattle.watch_text.specs.Changes.{core_of_status, task_if}
 use Rattle.watch_text.specs.Moments.{Moment}
 use Rattle.watch_counts.specs.declared.accesses.AccessCounts.{AccessCounts}
@@ -198,14 +199,20 @@ after_attempt reply (Hands event) task request effect did new c =
     after_reply reply event task request effect did new c
 after_attempt reply (Says word) task request effect did new c = c
 
--- behind an act of this number and kind that is told
-abbrev pub after_told : ℕ → ActKind → Counts → Counts
-after_told at kind c = record c { acts = at; told = one_more kind c.told }
+-- with one more advance, where the act is one
+abbrev pub one_advance : Act → ℕ → ℕ
+one_advance acts.Advance advances = advances + 1
+one_advance act advances = advances
+
+-- behind an act of this number that is told, and did what this kind does
+abbrev pub after_told : ℕ → Act → ActKind → Counts → Counts
+after_told at act kind c =
+    record c { acts = at; told = one_more kind c.told; advances = one_advance act c.advances }
 
 -- behind a moment
 abbrev pub counts_after : {N : Type 0} → Counts → Moment N → Counts
 counts_after c m = after_attempt m.reply m.asks m.task m.request m.effect (done_by m.old.view m.asks m.task) m.new.view
-    (after_told m.at (kind_done m.act m.asks) c)
+    (after_told m.at m.act (kind_done m.act m.asks) c)
 
 -- behind an act that isn't asked for, and so passes
 abbrev pub after_passed : Act → Counts → Counts

@@ -3,11 +3,11 @@ use Rattle.std.specs.Prelude.{◌+◌, Some, None}
 use Rattle.std.specs.declared.option.Option.{Option}
 use Rattle.task_request.specs.declared.request.Request.{Request}
 use Rattle.task_request.specs.declared.request.Request.TheVariants as requests
-use Rattle.event_def.specs.declared.event.Event.{Event}
-use Rattle.event_def.specs.declared.event.Event.TheVariants as event
-use Rattle.step_script.specs.declared.act.Act.{Act}
-use Rattle.step_script.specs.declared.act.Act.TheVariants as acts
-use Rattle.step_script.specs.Asking.{Attempt, Hands, Says}
+use Rattle.watch_text.specs.event_def.declared.event.Event.{Event}
+use Rattle.watch_text.specs.event_def.declared.event.Event.TheVariants as event
+use Rattle.watch_text.specs.step_script.declared.act.Act.{Act}
+use Rattle.watch_text.specs.step_script.declared.act.Act.TheVariants as acts
+use Rattle.watch_text.specs.step_script.Asking.{Attempt, Hands, Says}
 use Rattle.watch_counts.specs.declared.acts.ActCounts.{ActCounts}
 use Rattle.watch_counts.specs.declared.acts.ActKind.{ActKind}
 use Rattle.watch_counts.specs.declared.acts.ActKind.TheVariants as kinds

@@ -52,6 +52,7 @@ no_counts = record {
   events = 0;
   made = no_acts;
   rounds = 0;
+  advances = 0;
   work = no_work;
   committed = no_accesses;
   undone = no_accesses;

@@ -6,7 +6,7 @@ use Rattle.watch_counts.specs.declared.acts.ActCounts.{ActCounts}
 use Rattle.watch_counts.specs.declared.causes.CauseCounts.{CauseCounts}
 use Rattle.watch_counts.specs.declared.counts.Counts.{Counts}
 use Rattle.watch_counts.specs.declared.places.PlaceCounts.{PlaceCounts}
-use Rattle.spec_state.specs.View.{View}
+use Rattle.watch_text.specs.spec_state.View.{View}
 use Rattle.watch_counts.specs.declared.text.NamedCount.{NamedCount}
 use Rattle.watch_counts.specs.Work.{work_left}
 
@@ -44,8 +44,8 @@ work_group c left =
 
 abbrev pub run_group : Counts → List Named
 run_group c =
-    named (codes "acts") c.acts ∷ named (codes "rounds") c.rounds ∷ named (codes "opening") c.opening
-    ∷ named (codes "spilled") c.spilled ∷ []
+    named (codes "acts") c.acts ∷ named (codes "rounds") c.rounds ∷ named (codes "advances") c.advances
+    ∷ named (codes "opening") c.opening ∷ named (codes "spilled") c.spilled ∷ []
 
 abbrev pub acts_group : ActCounts → List Named
 acts_group c =

@@ -4,12 +4,12 @@ use Rattle.std.specs.declared.option.Option.{Option}
 use Rattle.std.specs.List.{range_with_len}
 use Rattle.task_request.specs.declared.request.Request.{Request}
 use Rattle.task_request.specs.declared.request.Request.TheVariants as requests
-use Rattle.spec_state.specs.declared.task.Task.{Task}
-use Rattle.spec_state.specs.Tasks.{kind_at}
-use Rattle.spec_state.specs.Told.{is_store}
-use Rattle.spec_state.specs.View.{View, queue_at, task_at}
-use Rattle.event_def.specs.declared.event.Event.TheVariants as event
-use Rattle.step_script.specs.Asking.{Attempt, Hands}
+use Rattle.watch_text.specs.spec_state.declared.task.Task.{Task}
+use Rattle.watch_text.specs.spec_state.Tasks.{kind_at}
+use Rattle.watch_text.specs.spec_state.Told.{is_store}
+use Rattle.watch_text.specs.spec_state.View.{View, queue_at, task_at}
+use Rattle.watch_text.specs.event_def.declared.event.Event.TheVariants as event
+use Rattle.watch_text.specs.step_script.Asking.{Attempt, Hands}
 use Rattle.watch_text.specs.Changes.{task_if}
 use Rattle.watch_counts.specs.declared.done.Done.{Done}
 use Rattle.watch_counts.specs.declared.done.TheConstants.{POWERS}

@@ -2,16 +2,16 @@
 
 ghost use Rattle.std.specs.Prelude.{◌≡◌};
 ghost use Rattle.rv_core.specs.LegValue.{LegValue};
-ghost use Rattle.step_script.specs.Asking.{asks_of};
-ghost use Rattle.conflict_book.specs.Legless.{event_of};
+ghost use Rattle.watch_text.specs.step_script.Asking.{asks_of};
+ghost use Rattle.watch_text.specs.conflict_book.Legless.{event_of};
 ghost use Rattle.watch_counts.specs.Nothing.{no_acts};
 ghost use Rattle.watch_counts.specs.Capped.{capped_acts};
 ghost use Rattle.watch_counts.specs.Kinds.{kind_done, kind_of_act, kind_of_event, one_more};
 
 use crate::numbers::more;
-use conflict_book::Legless;
 use rv_core::Naming;
-use step_script::{Act, Asked};
+use watch_text::conflict_book::Legless;
+use watch_text::step_script::{Act, Asked};
 
 /// What an act does, or an event.
 #[derive(Clone, Copy, Debug, PartialEq, Eq)]

@@ -1,15 +1,15 @@
 //! Tasks that were taken back, by cause.
 
 ghost use Rattle.std.specs.Prelude.{◌≡◌, Some, if◌then◌else◌};
-ghost use Rattle.conflict_book.specs.Legless.{event_of};
+ghost use Rattle.watch_text.specs.conflict_book.Legless.{event_of};
 ghost use Rattle.watch_counts.specs.Nothing.{no_causes};
 ghost use Rattle.watch_counts.specs.Capped.{capped_causes};
 ghost use Rattle.watch_counts.specs.Kinds.{cause_in_step, cause_of, one_taken};
 
 use crate::numbers::more;
-use conflict_book::Legless;
 use rv_core::Naming;
 use task_request::Request;
+use watch_text::conflict_book::Legless;
 
 /// Why an event takes tasks back.
 #[derive(Clone, Copy, Debug, PartialEq, Eq)]

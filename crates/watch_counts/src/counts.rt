@@ -16,7 +16,7 @@ use crate::stalls::StallCounts;
 use crate::tiles::TileCounts;
 use crate::work::WorkCounts;
 use rv_core::Naming;
-use spec_state::{State, TaskId};
+use watch_text::spec_state::{State, TaskId};
 
 /// What is counted of a story. Each number stops at 2^64 - 1.
 #[derive(Clone, Copy, Debug, PartialEq, Eq)]
@@ -33,6 +33,8 @@ pub struct Counts {
     pub made: ActCounts,
     /// The rounds that ended.
     pub rounds: u64,
+    /// The acts that advanced the least task.
+    pub advances: u64,
     /// Work.
     pub work: WorkCounts,
     /// The accesses of tasks that committed.
@@ -114,6 +116,7 @@ impl Counts {
             events: 0,
             made: ActCounts::none(),
             rounds: 0,
+            advances: 0,
             work: WorkCounts::none(),
             committed: AccessCounts::none(),
             undone: AccessCounts::none(),

@@ -2,20 +2,20 @@
 
 ghost use Rattle.std.specs.Prelude.{◌≡◌, ◌+◌, ◌^◌, ◌<◌, IsSome, Some, cond, count_by, option_map};
 ghost use Rattle.rv_core.specs.LegValue.{LegValue};
-ghost use Rattle.spec_state.specs.Told.{is_store};
-ghost use Rattle.spec_state.specs.View.{task_at};
-ghost use Rattle.step_script.specs.Asking.{asks_of};
+ghost use Rattle.watch_text.specs.spec_state.Told.{is_store};
+ghost use Rattle.watch_text.specs.spec_state.View.{task_at};
+ghost use Rattle.watch_text.specs.step_script.Asking.{asks_of};
 ghost use Rattle.watch_text.specs.Changes.{task_if};
 ghost use Rattle.watch_text.specs.Moments.{task_of};
 ghost use Rattle.watch_counts.specs.Work.{done_by, done_of, length_place};
 
-use conflict_book::Legless;
 use guest_image::Kind;
 use rv_core::Naming;
-use spec_state::{State, TaskId};
-use step_script::Asked;
 use undo_log::Access;
 use watch_text::About;
+use watch_text::conflict_book::Legless;
+use watch_text::spec_state::{State, TaskId};
+use watch_text::step_script::Asked;
 
 /// What a task has done since its dispatch, and where.
 #[derive(Clone, Copy, Debug, PartialEq, Eq)]

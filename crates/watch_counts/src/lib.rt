@@ -31,4 +31,8 @@ pub use places::PlaceCounts;
 pub use stalls::StallCounts;
 pub use text::put_counts;
 pub use tiles::TileCounts;
+pub use watch_text;
+pub use watch_text::{
+    conflict_book, event_move, event_prelude, spec_dispatch, spec_state, step_script,
+};
 pub use work::WorkCounts;

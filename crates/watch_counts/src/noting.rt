@@ -1,16 +1,17 @@
 //! Each act that is told, and what it came to.
 
-ghost use Rattle.std.specs.Prelude.{◌≡◌, ◌+◌, Option, false, true, fold, length, option_map};
+ghost use Rattle.std.specs.Prelude.{◌≡◌, ◌+◌, ℕ, Option, false, true, fold, length, option_map};
 ghost use Rattle.rv_core.specs.LegValue.{LegValue};
-ghost use Rattle.conflict_book.specs.Legless.{event_of};
-ghost use Rattle.event_def.specs.declared.event.Event.TheVariants as event;
-ghost use Rattle.step_script.specs.Asking.{asks_of};
+ghost use Rattle.watch_text.specs.conflict_book.Legless.{event_of};
+ghost use Rattle.watch_text.specs.event_def.declared.event.Event.TheVariants as event;
+ghost use Rattle.watch_text.specs.step_script.Asking.{asks_of};
 ghost use Rattle.watch_text.specs.Changes.{core_of_status};
 ghost use Rattle.watch_text.specs.Moments.{task_of};
-ghost use Rattle.watch_counts.specs.Capped.{capped_counts};
+ghost use Rattle.watch_counts.specs.Capped.{capped, capped_counts};
 ghost use Rattle.watch_counts.specs.Counts.{after_attempt, after_commit, after_event, after_own, after_passed};
 ghost use Rattle.watch_counts.specs.Counts.{after_refusal, after_reply, after_round, after_stall, after_taken};
-ghost use Rattle.watch_counts.specs.Counts.{after_told, dispatched_core, not_stalled, put_stalled, with_standing};
+ghost use Rattle.watch_counts.specs.Counts.{after_told, dispatched_core, one_advance, not_stalled, put_stalled};
+ghost use Rattle.watch_counts.specs.Counts.{with_standing};
 ghost use Rattle.watch_counts.specs.Kinds.{cause_in_step, cause_of, kind_done, kind_of_event, one_more};
 ghost use Rattle.watch_counts.specs.Kinds.{one_stalled_step};
 ghost use Rattle.watch_counts.specs.Work.{instructions, refused_leg};
@@ -21,13 +22,13 @@ use crate::counts::Counts;
 use crate::done::{Done, length_place};
 use crate::numbers::{add_at, more};
 use crate::places::{places_of, put_stalled};
-use conflict_book::Legless;
-use event_def::Reply;
 use rv_core::Naming;
-use spec_state::{Effect, State, Status, TakenTask, TaskId};
-use step_script::{Act, Asked};
 use task_request::Request;
 use watch_text::About;
+use watch_text::conflict_book::Legless;
+use watch_text::event_def::Reply;
+use watch_text::spec_state::{Effect, State, Status, TakenTask, TaskId};
+use watch_text::step_script::{Act, Asked};
 
 /// The core to which a task was dispatched.
 fn dispatched_core<N: Naming>(state: &State<N>, task: Option<TaskId>) -> Option<u32>
@@ -54,14 +55,32 @@ fn core_of_status(status: Status) -> Option<u32>
     }
 }
 
+/// The advances behind an act.
+fn advances_after(advances: u64, act: Act) -> u64
+    ensures { (c : ℕ) → advances ≡ capped c → result ≡ capped (one_advance act c) }
+{
+    match act {
+        Act::Advance => more(advances, 1),
+        Act::Dispatch(_) => advances,
+        Act::Step(_, _) => advances,
+        Act::Take(_, _) => advances,
+        Act::Give(_, _) => advances,
+        Act::Abort(_) => advances,
+        Act::Commit => advances,
+        Act::Coalesce(_) => advances,
+        Act::Split(_) => advances,
+    }
+}
+
 impl Counts {
-    /// An act of this number and kind is told.
+    /// An act of this number is told, which did what this kind does.
     #[tactic(auto, using(crate::proofs::Stopping::capped_itself))]
-    fn tell(&mut self, at: u64, kind: ActKind)
-        ensures { (c : Counts) → self.old ≡ capped_counts c → self.new ≡ capped_counts (after_told at kind c) }
+    fn tell(&mut self, at: u64, act: Act, kind: ActKind)
+        ensures { (c : Counts) → self.old ≡ capped_counts c → self.new ≡ capped_counts (after_told at act kind c) }
     {
         self.acts = at;
         self.told.count(kind);
+        self.advances = advances_after(self.advances, act);
     }
 
     /// An event of this kind was made, and spilled so many tasks.
@@ -342,9 +361,9 @@ impl Counts {
         ensures { (leg : LegValue) (c : Counts) → leg.steps ≡ steps → self.old ≡ capped_counts c
             → self.new ≡ capped_counts (after_attempt reply (asks_of {N = N} asked.now leg) (task_of about.now)
             about.now.request effect.now done.now state.now.view
-            (after_told at (kind_done act (asks_of {N = N} asked.now leg)) c)) }
+            (after_told at act (kind_done act (asks_of {N = N} asked.now leg)) c)) }
     {
-        self.tell(at, kind_done::<N>(act, asked));
+        self.tell(at, act, kind_done::<N>(act, asked));
         self.count_attempt(asked, steps, about, reply, effect, done, state);
     }
 

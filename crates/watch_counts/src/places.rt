@@ -2,8 +2,8 @@
 
 ghost use Rattle.std.specs.Prelude.{◌≡◌, ◌+◌, ◌*◌, ◌<◌, ℕ, None, cond, false, length, max, is_some, option_copied};
 ghost use Rattle.std.specs.Prelude.{slice_index_or};
-ghost use Rattle.spec_state.specs.View.{block_at, cores_at, finished_at, queue_at};
-ghost use Rattle.spec_state.specs.Tasks.{trap_cause};
+ghost use Rattle.watch_text.specs.spec_state.View.{block_at, cores_at, finished_at, queue_at};
+ghost use Rattle.watch_text.specs.spec_state.Tasks.{trap_cause};
 ghost use Rattle.watch_text.specs.Changes.{task_if};
 ghost use Rattle.watch_counts.specs.Nothing.{no_places};
 ghost use Rattle.watch_counts.specs.Capped.{capped, capped_places};
@@ -12,7 +12,7 @@ ghost use Rattle.watch_counts.specs.Work.{over_tiles};
 
 use crate::numbers::{greater, more, sum_of};
 use rv_core::Naming;
-use spec_state::{State, Status, Task};
+use watch_text::spec_state::{State, Status, Task};
 
 /// How many tasks are where.
 #[derive(Clone, Copy, Debug, PartialEq, Eq)]

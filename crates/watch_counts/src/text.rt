@@ -18,8 +18,8 @@ use crate::counts::{Counts, work_left};
 use crate::places::PlaceCounts;
 use itoa::Buffer;
 use rv_core::Naming;
-use spec_state::State;
 use std::alloc::AllocError;
+use watch_text::spec_state::State;
 
 /// A number under a name.
 #[derive(Clone, Copy)]
@@ -163,6 +163,7 @@ fn put_run(line: &mut String, name: &str, counts: &Counts) -> Result<(), AllocEr
         &[
             named("acts", counts.acts),
             named("rounds", counts.rounds),
+            named("advances", counts.advances),
             named("opening", counts.opening),
             named("spilled", counts.spilled),
         ],

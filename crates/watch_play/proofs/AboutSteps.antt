@@ -2,17 +2,17 @@
 use Rattle.std.proofs.Common.{◌≡◌, ◌∙◌, ℕ, List, ap, subst, sym}
 use Rattle.guest_image.specs.ImageValue.{ImageValue}
 use Rattle.rv_core.specs.LegValue.{LegValue}
-use Rattle.spec_state.specs.declared.task.Task.{Task}
-use Rattle.spec_state.specs.Changes.{TakesLeg}
-use Rattle.spec_state.specs.View.{View}
-use Rattle.event_def.specs.declared.event.Event.TheVariants as event
-use Rattle.step_script.specs.declared.act.Act.{Act}
-use Rattle.step_script.specs.declared.act.Act.TheVariants as acts
-use Rattle.step_script.specs.declared.asked.Asked.{Asked}
-use Rattle.step_script.specs.declared.asked.Asked.TheVariants as asked
-use Rattle.step_script.specs.Asking.{Attempt, AsksFor, AsksStep, Hands, asks_of}
-use Rattle.step_script.specs.Asking.{step_ended, step_runs, step_stale}
-use Rattle.step_script.specs.Playing.{HasLegAt, HeldLeg, PlayState}
+use Rattle.watch_counts.specs.spec_state.declared.task.Task.{Task}
+use Rattle.watch_counts.specs.spec_state.Changes.{TakesLeg}
+use Rattle.watch_counts.specs.spec_state.View.{View}
+use Rattle.watch_counts.specs.event_def.declared.event.Event.TheVariants as event
+use Rattle.watch_counts.specs.step_script.declared.act.Act.{Act}
+use Rattle.watch_counts.specs.step_script.declared.act.Act.TheVariants as acts
+use Rattle.watch_counts.specs.step_script.declared.asked.Asked.{Asked}
+use Rattle.watch_counts.specs.step_script.declared.asked.Asked.TheVariants as asked
+use Rattle.watch_counts.specs.step_script.Asking.{Attempt, AsksFor, AsksStep, Hands, asks_of}
+use Rattle.watch_counts.specs.step_script.Asking.{step_ended, step_runs, step_stale}
+use Rattle.watch_counts.specs.step_script.Playing.{HasLegAt, HeldLeg, PlayState}
 
 -- some task takes it
 abbrev pub IsTaken : View → LegValue → ℕ → ℕ → Type 0

@@ -1,18 +1,20 @@
 -- What a course asks for on one of two views that are alike it asks for on the other.
 use Rattle.std.proofs.Common.{◌≡◌, ◌⊎◌, ℕ, sym, ap, ◌∙◌, inl, inr}
-use Rattle.spec_state.specs.declared.task.Status.TheVariants.{Finished}
-use Rattle.spec_state.specs.declared.task.Task.{Task}
-use Rattle.spec_state.specs.Least.{IsLeastSpilled, IsTheLeast}
-use Rattle.spec_state.specs.Queries.{IsFreeCore}
-use Rattle.spec_state.specs.Room.{QueueHasRoom}
-use Rattle.spec_state.specs.View.{View}
-use Rattle.event_def.specs.End.{IsOver}
-use Rattle.step_script.specs.declared.act.Act.{Act}
-use Rattle.step_script.specs.declared.act.Act.TheVariants as acts
-use Rattle.outcome_law.specs.Alike.{AreAlike, IsAlikeTask, IdPermutation, inverse_of}
-use Rattle.outcome_law.proofs.Proved.{alike_turned, over_too, block_too, least_too, spilled_too, the_least_too}
-use Rattle.outcome_law.proofs.Proved.{free_core_too, least_idle_too, running_too, has_room_too}
-use Rattle.watch_play.specs.Courses.{Course, IsAskedBy, IsAskedInRound, OfLeast, OfRounds, OfScript}
+use Rattle.watch_counts.specs.spec_state.declared.task.Status.TheVariants.{Finished}
+use Rattle.watch_counts.specs.spec_state.declared.task.Task.{Task}
+use Rattle.watch_counts.specs.spec_state.Least.{IsLeastSpilled, IsTheLeast}
+use Rattle.watch_counts.specs.spec_state.Queries.{IsFreeCore}
+use Rattle.watch_counts.specs.spec_state.Room.{QueueHasRoom}
+use Rattle.watch_counts.specs.spec_state.View.{View}
+use Rattle.watch_counts.specs.event_def.End.{IsOver}
+use Rattle.watch_counts.specs.step_script.declared.act.Act.{Act}
+use Rattle.watch_counts.specs.step_script.declared.act.Act.TheVariants as acts
+use Rattle.machine_run.specs.outcome_law.Alike.{AreAlike, IsAlikeTask, IdPermutation, inverse_of}
+use Rattle.machine_run.proofs.Below.outcome_law.Proved.{alike_turned, over_too, block_too, least_too, spilled_too}
+use Rattle.machine_run.proofs.Below.outcome_law.Proved.{the_least_too}
+use Rattle.machine_run.proofs.Below.outcome_law.Proved.{free_core_too, least_idle_too, running_too, has_room_too}
+use Rattle.watch_play.specs.Courses.{Course, GoesOnAt, IsAskedBy, IsAskedInRound, LeastWaits, OfLeast, OfRounds}
+use Rattle.watch_play.specs.Courses.{OfScript, Stage}
 
 module _ (r : IdPermutation) (a b : View) (alike : AreAlike r a b) where
   -- an alike task stands as the other one does
@@ -50,10 +52,32 @@ module _ (r : IdPermutation) (a b : View) (alike : AreAlike r a b) where
 goes_on_too : (r : IdPermutation) (a b : View) → AreAlike r a b → (IsOver a → ⊥) → IsOver b → ⊥
 goes_on_too r a b alike on over = on (over_too (inverse_of r) b a (alike_turned r a b alike) over)
 
+-- a least task that waits on one waits on the other
+pub waits_too : (r : IdPermutation) (a b : View) → AreAlike r a b → LeastWaits a → LeastWaits b
+waits_too r a b alike (inl idle) =
+    let too = least_too r a b alike idle.1 idle.2 idle.3 in
+    inl (
+      goes_on_too r a b alike idle.0,
+      r.to idle.1,
+      too.y,
+      too.least,
+      ap (λ (t : Task). t.status) too.alike.other_is ∙ idle.4,
+    )
+waits_too r a b alike (inr spilled) =
+    inr (goes_on_too r a b alike spilled.0, spilled.1, spilled_too r a b alike spilled.1 spilled.2)
+
+-- where a course goes on at one of the views it does at the other
+pub goes_too : (course : Course) (stage : Stage) (r : IdPermutation) (a b : View) → AreAlike r a b
+    → GoesOnAt course stage a → GoesOnAt course stage b
+goes_too (OfScript script) stage r a b alike goes = tt
+goes_too OfLeast stage r a b alike goes = goes_on_too r a b alike goes
+goes_too (OfRounds rounds seed most settings) stage r a b alike goes =
+    (goes.0, λ over. goes.1 (over_too (inverse_of r) b a (alike_turned r a b alike) over))
+
 pub asked_too : (course : Course) (r : IdPermutation) (a b : View) → AreAlike r a b → (act : Act)
     → IsAskedBy course a act
     → IsAskedBy course b act
 asked_too (OfScript script) r a b alike act asked = tt
-asked_too OfLeast r a b alike act asked = goes_on_too r a b alike asked
-asked_too (OfRounds rounds seed barren settings) r a b alike act asked =
+asked_too OfLeast r a b alike act asked = tt
+asked_too (OfRounds rounds seed most settings) r a b alike act asked =
     (goes_on_too r a b alike asked.0, asked_in_round_too r a b alike act asked.1)

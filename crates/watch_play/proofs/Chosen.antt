@@ -2,19 +2,19 @@
 use Rattle.std.proofs.Common.{◌≡◌, ◌⊎◌, ℕ, Bool, true, false, Some, None, inl, inr, refl, sym, subst, ◌∙◌}
 use Rattle.std.specs.Prelude.{◌↔◌, IfSome, IsFalse, IsNone, IsTrue, is_some}
 use Rattle.std.specs.declared.option.Option.{Option}
-use Rattle.spec_state.specs.declared.task.Task.{Task}
-use Rattle.spec_state.specs.declared.task.TaskId.{TaskId}
-use Rattle.spec_state.specs.declared.task.Where.{Where}
-use Rattle.spec_state.specs.declared.task.Where.TheVariants as where_
-use Rattle.spec_state.specs.Least.{IsLeast, IsTheLeast}
-use Rattle.spec_state.specs.Queries.{IsFreeCore, IsIdle, IsLeastIdle, IsLowestFree}
-use Rattle.spec_state.specs.View.{View}
+use Rattle.watch_counts.specs.spec_state.declared.task.Task.{Task}
+use Rattle.watch_counts.specs.spec_state.declared.task.TaskId.{TaskId}
+use Rattle.watch_counts.specs.spec_state.declared.task.Where.{Where}
+use Rattle.watch_counts.specs.spec_state.declared.task.Where.TheVariants as where_
+use Rattle.watch_counts.specs.spec_state.Least.{IsLeast, IsTheLeast}
+use Rattle.watch_counts.specs.spec_state.Queries.{IsFreeCore, IsIdle, IsLeastIdle, IsLowestFree}
+use Rattle.watch_counts.specs.spec_state.View.{View}
 use Rattle.run_journal.specs.declared.end.End.{End}
-use Rattle.event_def.specs.End.{HasEnd, IsOver}
-use Rattle.event_basis.specs.Whereabouts.{IsUnfinished}
-use Rattle.event_basis.proofs.Proved.{none_commits}
-use Rattle.event_move.specs.Idling.{NoIdleIsLeast}
-use Rattle.step_script.specs.declared.act.Act.TheVariants as acts
+use Rattle.watch_counts.specs.event_def.End.{HasEnd, IsOver}
+use Rattle.watch_counts.specs.event_basis.Whereabouts.{IsUnfinished}
+use Rattle.watch_counts.proofs.Below.event_basis.Proved.{none_commits}
+use Rattle.watch_counts.specs.event_move.Idling.{NoIdleIsLeast}
+use Rattle.watch_counts.specs.step_script.declared.act.Act.TheVariants as acts
 use Rattle.watch_play.specs.Courses.{IsAskedInRound}
 
 -- what a test that failed says

@@ -1,23 +1,23 @@
 -- A moment does its act, as a script that is played does.
 use Rattle.std.proofs.Common.{◌≡◌, ◌≢◌, ℕ, false, Some, refl, sym, subst}
 use Rattle.guest_image.specs.ImageValue.{ImageValue}
-use Rattle.spec_law.specs.Sound.{Sound}
-use Rattle.event_def.specs.declared.event.Advance.TheVariants as answers
-use Rattle.event_def.specs.declared.event.Event.{Event}
-use Rattle.event_def.specs.declared.event.Event.TheVariants as event
-use Rattle.event_def.specs.declared.event.Reply.{Reply}
-use Rattle.event_def.specs.declared.event.Reply.TheVariants as replies
-use Rattle.event_def.specs.Advancing.{IsNextEvent}
-use Rattle.event_def.specs.Happens.{Happens}
-use Rattle.event_law.proofs.Proved.{least_event_is_granted}
-use Rattle.step_script.specs.declared.act.Act.{Act}
-use Rattle.step_script.specs.declared.act.Act.TheVariants as acts
-use Rattle.step_script.specs.declared.saying.Word.TheVariants as words
-use Rattle.step_script.specs.Playing.{Does, DoesAdvance, PlayState}
-use Rattle.step_script.specs.Asking.{Attempt, AsksAdvance, AsksFor, ComesOf, Hands, Says}
-use Rattle.step_script.specs.Asking as asking
-use Rattle.step_script.proofs.Proved.{HasCome, does_other, said}
-use Rattle.watch_text.specs.Moments.{IsMoment, Moment}
+use Rattle.watch_counts.specs.spec_law.Sound.{Sound}
+use Rattle.watch_counts.specs.event_def.declared.event.Advance.TheVariants as answers
+use Rattle.watch_counts.specs.event_def.declared.event.Event.{Event}
+use Rattle.watch_counts.specs.event_def.declared.event.Event.TheVariants as event
+use Rattle.watch_counts.specs.event_def.declared.event.Reply.{Reply}
+use Rattle.watch_counts.specs.event_def.declared.event.Reply.TheVariants as replies
+use Rattle.watch_counts.specs.event_def.Advancing.{IsNextEvent}
+use Rattle.watch_counts.specs.event_def.Happens.{Happens}
+use Rattle.watch_counts.proofs.Below.event_law.Proved.{least_event_is_granted}
+use Rattle.watch_counts.specs.step_script.declared.act.Act.{Act}
+use Rattle.watch_counts.specs.step_script.declared.act.Act.TheVariants as acts
+use Rattle.watch_counts.specs.step_script.declared.saying.Word.TheVariants as words
+use Rattle.watch_counts.specs.step_script.Playing.{Does, DoesAdvance, PlayState}
+use Rattle.watch_counts.specs.step_script.Asking.{Attempt, AsksAdvance, AsksFor, ComesOf, Hands, Says}
+use Rattle.watch_counts.specs.step_script.Asking as asking
+use Rattle.watch_counts.proofs.Below.step_script.Proved.{HasCome, does_other, said}
+use Rattle.watch_counts.specs.watch_text.Moments.{IsMoment, Moment}
 use Rattle.watch_play.specs.Replies.{MomentDoes, advance_word, word_by}
 
 -- an advance, and what is said of it

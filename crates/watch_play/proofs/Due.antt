@@ -3,7 +3,7 @@ use Rattle.std.proofs.Common.{◌≡◌, ◌∙◌, ℕ, List, [], Bool, true, f
 use Rattle.std.specs.Prelude.{if◌then◌else◌}
 use Rattle.std.proofs.KnownBytes.{Appends-nil}
 use Rattle.sim_io.specs.Streams.{SinkState}
-use Rattle.watch_text.specs.Moments.{Moment}
+use Rattle.watch_counts.specs.watch_text.Moments.{Moment}
 use Rattle.watch_counts.specs.declared.counts.Counts.{Counts}
 use Rattle.watch_play.specs.declared.stop.StoryStop.{StoryStop}
 use Rattle.watch_play.specs.declared.telling.Telling.{Telling}

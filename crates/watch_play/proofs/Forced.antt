@@ -2,21 +2,22 @@
 use Rattle.std.proofs.Common.{◌≡◌, ◌≢◌, ◌≤◌, ◌+◌, ℕ, false, length, refl, sym, ap, subst, ◌∙◌, arith, le_refl}
 use Rattle.std.proofs.lemmas.List.{length-append}
 use Rattle.guest_image.specs.ImageValue.{ImageValue}
-use Rattle.spec_law.specs.Sound.{Sound}
-use Rattle.event_def.specs.declared.event.Event.{Event}
-use Rattle.event_def.specs.declared.event.Event.TheVariants as event
-use Rattle.event_def.specs.declared.event.Reply.{Reply}
-use Rattle.event_def.specs.declared.event.Reply.TheVariants as replies
-use Rattle.event_def.specs.Advancing.{HasRest, IsNextEvent, IsNoCommit}
-use Rattle.event_def.specs.Book.{BookView}
-use Rattle.event_def.specs.End.{IsOver}
-use Rattle.event_def.specs.Happens.{Happens, IsMade}
-use Rattle.event_law.proofs.Proved.{advances_fall, event_stays, event_stays_sound, least_event_is_granted}
-use Rattle.event_law.proofs.Proved.{next_event_is_given, rest_is_bounded, rest_is_there}
-use Rattle.step_script.specs.Asking.{AsksAdvance, AsksFor, Attempt, ComesOf, Hands, Says}
-use Rattle.step_script.specs.Asking as asking
-use Rattle.step_script.specs.Playing.{PlayState}
-use Rattle.watch_text.specs.Moments.{IsMoment, Moment}
+use Rattle.watch_counts.specs.spec_law.Sound.{Sound}
+use Rattle.watch_counts.specs.event_def.declared.event.Event.{Event}
+use Rattle.watch_counts.specs.event_def.declared.event.Event.TheVariants as event
+use Rattle.watch_counts.specs.event_def.declared.event.Reply.{Reply}
+use Rattle.watch_counts.specs.event_def.declared.event.Reply.TheVariants as replies
+use Rattle.watch_counts.specs.event_def.Advancing.{HasRest, IsNextEvent, IsNoCommit}
+use Rattle.watch_counts.specs.event_def.Book.{BookView}
+use Rattle.watch_counts.specs.event_def.End.{IsOver}
+use Rattle.watch_counts.specs.event_def.Happens.{Happens, IsMade}
+use Rattle.watch_counts.proofs.Below.event_law.Proved.{advances_fall, event_stays, event_stays_sound}
+use Rattle.watch_counts.proofs.Below.event_law.Proved.{least_event_is_granted}
+use Rattle.watch_counts.proofs.Below.event_law.Proved.{next_event_is_given, rest_is_bounded, rest_is_there}
+use Rattle.watch_counts.specs.step_script.Asking.{AsksAdvance, AsksFor, Attempt, ComesOf, Hands, Says}
+use Rattle.watch_counts.specs.step_script.Asking as asking
+use Rattle.watch_counts.specs.step_script.Playing.{PlayState}
+use Rattle.watch_counts.specs.watch_text.Moments.{IsMoment, Moment}
 use Rattle.watch_play.specs.Lockstep.{ForcedGetsOn, IsBroughtOn, not_yet, once_more}
 use Rattle.watch_play.specs.Stories.{commits_of}
 use Rattle.watch_play.proofs.Does.{came_between}
@@ -30,7 +31,7 @@ module _ (N : Type 0) (old new : BookView) (aborted : ℕ) where
   same_commits e other made = ap (λ p. length p.0) (event_stays old aborted new.view new.placers N e other made.makes)
 
   -- a commit is one more
-  one_commit : IsMade {N = N} old event.Commit aborted new → length new.view.history ≡ length old.view.history + 1
+  pub one_commit : IsMade {N = N} old event.Commit aborted new → length new.view.history ≡ length old.view.history + 1
   one_commit made = ap length made.makes.0.history ∙ simp length-append refl
 
   made_commits : (e : Event N) → IsMade old e aborted new → length old.view.history ≤ length new.view.history

@@ -3,25 +3,25 @@ use Rattle.std.proofs.Common.{◌≡◌, ◌≢◌, ◌⊎◌, ◌≤◌, ℕ, L
 use Rattle.std.proofs.lemmas.Bool.{cases_lt}
 use Rattle.guest_image.specs.ImageValue.{ImageValue}
 use Rattle.rv_core.specs.LegValue.{LegValue}
-use Rattle.spec_state.specs.declared.task.Task.{Task}
-use Rattle.spec_state.specs.View.{block_at, queue_at}
-use Rattle.spec_state.specs.Least.{IsTheLeast}
-use Rattle.spec_state.specs.Changes.{TakesLeg}
-use Rattle.spec_law.specs.Sound.{Sound}
-use Rattle.spec_law.proofs.Proved.{one_least_idle}
-use Rattle.event_def.specs.declared.event.Event.{Event}
-use Rattle.event_def.specs.declared.event.Event.TheVariants as event
-use Rattle.event_def.specs.declared.event.Reply.{Reply}
-use Rattle.event_def.specs.declared.event.Reply.TheVariants as replies
-use Rattle.event_def.specs.Book.{BookView}
-use Rattle.event_def.specs.Causes.{Cause, IsGranted}
-use Rattle.event_def.specs.End.{IsOver}
-use Rattle.event_def.specs.Happens.{Happens}
-use Rattle.event_law.proofs.Proved.{least_idle}
-use Rattle.step_script.specs.declared.act.Act.{Act}
-use Rattle.step_script.specs.declared.act.Act.TheVariants as acts
-use Rattle.step_script.specs.Asking.{AsksStep, Attempt, AttemptComes, Hands, Says, step_ended, step_runs}
-use Rattle.step_script.specs.Asking.{step_stale}
+use Rattle.watch_counts.specs.spec_state.declared.task.Task.{Task}
+use Rattle.watch_counts.specs.spec_state.View.{block_at, queue_at}
+use Rattle.watch_counts.specs.spec_state.Least.{IsTheLeast}
+use Rattle.watch_counts.specs.spec_state.Changes.{TakesLeg}
+use Rattle.watch_counts.specs.spec_law.Sound.{Sound}
+use Rattle.watch_counts.proofs.Below.spec_law.Proved.{one_least_idle}
+use Rattle.watch_counts.specs.event_def.declared.event.Event.{Event}
+use Rattle.watch_counts.specs.event_def.declared.event.Event.TheVariants as event
+use Rattle.watch_counts.specs.event_def.declared.event.Reply.{Reply}
+use Rattle.watch_counts.specs.event_def.declared.event.Reply.TheVariants as replies
+use Rattle.watch_counts.specs.event_def.Book.{BookView}
+use Rattle.watch_counts.specs.event_def.Causes.{Cause, IsGranted}
+use Rattle.watch_counts.specs.event_def.End.{IsOver}
+use Rattle.watch_counts.specs.event_def.Happens.{Happens}
+use Rattle.watch_counts.proofs.Below.event_law.Proved.{least_idle}
+use Rattle.watch_counts.specs.step_script.declared.act.Act.{Act}
+use Rattle.watch_counts.specs.step_script.declared.act.Act.TheVariants as acts
+use Rattle.watch_counts.specs.step_script.Asking.{AsksStep, Attempt, AttemptComes, Hands, Says, step_ended, step_runs}
+use Rattle.watch_counts.specs.step_script.Asking.{step_stale}
 use Rattle.watch_play.specs.Courses.{IsAskedInRound}
 use Rattle.watch_play.specs.Rounds.{AskedIsMade, IsMadeOrStalls, PassedIsRefused}
 

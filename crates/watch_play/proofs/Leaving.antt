@@ -6,28 +6,28 @@ use Rattle.std.specs.List.{enumerate_from}
 use Rattle.guest_image.specs.declared.image.ImageTask.{ImageTask}
 use Rattle.guest_image.specs.declared.image.Kind.{Kind}
 use Rattle.guest_image.specs.ImageValue.{ImageValue}
-use Rattle.spec_state.specs.declared.settings.Settings.{Settings}
-use Rattle.spec_law.specs.Sound.{Sound}
-use Rattle.event_def.specs.Advancing.{Advances, AdvancesBy}
-use Rattle.event_def.specs.Book.{BookView}
-use Rattle.event_def.specs.End.{IsOver}
-use Rattle.event_def.specs.Opening.{PlacesAll}
-use Rattle.event_law.proofs.Proved.{opening_is_sound}
-use Rattle.step_script.specs.declared.act.Act.{Act}
-use Rattle.step_script.specs.declared.act.Act.TheVariants as acts
-use Rattle.step_script.specs.Asking.{AsksAdvance, AsksFor, ComesOf}
-use Rattle.step_script.specs.Asking as asking
-use Rattle.step_script.specs.Playing.{PlayState}
-use Rattle.watch_text.specs.Moments.{IsMoment, Moment}
-use Rattle.step_script.specs.Ranges.{ActIsInRange}
-use Rattle.watch_play.specs.Courses.{Course, IsAskedBy, OfLeast, OfRounds, OfScript, Stage, course_act}
+use Rattle.watch_counts.specs.spec_state.declared.settings.Settings.{Settings}
+use Rattle.watch_counts.specs.spec_law.Sound.{Sound}
+use Rattle.watch_counts.specs.event_def.Advancing.{Advances, AdvancesBy}
+use Rattle.watch_counts.specs.event_def.Book.{BookView}
+use Rattle.watch_counts.specs.event_def.End.{IsOver}
+use Rattle.watch_counts.specs.event_def.Opening.{PlacesAll}
+use Rattle.watch_counts.proofs.Below.event_law.Proved.{opening_is_sound}
+use Rattle.watch_counts.specs.step_script.declared.act.Act.{Act}
+use Rattle.watch_counts.specs.step_script.declared.act.Act.TheVariants as acts
+use Rattle.watch_counts.specs.step_script.Asking.{AsksAdvance, AsksFor, ComesOf}
+use Rattle.watch_counts.specs.step_script.Asking as asking
+use Rattle.watch_counts.specs.step_script.Playing.{PlayState}
+use Rattle.watch_counts.specs.watch_text.Moments.{IsMoment, Moment}
+use Rattle.watch_counts.specs.step_script.Ranges.{ActIsInRange}
+use Rattle.watch_play.specs.Courses.{Course, OfLeast, Stage, act_of, at_forced, first_stage}
 use Rattle.watch_play.specs.Leaving.{IsSoundBook, IsWithin, LeastStoryAdvances, LeastStoryIsRun, StoryStaysSound}
 use Rattle.watch_play.specs.Stories.{ActComes, Makes, Passes, StoryLeads}
 use Rattle.watch_play.proofs.Does.{came_between}
 use Rattle.watch_play.proofs.Forced.{made_of}
-use Rattle.watch_play.proofs.GetsOn.{AreWithin, after_within, course_within, first_within}
-use Rattle.watch_play.proofs.Plays.{script_inside, story_goes_well}
+use Rattle.watch_play.proofs.Plays.{story_goes_well}
 use Rattle.watch_play.proofs.SoundPlays.{IsSoundPlay}
+use Rattle.watch_play.proofs.Stages.{act_within}
 
 -- ---- any course
 
@@ -37,51 +37,39 @@ book_of_play : (image : ImageValue) (settings : Settings) (play : PlayState) →
 book_of_play image settings play good =
     record { sound = good.sound; going = good.going; settings_are = good.settings_are }
 
--- the act of the least task's course
-least_act : (number : ℕ) (stage : Stage) (act : Act) → course_act OfLeast number stage ≡ Some act → acts.Advance ≡ act
-unfolding course_act
-least_act number stage act is = cc (is)
+-- the stage of the least task's course, and its act
+module _ (N : Type 0) (image : ImageValue) (opening : BookView) where
+  least_stage : (count : ℕ) (stage : Stage) (moments : List (Moment N)) (last : PlayState)
+      → StoryLeads image OfLeast opening count stage moments last
+      → stage ≡ at_forced (record { drawn = 0; acts = [] }) 0 (length opening.view.history)
+  unfolding first_stage
+  least_stage zero stage moments last goes = goes.2
+  least_stage (suc n) stage moments last goes =
+      goes.5.stage_is ∙ least_stage n goes.2 goes.0 goes.1 goes.3
+
+  least_act : (count : ℕ) (stage : Stage) (moments : List (Moment N)) (last : PlayState) (act : Act)
+      → StoryLeads image OfLeast opening count stage moments last → act_of stage ≡ Some act → acts.Advance ≡ act
+  least_act count stage moments last act goes is =
+      let some : Some acts.Advance ≡ Some act =
+      sym (ap act_of (least_stage count stage moments last goes)) ∙ is in
+      cc (some)
 
 -- a story of a course led here: the play is good, and the next act stands within the settings
 pub record ComesWell (image : ImageValue) (course : Course) (settings : Settings) (count : ℕ) (stage : Stage)
     (last : PlayState) : Type 0 where
   pub good : IsSoundPlay image settings last
-  pub inside : (act : Act) → course_act course count stage ≡ Some act
+  pub inside : (act : Act) → act_of stage ≡ Some act
       → ActIsInRange settings.tiles settings.cores act
 
 module _ (N : Type 0) (image : ImageValue) (opening : BookView) (sound : Sound image opening.view)
     (going : opening.stopped ≡ false) where
-  least_inside : (number : ℕ) (stage : Stage) (act : Act) → Unit {0} → course_act OfLeast number stage ≡ Some act
-      → ActIsInRange opening.view.settings.tiles opening.view.settings.cores act
-  least_inside number stage act fits is =
-      subst (ActIsInRange opening.view.settings.tiles opening.view.settings.cores) (least_act number stage act is) tt
-
   pub comes_well : (course : Course) (count : ℕ) (stage : Stage) (moments : List (Moment N)) (last : PlayState)
       → IsWithin course opening.view.settings → StoryLeads image course opening count stage moments last
       → ComesWell image course opening.view.settings count stage last
-  comes_well (OfScript script) count stage moments last within leads =
-      let inside = script_inside N image script opening within in
-      let plays = story_goes_well N image (OfScript script) opening sound going (λ s. Unit {0}) tt (λ s n fits. tt)
-      inside count stage moments last leads in
-      record { good = plays.good; inside = λ act is. inside count stage act tt is }
-  comes_well OfLeast count stage moments last within leads =
-      let plays = story_goes_well N image OfLeast opening sound going (λ s. Unit {0}) tt (λ s n fits. tt)
-      least_inside count stage moments last leads in
-      record { good = plays.good; inside = λ act is. least_inside count stage act tt is }
-  comes_well (OfRounds rounds seed barren own) count stage moments last within leads =
-      let settings = opening.view.settings in
-      let of_these = subst (λ s. StoryLeads image (OfRounds rounds seed barren s) opening count stage moments last)
-      within leads in
-      let plays = story_goes_well N image (OfRounds rounds seed barren settings) opening sound going
-      (AreWithin rounds seed barren settings)
-      (first_within rounds seed barren settings (length opening.view.history))
-      (after_within rounds seed barren settings) (course_within rounds seed barren settings) count stage moments last
-      of_these in record {
+  comes_well course count stage moments last within leads =
+      let plays = story_goes_well N image course opening sound going within count stage moments last leads in record {
         good = plays.good;
-        inside =
-            subst (λ s. (act : Act) → course_act (OfRounds rounds seed barren s) count stage ≡ Some act
-            → ActIsInRange settings.tiles settings.cores act) (sym within)
-            (λ act is. course_within rounds seed barren settings count stage act plays.fits is);
+        inside = λ act is. act_within opening.view.settings.tiles opening.view.settings.cores stage act plays.fits is;
       }
 
 pub story_stays_sound : (N : Type 0) → StoryStaysSound N
@@ -112,15 +100,15 @@ module _ (N : Type 0) (image : ImageValue) (opening : BookView) (sound : Sound i
   by_asks old last m well on is (asking.advance_ended over says) = absurd (on over)
 
   one_moment : (n : ℕ) (at : Stage) (front moments : List (Moment N)) (old last : PlayState)
-      → Sound image old.book.view → AdvancesSo front old → ActComes image OfLeast n at front old moments last
+      → StoryLeads image OfLeast opening n at front old → Sound image old.book.view → AdvancesSo front old → ActComes image OfLeast n at front old moments last
       → AdvancesSo moments last
-  one_moment n at front moments old last well before (Passes act is unasked same stays) =
-      subst (λ l. AdvancesSo l last) (sym same) (subst (AdvancesSo front) (sym stays) before)
-  one_moment n at front moments old last well before (Makes m is asked at_is number_is moment more) =
+  one_moment n at front moments old last leads well before (Passes act is unasked same stays) =
+      absurd (unasked tt)
+  one_moment n at front moments old last leads well before (Makes m is asked at_is number_is moment more) =
       let one_more : length moments ≡ length front + 1 = ap length more ∙ simp length-append refl in
       let longer : length moments ≡ suc (length front) = omega (arith, one_more) in
-      let advance = sym (least_act n at m.act is) in
-      let event = by_asks old last m well (subst (λ a. IsAskedBy OfLeast old.book.view a) advance asked) moment
+      let advance = sym (least_act N image opening n at front old m.act leads is.0) in
+      let event = by_asks old last m well is.1 moment
       (subst (λ a. AsksFor image a old m.asks last.held) advance moment.asked) in
       subst (λ k. AdvancesBy N image k opening last.book) (sym longer) (old.book, m.aborted, before, event)
 
@@ -130,7 +118,7 @@ module _ (N : Type 0) (image : ImageValue) (opening : BookView) (sound : Sound i
       subst (λ l. AdvancesSo l last) (sym leads.0)
       (ap (λ (p : PlayState). p.book) (sym leads.1))
   advances_so (suc n) stage moments last leads =
-      one_moment n leads.2 leads.0 moments leads.1 last
+      one_moment n leads.2 leads.0 moments leads.1 last leads.3
       (comes_well N image opening sound going OfLeast n leads.2 leads.0 leads.1 tt leads.3).good.sound
       (advances_so n leads.2 leads.0 leads.1 leads.3) leads.4
 

@@ -7,16 +7,15 @@ pub mod Forced
 pub mod GetsOn
 pub mod SoundPlays
 pub mod InRound
-pub mod InRounds
 pub mod Leaving
 pub mod Lined
 pub mod Openings
 pub mod Plays
 pub mod Rounds
-pub mod Scripts
 pub mod Stages
 pub mod Tellings
-pub mod Turns
 pub mod Twice
+pub mod Waiting
 pub mod Proved
 mod AboutSteps
+pub mod Below

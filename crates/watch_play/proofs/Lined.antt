@@ -5,18 +5,18 @@ use Rattle.std.specs.declared.option.Option.{Option}
 use Rattle.guest_image.specs.ImageValue.{ImageValue}
 use Rattle.rv_core.specs.LegValue.{LegValue}
 use Rattle.task_request.specs.declared.request.Request.{Request}
-use Rattle.spec_state.specs.Effects.{EffectValue}
-use Rattle.spec_state.specs.View.{View}
-use Rattle.event_def.specs.declared.event.Reply.{Reply}
-use Rattle.event_def.specs.declared.event.Reply.TheVariants as replies
-use Rattle.step_script.specs.declared.act.Act.{Act}
-use Rattle.step_script.specs.declared.asked.Asked.{Asked}
-use Rattle.step_script.specs.Playing.{PlayState}
-use Rattle.step_script.specs.Asking.{Attempt, AttemptComes, AttemptTells, AsksFor, asks_of}
-use Rattle.step_script.proofs.Proved.{comes_of}
-use Rattle.watch_text.specs.Lines.{line_of, rest_text}
-use Rattle.watch_text.specs.Moments.{IsAbout, IsAskedFor, Moment}
-use Rattle.watch_text.specs.Requests.{front_text}
+use Rattle.watch_counts.specs.spec_state.Effects.{EffectValue}
+use Rattle.watch_counts.specs.spec_state.View.{View}
+use Rattle.watch_counts.specs.event_def.declared.event.Reply.{Reply}
+use Rattle.watch_counts.specs.event_def.declared.event.Reply.TheVariants as replies
+use Rattle.watch_counts.specs.step_script.declared.act.Act.{Act}
+use Rattle.watch_counts.specs.step_script.declared.asked.Asked.{Asked}
+use Rattle.watch_counts.specs.step_script.Playing.{PlayState}
+use Rattle.watch_counts.specs.step_script.Asking.{Attempt, AttemptComes, AttemptTells, AsksFor, asks_of}
+use Rattle.watch_counts.proofs.Below.step_script.Proved.{comes_of}
+use Rattle.watch_counts.specs.watch_text.Lines.{line_of, rest_text}
+use Rattle.watch_counts.specs.watch_text.Moments.{IsAbout, IsAskedFor, Moment}
+use Rattle.watch_counts.specs.watch_text.Requests.{front_text}
 use Rattle.watch_play.specs.declared.telling.Telling.{Telling}
 use Rattle.watch_play.specs.Playing.{IsMomentAt}
 use Rattle.watch_play.specs.Texts.{has_lines, moment_lines, view_text}

@@ -7,10 +7,10 @@ use Rattle.std.proofs.KnownBytes.{Appends-nil}
 use Rattle.guest_image.specs.ImageValue.{ImageValue}
 use Rattle.sim_io.specs.Parts.{SinkTakes}
 use Rattle.sim_io.specs.Streams.{SinkState}
-use Rattle.spec_state.specs.declared.settings.Settings.{Settings}
-use Rattle.event_def.specs.Book.{BookView}
-use Rattle.watch_text.specs.declared.head.CourseWord.{CourseWord}
-use Rattle.watch_text.specs.Opening.{head_line, placed_lines}
+use Rattle.watch_counts.specs.spec_state.declared.settings.Settings.{Settings}
+use Rattle.watch_counts.specs.event_def.Book.{BookView}
+use Rattle.watch_counts.specs.watch_text.declared.head.CourseWord.{CourseWord}
+use Rattle.watch_counts.specs.watch_text.Opening.{head_line, placed_lines}
 use Rattle.watch_play.specs.declared.stop.StoryStop.{StoryStop}
 use Rattle.watch_play.specs.declared.telling.Telling.{Telling}
 use Rattle.watch_play.specs.declared.telling.Telling.TheVariants as tellings

@@ -10,11 +10,11 @@ use Rattle.std.proofs.lemmas.List.Concat.{flat_map-append}
 use Rattle.std.proofs.lemmas.List.Elements.{All-append, All-map, All-nil, All-set}
 use Rattle.std.proofs.lemmas.List.FromFn.{get_or-range_with_len, length-range_with_len, map-range_with_len_more}
 use Rattle.std.proofs.lemmas.Nat.{mul-le}
-use Rattle.spec_state.specs.declared.settings.Settings.{Settings}
-use Rattle.spec_state.specs.Settings.{IsValid}
-use Rattle.step_script.specs.declared.act.Act.{Act}
-use Rattle.step_script.specs.declared.act.Act.TheVariants as acts
-use Rattle.step_script.specs.Ranges.{ActIsInRange}
+use Rattle.watch_counts.specs.spec_state.declared.settings.Settings.{Settings}
+use Rattle.watch_counts.specs.spec_state.Settings.{IsValid}
+use Rattle.watch_counts.specs.step_script.declared.act.Act.{Act}
+use Rattle.watch_counts.specs.step_script.declared.act.Act.TheVariants as acts
+use Rattle.watch_counts.specs.step_script.Ranges.{ActIsInRange}
 use Rattle.watch_play.specs.Courses.{Order, next_draw, next_order, round_acts, round_length, shuffled, tile_acts}
 use Rattle.watch_play.specs.Courses.{with_drawn}
 
@@ -104,6 +104,13 @@ few_acts settings valid =
     let sum : settings.cores + 3 ≤ 7 = omega (arith, cores) in
     let bound = mul-le settings.tiles (settings.cores + 3) 16 7 valid.tiles.1 sum in
     omega (arith, bound)
+
+pub few_in_round : (settings : Settings) (acts : List Act) → IsValid settings
+    → acts ≡ round_acts settings.tiles settings.cores → length acts < 2 ^ 32
+few_in_round settings acts valid are =
+    let few = few_acts settings valid in
+    let count = ap length are ∙ round_acts_length settings.tiles settings.cores in
+    omega (arith, few, count)
 
 -- ---- where they act
 

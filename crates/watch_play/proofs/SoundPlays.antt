@@ -4,25 +4,27 @@ use Rattle.std.proofs.Common.{◌≡◌, ◌<◌, ◌≤◌, ℕ, false, List}
 use Rattle.std.proofs.Common.{sym, subst, ◌∙◌}
 use Rattle.guest_image.specs.ImageValue.{ImageValue}
 use Rattle.rv_core.specs.LegValue.{IsLegOfImage, LegValue}
-use Rattle.spec_state.specs.declared.settings.Settings.{Settings}
-use Rattle.spec_law.specs.Sound.{Sound}
-use Rattle.event_def.specs.declared.event.Event.{Event}
-use Rattle.event_def.specs.declared.event.Event.TheVariants as event
-use Rattle.event_def.specs.declared.event.Reply.{Reply}
-use Rattle.event_def.specs.declared.event.Reply.TheVariants as replies
-use Rattle.event_def.specs.Book.{BookView}
-use Rattle.event_def.specs.Events.{IsGiven}
-use Rattle.event_def.specs.Happens.{Happens}
-use Rattle.event_law.proofs.Proved.{event_stays_sound, next_event_is_given, running_within, leg_is_run}
-use Rattle.event_basis.proofs.Proved.{makes_keeps_settings}
-use Rattle.step_script.specs.declared.act.Act.{Act}
-use Rattle.step_script.specs.declared.act.Act.TheVariants as acts
-use Rattle.step_script.specs.Playing.{HasLegAt, HeldLeg, PlayState, without_held_leg}
-use Rattle.step_script.specs.Ranges.{ActIsInRange}
-use Rattle.step_script.proofs.Proved.{AreRuns, held_runs, without_runs, ended_runs}
-use Rattle.step_script.specs.Asking.{Attempt, AsksAdvance, AsksFor, AsksGive, AsksStep, AsksTake, Hands, HandsEvent}
-use Rattle.step_script.specs.Asking.{ComesOf, Says}
-use Rattle.step_script.specs.Asking as asking
+use Rattle.watch_counts.specs.spec_state.declared.settings.Settings.{Settings}
+use Rattle.watch_counts.specs.spec_law.Sound.{Sound}
+use Rattle.watch_counts.specs.event_def.declared.event.Event.{Event}
+use Rattle.watch_counts.specs.event_def.declared.event.Event.TheVariants as event
+use Rattle.watch_counts.specs.event_def.declared.event.Reply.{Reply}
+use Rattle.watch_counts.specs.event_def.declared.event.Reply.TheVariants as replies
+use Rattle.watch_counts.specs.event_def.Book.{BookView}
+use Rattle.watch_counts.specs.event_def.Events.{IsGiven}
+use Rattle.watch_counts.specs.event_def.Happens.{Happens}
+use Rattle.watch_counts.proofs.Below.event_law.Proved.{event_stays_sound, next_event_is_given, running_within}
+use Rattle.watch_counts.proofs.Below.event_law.Proved.{leg_is_run}
+use Rattle.watch_counts.proofs.Below.event_basis.Proved.{makes_keeps_settings}
+use Rattle.watch_counts.specs.step_script.declared.act.Act.{Act}
+use Rattle.watch_counts.specs.step_script.declared.act.Act.TheVariants as acts
+use Rattle.watch_counts.specs.step_script.Playing.{HasLegAt, HeldLeg, PlayState, without_held_leg}
+use Rattle.watch_counts.specs.step_script.Ranges.{ActIsInRange}
+use Rattle.watch_counts.proofs.Below.step_script.Proved.{AreRuns, held_runs, without_runs, ended_runs}
+use Rattle.watch_counts.specs.step_script.Asking.{Attempt, AsksAdvance, AsksFor, AsksGive, AsksStep, AsksTake, Hands}
+use Rattle.watch_counts.specs.step_script.Asking.{HandsEvent}
+use Rattle.watch_counts.specs.step_script.Asking.{ComesOf, Says}
+use Rattle.watch_counts.specs.step_script.Asking as asking
 use Rattle.watch_play.specs.Leaving.{IsSoundBook}
 
 -- ---- plays

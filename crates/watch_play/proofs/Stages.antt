@@ -1,174 +1,186 @@
--- The stages of a course in rounds.
-use Rattle.std.proofs.Common.{◌≡◌, ◌≢◌, ◌<◌, ◌+◌, ◌==◌, ℕ, Bool, true, false, length, nat_lt, Some, None, refl}
-use Rattle.std.proofs.Common.{sym, ap, ◌∙◌, eq-eqb, arith, lt-ltb}
-use Rattle.std.specs.Prelude.{if◌then◌else◌, slice_get}
-use Rattle.std.proofs.lemmas.Bool.{cond-false, cond-true, false_from_ne_true, eqb-true}
-use Rattle.std.proofs.lemmas.Bool.Decides.{nat_tests}
-use Rattle.spec_state.specs.declared.settings.Settings.{Settings}
-use Rattle.step_script.specs.declared.act.Act.{Act}
-use Rattle.step_script.specs.declared.act.Act.TheVariants as acts
-use Rattle.watch_play.specs.Courses.{OfRounds, Order, Stage, at_round, barren_after, course_act, forced_stage}
-use Rattle.watch_play.specs.Courses.{next_order, next_round, round_act, stage_after}
+-- From one stage of a course to the next.
+use Rattle.std.proofs.Common.{◌≡◌, ◌<◌, ◌≤◌, ◌+◌, ◌*◌, ◌/◌, ◌==◌, ◌^◌, ℕ, zero, suc, Bool}
+use Rattle.std.proofs.Common.{true, false, length, All, refl, sym, ap}
+use Rattle.std.proofs.Common.{subst, ◌∙◌, arith, Some, [], List, Result, Ok, Err}
+use Rattle.std.specs.Prelude.{OnOk, if◌then◌else◌, slice_get}
+use Rattle.std.proofs.lemmas.Bool.{cond_both}
+use Rattle.std.proofs.lemmas.List.Edits.{length-swap}
+use Rattle.std.proofs.lemmas.Option.{get_or_from_slice_get, slice_get_within}
+use Rattle.watch_counts.specs.spec_state.declared.settings.Settings.{Settings}
+use Rattle.watch_counts.specs.spec_state.Settings.{IsValid}
+use Rattle.watch_counts.specs.spec_state.View.{View}
+use Rattle.watch_counts.specs.step_script.declared.act.Act.{Act}
+use Rattle.watch_counts.specs.step_script.declared.act.Act.TheVariants as acts
+use Rattle.watch_counts.specs.step_script.Ranges.{ActIsInRange}
+use Rattle.watch_counts.specs.watch_text.declared.head.CourseWord.{CourseWord}
+use Rattle.watch_counts.specs.watch_text.declared.head.CourseWord.TheVariants as courses
+use Rattle.watch_play.specs.Courses.{Course, OfLeast, OfRounds, OfScript, Order, Stage, act_of, at_forced, first_stage}
+use Rattle.watch_play.specs.Courses.{following, is_starved, next_draw, next_order, next_round}
+use Rattle.watch_play.specs.Courses.{next_stage, shuffled, stage_after}
+use Rattle.watch_play.specs.Courses.{course_of, starved_after, round_acts, with_drawn}
+use Rattle.watch_play.specs.Leaving.{IsWithin}
+use Rattle.watch_play.specs.Staged.{AreWithin, IsSmall}
+use Rattle.watch_play.specs.Stories.{NextStage}
+use Rattle.watch_play.proofs.Rounds.{few_in_round, next_in, round_inside}
 
--- a test of two numbers that differ
-pub differ : (a b : ℕ) → a ≢ b → (a == b) ≡ false
-differ a b apart = false_from_ne_true (a == b) (λ same. apart (eqb-true a b same))
+-- ---- the cases of a round
 
--- ---- within a round
+module _ (P : Stage → Type 0) (seed most : ℕ) (at : Stage) (commits : ℕ) (waits : Bool) where
+  -- what holds of each stage that may come next holds of the one that does
+  pub by_stage : (at.forced ≡ true → waits ≡ true → P at)
+      → (at.forced ≡ true → waits ≡ false → P (following seed at commits 0))
+      → (at.forced ≡ false → (at.place + 1 == length at.order.acts) ≡ true
+      → (starved_after at commits waits == most) ≡ true → P (at_forced at.order (at.round + 1) commits))
+      → (at.forced ≡ false → (at.place + 1 == length at.order.acts) ≡ true
+      → (starved_after at commits waits == most) ≡ false
+      → P (following seed at commits (starved_after at commits waits)))
+      → (at.forced ≡ false → (at.place + 1 == length at.order.acts) ≡ false → P (record at { place = at.place + 1 }))
+      → P (stage_after seed most at commits waits)
+  by_stage stays leaves forces follows goes =
+      cond_both at.forced (if waits then at else following seed at commits 0)
+      (if at.place + 1 == length at.order.acts then next_round seed most at commits waits
+      else record at { place = at.place + 1 }) P
+      (λ forced. cond_both waits at (following seed at commits 0) P (stays forced) (leaves forced))
+      (λ going. cond_both (at.place + 1 == length at.order.acts) (next_round seed most at commits waits)
+      (record at { place = at.place + 1 }) P
+      (λ last. cond_both (starved_after at commits waits == most) (at_forced at.order (at.round + 1) commits)
+      (following seed at commits (starved_after at commits waits)) P (forces going last) (follows going last))
+      (goes going))
 
--- where so many of its acts came
-abbrev pub at_place : Order → (round begun barren place : ℕ) → Stage
-at_place order round begun barren place = record (at_round order round begun barren) { place = place }
+-- no more than one more
+pub few_starved : (at : Stage) (commits : ℕ) (waits : Bool) → starved_after at commits waits ≤ at.starved + 1
+few_starved at commits waits =
+    cond_both (is_starved at commits waits) (at.starved + 1) 0 (λ n. n ≤ at.starved + 1) (λ t. omega arith)
+    (λ f. omega arith)
 
--- behind so many of its acts the next one comes, or the next round
-abbrev pub behind_place : (seed most : ℕ) → Stage → (place commits : ℕ) → Stage
-behind_place seed most stage place commits =
-    if place == length stage.order.acts then next_round seed most stage commits else record stage { place = place }
+-- what holds holds where a call went well
+pub on_ok : {T E P : Type 0} (r : Result T E) → P → OnOk r P
+on_ok (Ok value) holds = holds
+on_ok (Err error) holds = tt
 
-module _ (seed most : ℕ) (order : Order) (round begun barren : ℕ) where
-  -- one act more
-  pub place_more : (place commits : ℕ)
-      → stage_after seed most (at_place order round begun barren place) commits
-      ≡ behind_place seed most (at_round order round begun barren) (place + 1) commits
-  unfolding stage_after next_round
-  place_more place commits = refl
+-- ---- the acts of a stage
 
-  pub within_round : (place commits : ℕ) → place < length order.acts
-      → behind_place seed most (at_round order round begun barren) place commits
-      ≡ at_place order round begun barren place
-  within_round place commits inside =
-      cond-false (place == length order.acts) (next_round seed most (at_round order round begun barren) commits)
-      (at_place order round begun barren place)
-      (differ place (length order.acts) (λ is. absurd (omega (arith, inside, is))))
+shuffled_length : (n : ℕ) (order : Order) → length (shuffled n order).acts ≡ length order.acts
+shuffled_length zero order = refl
+shuffled_length (suc last) order =
+    shuffled_length last (with_drawn last order)
+    ∙ length-swap order.acts last (next_draw order.drawn * (last + 1) / 2 ^ 32)
 
-  pub round_done : (place commits : ℕ) → place ≡ length order.acts
-      → behind_place seed most (at_round order round begun barren) place commits
-      ≡ next_round seed most (at_round order round begun barren) commits
-  round_done place commits all =
-      cond-true (place == length order.acts) (next_round seed most (at_round order round begun barren) commits)
-      (at_place order round begun barren place) (eq-eqb place (length order.acts) all)
+next_length : (seed : ℕ) (order : Order) → length (next_order seed order).acts ≡ length order.acts
+unfolding next_order
+next_length seed order =
+    cond_both (seed == 0) order (shuffled (length order.acts) order) (λ (o : Order). length o.acts ≡ length order.acts)
+    (λ none. refl) (λ some. shuffled_length (length order.acts) order)
 
-  -- the next act of the round is that of the course
-  pub act_of_round : (rounds : ℕ) (settings : Settings) (number place : ℕ) (act : Act) → round < rounds
-      → slice_get order.acts place ≡ Some act
-      → course_act (OfRounds rounds seed most settings) number (at_place order round begun barren place) ≡ Some act
-  unfolding course_act round_act
-  act_of_round rounds settings number place act fewer found =
-      cond-true (nat_lt round rounds) (slice_get order.acts place) None (lt-ltb round rounds fewer) ∙ found
+-- an act of a stage stands within a machine where the stage's acts do
+pub act_within : (tiles cores : ℕ) (stage : Stage) (act : Act) → AreWithin tiles cores stage
+    → act_of stage ≡ Some act → ActIsInRange tiles cores act
+act_within tiles cores stage act inside = by_forced stage.forced
+  where
+    by_forced : (forced : Bool)
+        → (if forced then Some acts.Advance else slice_get stage.order.acts stage.place) ≡ Some act
+        → ActIsInRange tiles cores act
+    by_forced true is = let same : acts.Advance ≡ act = cc (is) in subst (ActIsInRange tiles cores) same tt
+    by_forced false is =
+        subst (ActIsInRange tiles cores) (get_or_from_slice_get stage.order.acts stage.place act act is)
+        (inside stage.place act (slice_get_within stage.order.acts stage.place act is))
 
-  -- behind the last round there is none
-  pub no_act_behind : (rounds : ℕ) (settings : Settings) (number : ℕ) → round ≡ rounds
-      → course_act (OfRounds rounds seed most settings) number (at_round order round begun barren) ≡ None
-  unfolding course_act round_act
-  no_act_behind rounds settings number all =
-      cond-false (nat_lt round rounds) (slice_get order.acts 0) None
-      (let past : nat_lt round rounds ≡ false = grind (arith, nat_tests, all) in past)
+none_within : (tiles cores : ℕ) → All (ActIsInRange tiles cores) []
+none_within tiles cores k d low = absurd (omega (arith, low))
 
--- ---- the number of the round
+-- those of a course's first stage do
+pub first_within : (course : Course) (settings : Settings) (commits : ℕ) → IsWithin course settings
+    → AreWithin settings.tiles settings.cores (first_stage course commits)
+unfolding first_stage
+first_within (OfScript script) settings commits within = within
+first_within OfLeast settings commits within = none_within settings.tiles settings.cores
+first_within (OfRounds rounds seed most own) settings commits within =
+    subst (λ s. AreWithin settings.tiles settings.cores (first_stage (OfRounds rounds seed most s) commits))
+    (sym within)
+    (next_in (ActIsInRange settings.tiles settings.cores) seed
+    (record { drawn = seed; acts = round_acts settings.tiles settings.cores })
+    (round_inside settings.tiles settings.cores))
 
--- behind the last round the next one comes, whether the least task is brought on before it or not
-after_last : (forced : Bool) (order : Order) (round commits barren : ℕ)
-    → (if forced then forced_stage order round commits else at_round order round commits barren).round ≡ round
-after_last true order round commits barren = refl
-after_last false order round commits barren = refl
+-- the course of a word stands within its settings, if its script does
+pub within_of : (word : CourseWord) (settings : Settings) (script : List Act)
+    → All (ActIsInRange settings.tiles settings.cores) script → IsWithin (course_of word settings script) settings
+within_of courses.Steps settings script within = within
+within_of courses.Least settings script within = tt
+within_of (courses.Lockstep rounds seed most) settings script within = refl
 
-module _ (seed most : ℕ) (stage : Stage) (commits : ℕ) where
-  next_number : (next_round seed most stage commits).round ≡ stage.round + 1
-  unfolding next_round
-  next_number =
-      after_last (barren_after stage commits == most) (next_order seed stage.order) (stage.round + 1) commits
-      (barren_after stage commits)
+-- and the numbers of its first stage are small
+pub first_small : (word : CourseWord) (settings : Settings) (script : List Act) (commits : ℕ) → IsValid settings
+    → length script < 2 ^ 32 → IsSmall 0 (first_stage (course_of word settings script) commits)
+unfolding first_stage
+first_small courses.Steps settings script commits valid few =
+    record { few = few; round = omega arith; place = omega arith; starved = omega arith }
+first_small courses.Least settings script commits valid few =
+    record { few = omega arith; round = omega arith; place = omega arith; starved = omega arith }
+first_small (courses.Lockstep rounds seed most) settings script commits valid few =
+    let same = next_length seed (record { drawn = seed; acts = round_acts settings.tiles settings.cores }) in
+    let small = few_in_round settings (round_acts settings.tiles settings.cores) valid refl in
+    record { few = omega (arith, same, small); round = omega arith; place = omega arith; starved = omega arith }
 
-  module _ (unforced : stage.forced ≡ false) where
-    unforced_is : stage_after seed most stage commits
-        ≡ (if stage.place + 1 == length stage.order.acts then next_round seed most stage commits
-        else record stage { place = stage.place + 1 })
-    unfolding stage_after
-    unforced_is =
-        cond-false stage.forced (if commits == stage.begun then stage else record stage {
-          begun = commits;
-          forced = false;
-        }) (if stage.place + 1 == length stage.order.acts then next_round seed most stage commits
-        else record stage { place = stage.place + 1 }) unforced
+module _ (course : Course) (at : Stage) (view : View) (stage : Stage) (next : NextStage course at view stage) where
+  abbrev commits : ℕ
+  commits = length view.history
 
-    -- behind an act that isn't the last one it is the same
-    pub same_round : (stage.place + 1 == length stage.order.acts) ≡ false
-        → (stage_after seed most stage commits).round ≡ stage.round
-    same_round more =
-        ap (λ (s : Stage). s.round) (unforced_is
-        ∙ cond-false (stage.place + 1 == length stage.order.acts) (next_round seed most stage commits)
-        (record stage { place = stage.place + 1 }) more)
+  -- those of the next stage do, where those of this one do
+  pub next_within : (tiles cores : ℕ) → AreWithin tiles cores at → AreWithin tiles cores stage
+  next_within tiles cores inside = subst (AreWithin tiles cores) (sym next.stage_is) (by_course course)
+    where
+      by_course : (c : Course) → AreWithin tiles cores (next_stage c at commits next.waits)
+      by_course (OfScript script) = inside
+      by_course OfLeast = inside
+      by_course (OfRounds rounds seed most settings) =
+          let turned = next_in (ActIsInRange tiles cores) seed at.order inside in
+          by_stage (AreWithin tiles cores) seed most at commits next.waits (λ f w. inside) (λ f w. turned)
+          (λ n l s. inside) (λ n l s. turned) (λ n l. inside)
 
-    -- behind the last one it is one more
-    pub round_more : (stage.place + 1 == length stage.order.acts) ≡ true
-        → (stage_after seed most stage commits).round ≡ stage.round + 1
-    round_more last =
-        ap (λ (s : Stage). s.round) (unforced_is
-        ∙ cond-true (stage.place + 1 == length stage.order.acts) (next_round seed most stage commits)
-        (record stage { place = stage.place + 1 }) last)
-        ∙ next_number
+  -- its numbers are small, where those of this one are
+  pub next_small : (number : ℕ) → IsSmall number at → IsSmall (number + 1) stage
+  next_small number small = subst (IsSmall (number + 1)) (sym next.stage_is) (by_course course)
+    where
+      round : at.round ≤ number
+      round = small.round
 
--- ---- from one round to the next
+      place : at.place ≤ number
+      place = small.place
 
-module _ (seed most : ℕ) (stage : Stage) (commits in_a_row : ℕ) (counted : in_a_row ≡ barren_after stage commits) where
-  -- where fewer rounds in a row brought no commit
-  pub round_comes : in_a_row ≢ most
-      → next_round seed most stage commits ≡ at_round (next_order seed stage.order) (stage.round + 1) commits in_a_row
-  unfolding next_round
-  round_comes fewer =
-      cond-false (barren_after stage commits == most)
-      (forced_stage (next_order seed stage.order) (stage.round + 1) commits)
-      (at_round (next_order seed stage.order) (stage.round + 1) commits (barren_after stage commits))
-      (differ (barren_after stage commits) most (λ is. fewer (counted ∙ is)))
-      ∙ ap (at_round (next_order seed stage.order) (stage.round + 1) commits) (sym counted)
+      starved : at.starved ≤ number
+      starved = small.starved
 
-  -- where as many did
-  pub forced_comes : in_a_row ≡ most
-      → next_round seed most stage commits ≡ forced_stage (next_order seed stage.order) (stage.round + 1) commits
-  unfolding next_round
-  forced_comes all =
-      cond-true (barren_after stage commits == most)
-      (forced_stage (next_order seed stage.order) (stage.round + 1) commits)
-      (at_round (next_order seed stage.order) (stage.round + 1) commits (barren_after stage commits))
-      (eq-eqb (barren_after stage commits) most (sym counted ∙ all))
+      here : IsSmall (number + 1) at
+      here = record {
+        few = small.few;
+        round = omega (arith, round);
+        place = omega (arith, place);
+        starved = omega (arith, starved);
+      }
 
--- so the code counts, by what it reads
-pub counted_so : (commits begun here there before in_a_row : ℕ) → here ≡ commits → there ≡ begun
-    → in_a_row ≡ (if here == there then before + 1 else 0) → in_a_row ≡ (if commits == begun then before + 1 else 0)
-counted_so commits begun here there before in_a_row here_is there_is counts =
-    counts ∙ (λ i. if here_is i == there_is i then before + 1 else 0)
+      there : IsSmall (number + 1) (record at { place = at.place + 1 })
+      there = record {
+        few = small.few;
+        round = omega (arith, round);
+        place = omega (arith, place);
+        starved = omega (arith, starved);
+      }
 
--- ---- where the least task is brought on
+      turned : (seed n : ℕ) → n ≤ at.starved + 1 → IsSmall (number + 1) (following seed at commits n)
+      turned seed n few = record {
+        few = (let same = next_length seed at.order in let was = small.few in omega (arith, same, was));
+        round = omega (arith, round);
+        place = omega arith;
+        starved = omega (arith, starved, few);
+      }
 
-module _ (seed most : ℕ) (order : Order) (round begun : ℕ) where
-  -- its act is an advance
-  pub act_of_forced : (rounds : ℕ) (settings : Settings) (number : ℕ)
-      → course_act (OfRounds rounds seed most settings) number (forced_stage order round begun) ≡ Some acts.Advance
-  unfolding course_act round_act
-  act_of_forced rounds settings number = refl
-
-  -- as long as none committed
-  pub forced_stays : (commits : ℕ) → commits ≡ begun
-      → stage_after seed most (forced_stage order round begun) commits ≡ forced_stage order round begun
-  unfolding stage_after
-  forced_stays commits none =
-      cond-true (commits == begun) (forced_stage order round begun) (at_round order round commits 0)
-      (eq-eqb commits begun none)
-
-  -- within the same round
-  forced_round : (commits : ℕ) (none : Bool)
-      → (if none then forced_stage order round begun else at_round order round commits 0).round ≡ round
-  forced_round commits true = refl
-  forced_round commits false = refl
-
-  pub forced_within : (commits : ℕ) → (stage_after seed most (forced_stage order round begun) commits).round ≡ round
-  unfolding stage_after
-  forced_within commits = forced_round commits (commits == begun)
-
-  -- then the round begins
-  pub forced_ends : (commits : ℕ) → commits ≢ begun
-      → stage_after seed most (forced_stage order round begun) commits ≡ at_round order round commits 0
-  unfolding stage_after
-  forced_ends commits some =
-      cond-false (commits == begun) (forced_stage order round begun) (at_round order round commits 0)
-      (differ commits begun some)
+      by_course : (c : Course) → IsSmall (number + 1) (next_stage c at commits next.waits)
+      by_course (OfScript script) = there
+      by_course OfLeast = here
+      by_course (OfRounds rounds seed most settings) =
+          by_stage (IsSmall (number + 1)) seed most at commits next.waits (λ f w. here)
+          (λ f w. turned seed 0 (omega arith))
+          (λ n l s.
+          record { few = small.few; round = omega (arith, round); place = omega arith; starved = omega arith })
+          (λ n l s. turned seed (starved_after at commits next.waits) (few_starved at commits next.waits))
+          (λ n l. there)

@@ -1,35 +1,43 @@
 -- Two stories of one course tell one thing.
-use Rattle.std.proofs.Common.{◌≡◌, ◌+◌, ℕ, zero, suc, List, [], ◌∷◌, ◌++◌, length, Some, false}
+use Rattle.std.proofs.Common.{◌≡◌, ◌<◌, ◌+◌, ℕ, zero, suc, arith, inl, inr, Bool, List, []}
+use Rattle.std.proofs.Common.{◌∷◌, ◌++◌, length, Some, true, false}
+use Rattle.std.specs.Prelude.{IsTrue}
 use Rattle.std.proofs.Common.{refl, sym, ap, subst, ◌∙◌}
 use Rattle.std.specs.List.{AllZip, enumerate_from}
 use Rattle.std.proofs.lemmas.List.{length-append}
-use Rattle.guest_image.specs.ImageValue.{ImageValue}
-use Rattle.spec_law.specs.Sound.{Sound}
-use Rattle.event_def.specs.declared.event.Event.TheVariants as event
-use Rattle.event_def.specs.declared.event.Reply.{Reply}
-use Rattle.event_def.specs.declared.event.Reply.TheVariants as replies
-use Rattle.event_def.specs.Book.{BookView}
-use Rattle.event_def.specs.Opening.{IsOpening}
-use Rattle.event_law.proofs.Proved.{opening_is_sound}
-use Rattle.step_script.specs.declared.act.Act.{Act}
-use Rattle.step_script.specs.declared.act.Act.TheVariants as acts
-use Rattle.step_script.specs.declared.saying.Said.{Said}
-use Rattle.step_script.specs.declared.saying.Word.{Word}
-use Rattle.step_script.specs.declared.saying.Word.TheVariants as words
-use Rattle.step_script.specs.Asking.{Attempt, Hands}
-use Rattle.step_script.specs.Playing.{Does, PlayState}
-use Rattle.step_script.specs.Ranges.{ActIsInRange}
-use Rattle.outcome_law.specs.Laws.{AreSameBooks}
-use Rattle.outcome_law.proofs.Proved.{alike_turned, history_too, opening_is_one, GoAlike, all_one}
-use Rattle.outcome_law.specs.Alike.{inverse_of}
+use Rattle.std.proofs.lemmas.Bool.{cases_eq, cases_lt}
+use Rattle.guest_image.specs.ImageValue.{ImageValue, IsImage}
+use Rattle.watch_counts.specs.spec_law.Sound.{Sound}
+use Rattle.watch_counts.specs.event_def.declared.event.Event.TheVariants as event
+use Rattle.watch_counts.specs.event_def.declared.event.Reply.{Reply}
+use Rattle.watch_counts.specs.event_def.declared.event.Reply.TheVariants as replies
+use Rattle.watch_counts.specs.event_def.Book.{BookView}
+use Rattle.watch_counts.specs.event_def.Opening.{IsOpening}
+use Rattle.watch_counts.proofs.Below.event_law.Proved.{opening_is_sound}
+use Rattle.watch_counts.specs.step_script.declared.act.Act.{Act}
+use Rattle.watch_counts.specs.step_script.declared.act.Act.TheVariants as acts
+use Rattle.watch_counts.specs.step_script.declared.saying.Said.{Said}
+use Rattle.watch_counts.specs.step_script.declared.saying.Word.{Word}
+use Rattle.watch_counts.specs.step_script.declared.saying.Word.TheVariants as words
+use Rattle.watch_counts.specs.step_script.Asking.{Attempt, Hands}
+use Rattle.watch_counts.specs.step_script.Playing.{Does, PlayState}
+use Rattle.watch_counts.specs.step_script.Ranges.{ActIsInRange}
+use Rattle.machine_run.specs.outcome_law.Laws.{AreSameBooks}
+use Rattle.machine_run.proofs.Below.outcome_law.Proved.{alike_turned, history_too, opening_is_one, GoAlike, all_one}
+use Rattle.machine_run.specs.outcome_law.Alike.{inverse_of}
 use Rattle.machine_run.proofs.Proved.{opening_settings}
-use Rattle.watch_text.specs.Moments.{IsMoment, Moment}
-use Rattle.watch_play.specs.Courses.{Course, IsAskedBy, Stage, course_act, first_stage, next_stage}
+use Rattle.watch_counts.specs.watch_text.Moments.{IsMoment, Moment}
+use Rattle.place_policy.specs.Policy.{Policy}
+use Rattle.trace_tap.specs.TapValue.{TapValue}
+use Rattle.watch_counts.specs.spec_state.declared.settings.Settings.{Settings}
+use Rattle.watch_counts.specs.spec_state.Settings.{IsValid}
+use Rattle.watch_play.specs.Courses.{Course, EndsAt, GoesOnAt, HasNext, IsAskedBy, Stage, act_of, first_stage}
+use Rattle.watch_play.specs.Courses.{next_stage}
 use Rattle.watch_play.specs.Leaving.{IsWithin}
 use Rattle.watch_play.specs.Replies.{advance_word, said_by, word_by}
-use Rattle.watch_play.specs.Stories.{ActComes, Makes, Passes, StoryLeads, begun, commits_of}
-use Rattle.watch_play.specs.Twice.{StoryIsOne, TellOneThing}
-use Rattle.watch_play.proofs.AskedToo.{asked_too}
+use Rattle.watch_play.specs.Stories.{ActComes, Makes, NextStage, Passes, StoryLeads, begun, commits_of}
+use Rattle.watch_play.specs.Twice.{EndIsOne, StoryIsOne, TellOneThing}
+use Rattle.watch_play.proofs.AskedToo.{asked_too, goes_too, waits_too}
 use Rattle.watch_play.proofs.Does.{moment_does}
 use Rattle.watch_play.proofs.Leaving.{ComesWell, comes_well, placed_goes_on}
 use Rattle.watch_play.proofs.SoundPlays.{IsSoundPlay}
@@ -54,6 +62,13 @@ module _ {N : Type 0} where
   word_tells : (act : Act) (asks : Attempt N) (reply : Reply) → reply_of (word_by act asks reply) ≡ reply
   word_tells acts.Advance asks reply = advance_tells asks reply
   word_tells act asks reply = refl
+
+-- two tests of which each holds where the other does
+same_test : (a b : Bool) → (IsTrue a → IsTrue b) → (IsTrue b → IsTrue a) → a ≡ b
+same_test true true there back = refl
+same_test false false there back = refl
+same_test true false there back = absurd (cc (there refl))
+same_test false true there back = absurd (cc (back refl))
 
 -- ---- lists
 
@@ -129,18 +144,30 @@ module _ (N : Type 0) (image : ImageValue) (course : Course) (opening other_open
       (so_far : GoTogether at at front other_front p q)
       (well : ComesWell image course opening.view.settings n at p)
       (other_good : IsSoundPlay image other_opening.view.settings q) where
-    together : GoAlike image opening.view.settings last other → length others ≡ length moments
-        → AllZip TellOneThing moments others
-        → GoTogether (next_stage course at (commits_of last)) (next_stage course at (commits_of other)) moments others
-        last other
-    together go numbers tell = record {
-      stages = ap (next_stage course at) (commits_are last other go.books);
+    -- both go on to one stage, since the least task waits on both or on neither
+    one_stage : (stage other_stage : Stage) → NextStage course at last.book.view stage
+        → NextStage course at other.book.view other_stage → AreSameBooks last.book other.book → other_stage ≡ stage
+    one_stage stage other_stage next other_next books =
+        let one_wait : other_next.waits ≡ next.waits = same_test other_next.waits next.waits
+        (λ t. next.waits_is.1 (waits_too (inverse_of books.0) other.book.view last.book.view
+        (alike_turned books.0 last.book.view other.book.view books.1.view) (other_next.waits_is.0 t)))
+        (λ t. other_next.waits_is.1 (waits_too books.0 last.book.view other.book.view books.1.view
+        (next.waits_is.0 t))) in
+        other_next.stage_is
+        ∙ ((λ i. next_stage course at (commits_are last other books i) (one_wait i)) ∙ sym next.stage_is)
+
+    together : (stage other_stage : Stage) → NextStage course at last.book.view stage
+        → NextStage course at other.book.view other_stage → GoAlike image opening.view.settings last other
+        → length others ≡ length moments → AllZip TellOneThing moments others
+        → GoTogether stage other_stage moments others last other
+    together stage other_stage next other_next go numbers tell = record {
+      stages = one_stage stage other_stage next other_next go.books;
       numbers = numbers;
       tell = tell;
       go = go;
     }
 
-    same_act : (a b : Act) → course_act course n at ≡ Some a → course_act course n at ≡ Some b → b ≡ a
+    same_act : (a b : Act) → act_of at ≡ Some a → act_of at ≡ Some b → b ≡ a
     same_act a b one two = (let some : Some b ≡ Some a = sym two ∙ one in cc (some))
 
     -- what one asks for the other one does
@@ -157,23 +184,28 @@ module _ (N : Type 0) (image : ImageValue) (course : Course) (opening other_open
         (asked_too course (inverse_of books.0) q.book.view p.book.view
         (alike_turned books.0 p.book.view q.book.view books.1.view) b asked)
 
-    one_more : ActComes image course n at front p moments last → ActComes image course n at other_front q others other
-        → GoTogether (next_stage course at (commits_of last)) (next_stage course at (commits_of other)) moments others
-        last other
-    one_more (Passes act is unasked kept stays) (Passes act' is' unasked' kept' stays') =
-        together
+    one_more : (stage other_stage : Stage) → NextStage course at last.book.view stage
+        → NextStage course at other.book.view other_stage → ActComes image course n at front p moments last
+        → ActComes image course n at other_front q others other
+        → GoTogether stage other_stage moments others last other
+    one_more stage other_stage next other_next (Passes act is unasked kept stays)
+        (Passes act' is' unasked' kept' stays') =
+        together stage other_stage next other_next
         (subst (λ x. GoAlike image opening.view.settings x other) (sym stays)
         (subst (λ y. GoAlike image opening.view.settings p y) (sym stays') so_far.go))
         (ap length kept' ∙ (so_far.numbers ∙ ap length (sym kept)))
         (subst (λ l. AllZip TellOneThing l others) (sym kept)
         (subst (λ l. AllZip TellOneThing front l) (sym kept') so_far.tell))
-    one_more (Passes act is unasked kept stays) (Makes m' is' asked' at_is' number_is' moment' more') =
-        absurd (unasked (asked_of_one act m'.act (same_act act m'.act is is') asked'))
-    one_more (Makes m is asked at_is number_is moment more) (Passes act' is' unasked' kept' stays') =
-        absurd (unasked' (asked_of_other m.act act' (same_act m.act act' is is') asked))
-    one_more (Makes m is asked at_is number_is moment more) (Makes m' is' asked' at_is' number_is' moment' more') =
-        let act_is = same_act m.act m'.act is is' in
-        let inside = well.inside m.act is in
+    one_more stage other_stage next other_next (Passes act is unasked kept stays)
+        (Makes m' is' asked' at_is' number_is' moment' more') =
+        absurd (unasked (asked_of_one act m'.act (same_act act m'.act is.0 is'.0) asked'))
+    one_more stage other_stage next other_next (Makes m is asked at_is number_is moment more)
+        (Passes act' is' unasked' kept' stays') =
+        absurd (unasked' (asked_of_other m.act act' (same_act m.act act' is.0 is'.0) asked))
+    one_more stage other_stage next other_next (Makes m is asked at_is number_is moment more)
+        (Makes m' is' asked' at_is' number_is' moment' more') =
+        let act_is = same_act m.act m'.act is.0 is'.0 in
+        let inside = well.inside m.act is.0 in
         let number : m'.number ≡ m.number =
         number_is' ∙ (ap (λ k. k + 1) so_far.numbers ∙ sym number_is) in
         let thing = one_thing n at p q last other front other_front m m' so_far well.good other_good inside
@@ -181,7 +213,7 @@ module _ (N : Type 0) (image : ImageValue) (course : Course) (opening other_open
         moment' (at_is' ∙ sym at_is) number in
         let go = (both n at p q last other front other_front m m' so_far well.good other_good inside act_is moment
         moment').1 in
-        together go
+        together stage other_stage next other_next go
         (ap length more' ∙ (simp length-append refl ∙ (ap (λ k. k + 1) so_far.numbers
         ∙ (sym (simp length-append refl) ∙ ap length (sym more)))))
         (subst (λ l. AllZip TellOneThing l others) (sym more)
@@ -226,11 +258,9 @@ module _ (N : Type 0) (image : ImageValue) (course : Course) (opening other_open
       let so_far = subst (λ s. GoTogether leads.2 s leads.0 other_leads.0 leads.1 other_leads.1) before.stages before in
       let comes = subst (λ s. ActComes image course n s other_leads.0 other_leads.1 others other) before.stages
       other_leads.4 in
-      let next = subst (λ s. other_stage ≡ next_stage course s (commits_of other)) before.stages other_leads.5 in
-      subst (λ s. GoTogether s other_stage moments others last other) (sym leads.5)
-      (subst (λ s. GoTogether (next_stage course leads.2 (commits_of last)) s moments others last other) (sym next)
-      (one_more n leads.2 leads.1 other_leads.1 last other leads.0 other_leads.0 moments others so_far well
-      other_well.good leads.4 comes))
+      let other_next = subst (λ s. NextStage course s other.book.view other_stage) before.stages other_leads.5 in
+      one_more n leads.2 leads.1 other_leads.1 last other leads.0 other_leads.0 moments others so_far well
+      other_well.good stage other_stage leads.5 other_next leads.4 comes
 
 pub story_is_one : (N : Type 0) → StoryIsOne N
 story_is_one N image course settings placers taps opening other_opening count stage other_stage moments others last
@@ -246,3 +276,70 @@ story_is_one N image course settings placers taps opening other_opening count st
     (opening_is_one image settings placers taps opening other_opening opens other_opens) count stage other_stage
     moments others last other leads other_leads in
     (so.stages, so.tell, so.go.books)
+
+-- ---- the end of a course
+
+-- so many acts of a longer story lead to where the course goes on
+record GoesOnThen (N : Type 0) (image : ImageValue) (course : Course) (opening : BookView) (count : ℕ) : Type 0 where
+  stage : Stage
+  moments : List (Moment N)
+  play : PlayState
+  leads : StoryLeads image course opening count stage moments play
+  act : Act
+  next : HasNext course stage play.book.view act
+
+module _ (N : Type 0) (image : ImageValue) (course : Course) (opening : BookView) where
+  next_of : (n : ℕ) (at : Stage) (front moments : List (Moment N)) (old last : PlayState)
+      → ActComes image course n at front old moments last → (act : Act) × HasNext course at old.book.view act
+  next_of n at front moments old last (Passes act next unasked kept stays) = (act, next)
+  next_of n at front moments old last (Makes m next asked at_is number_is moment more) = (m.act, next)
+
+  goes_on_then : (count more : ℕ) (stage : Stage) (moments : List (Moment N)) (last : PlayState) → count < more
+      → StoryLeads image course opening more stage moments last → GoesOnThen N image course opening count
+  goes_on_then count zero stage moments last fewer leads = absurd (omega (arith, fewer))
+  goes_on_then count (suc n) stage moments last fewer leads = elim (cases_eq count n) [
+    | inl same ↦
+        let next = next_of n leads.2 leads.0 moments leads.1 last leads.4 in
+        record {
+          stage = leads.2;
+          moments = leads.0;
+          play = leads.1;
+          leads = subst (λ k. StoryLeads image course opening k leads.2 leads.0 leads.1) (sym same) leads.3;
+          act = next.0;
+          next = next.1;
+        }
+    | inr other ↦
+        goes_on_then count n leads.2 leads.0 leads.1 (omega (arith, fewer, other)) leads.3
+  ]
+
+module _ (N : Type 0) (image : ImageValue) (course : Course) (settings : Settings) (placers : List Policy)
+    (taps : List TapValue) (opening : BookView) (fits : IsImage image) (valid : IsValid settings)
+    (within : IsWithin course settings) (opens : IsOpening image settings placers taps opening) where
+  none_longer : (count other : ℕ) (stage other_stage : Stage) (moments others : List (Moment N))
+      (last other_last : PlayState) → StoryLeads image course opening count stage moments last
+      → EndsAt course stage last.book.view → StoryLeads image course opening other other_stage others other_last
+      → count < other → ⊥
+  none_longer count other stage other_stage moments others last other_last leads ends other_leads fewer =
+      let then : GoesOnThen N image course opening count =
+      goes_on_then N image course opening count other other_stage others other_last fewer other_leads in
+      let one = story_is_one N image course settings placers taps opening opening count stage then.stage moments
+      then.moments last then.play fits valid within opens opens leads then.leads in
+      let books : AreSameBooks last.book then.play.book = one.2 in
+      ends then.act (
+        subst (λ s. act_of s ≡ Some then.act) one.0 then.next.0,
+        goes_too course stage (inverse_of books.0) then.play.book.view last.book.view
+            (alike_turned books.0 last.book.view then.play.book.view books.1.view)
+            (subst (λ s. GoesOnAt course s then.play.book.view) one.0 then.next.1),
+      )
+
+pub end_is_one : (N : Type 0) → EndIsOne N
+end_is_one N image course settings placers taps opening count other stage other_stage moments others last other_last
+    fits valid within opens leads ends other_leads other_ends = elim (cases_lt count other) [
+      | inl fewer ↦ absurd (none_longer N image course settings placers taps opening fits valid within opens count other
+          stage other_stage moments others last other_last leads ends other_leads fewer)
+      | inr most ↦ elim (cases_lt other count) [
+        | inl more ↦ absurd (none_longer N image course settings placers taps opening fits valid within opens other count
+            other_stage stage others moments other_last last other_leads other_ends leads more)
+        | inr least ↦ omega (arith, most, least)
+      ]
+    ]

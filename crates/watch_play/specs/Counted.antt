@@ -2,13 +2,14 @@
 use Rattle.std.specs.Prelude.{◌≡◌, ◌==◌, ◌&&◌, ℕ, zero, suc, Bool, true, not, List, [], ◌++◌}
 use Rattle.std.specs.Prelude.{if◌then◌else◌}
 use Rattle.guest_image.specs.ImageValue.{ImageValue}
-use Rattle.event_def.specs.Book.{BookView}
-use Rattle.step_script.specs.Playing.{PlayState}
+use Rattle.watch_counts.specs.spec_state.View.{View}
+use Rattle.watch_counts.specs.event_def.Book.{BookView}
+use Rattle.watch_counts.specs.step_script.Playing.{PlayState}
 use Rattle.watch_counts.specs.declared.counts.Counts.{Counts}
 use Rattle.watch_counts.specs.Capped.{capped_counts}
 use Rattle.watch_counts.specs.Counts.{after_passed, after_round, counts_after, counts_at}
 use Rattle.watch_counts.specs.Texts.{counts_line}
-use Rattle.watch_text.specs.Moments.{Moment}
+use Rattle.watch_counts.specs.watch_text.Moments.{Moment}
 use Rattle.watch_play.specs.declared.telling.Telling.{Telling}
 use Rattle.watch_play.specs.Courses.{Course, OfRounds, Stage}
 use Rattle.watch_play.specs.Stories.{ActComes, Makes, Passes, StoryLeads}
@@ -36,9 +37,15 @@ counts_of image course opening (suc number) stage moments new leads = after_stag
 -- counts are told behind the act of this number, which led from one stage to the other: in rounds behind the last act
 -- of each K-th, else behind each K-th act
 abbrev pub is_due_behind : Telling → Course → (number : ℕ) → (at stage : Stage) → Bool
-is_due_behind telling (OfRounds rounds seed barren settings) number at stage =
+is_due_behind telling (OfRounds rounds seed most settings) number at stage =
     not (stage.round == at.round) && are_counts_due telling stage.round
 is_due_behind telling other number at stage = are_counts_due telling number
+
+-- the line of counts behind it, by the counts before the end of its round, where counts are told
+abbrev pub line_behind : Telling → Course → (number : ℕ) → (at stage : Stage) → Counts → View → List ℕ
+line_behind telling course number at stage counts view = if has_counts telling
+    then (if is_due_behind telling course number at stage then counts_line (after_stage at stage counts) view else [])
+    else []
 
 -- the lines of counts of a story so far
 abbrev pub counts_lines : {N : Type 0} → Telling → (image : ImageValue) (course : Course) (opening : BookView)

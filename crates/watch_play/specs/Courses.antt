@@ -1,33 +1,42 @@
 -- Courses: which acts there are, and which of them are asked for as the machine stands.
-use Rattle.std.specs.Prelude.{◌≡◌, ◌≢◌, ◌⊎◌, ◌+◌, ◌*◌, ◌/◌, ◌%◌, ◌^◌, ◌==◌, ℕ, zero, suc, List, [], ◌∷◌, ◌++◌, length}
+use Rattle.std.specs.Prelude.{◌≡◌, ◌≢◌, ◌⊎◌, ◌&&◌, ◌+◌, ◌*◌, ◌/◌, ◌%◌, ◌^◌, ◌<◌, ◌==◌, ℕ, zero, suc}
+use Rattle.std.specs.Prelude.{List, [], ◌∷◌, ◌++◌, length}
 use Rattle.std.specs.Prelude.{Bool, true, false, map}
-use Rattle.std.specs.Prelude.{Some, None, nat_lt, replicate, slice_get, if◌then◌else◌}
+use Rattle.std.specs.Prelude.{Some, replicate, slice_get, if◌then◌else◌}
 use Rattle.std.specs.declared.option.Option.{Option}
 use Rattle.std.specs.List.{flat_map, range_with_len, swap}
-use Rattle.spec_state.specs.declared.settings.Settings.{Settings}
-use Rattle.spec_state.specs.declared.task.Status.TheVariants.{Finished}
-use Rattle.spec_state.specs.declared.task.Task.{Task}
-use Rattle.spec_state.specs.Least.{IsLeastSpilled, IsLeastTask, IsTheLeast}
-use Rattle.spec_state.specs.Queries.{IsFreeCore, IsLeastIdle, IsRunning}
-use Rattle.spec_state.specs.Room.{QueueHasRoom}
-use Rattle.spec_state.specs.View.{View, block_at}
-use Rattle.event_def.specs.End.{IsOver}
-use Rattle.step_script.specs.declared.act.Act.{Act}
-use Rattle.step_script.specs.declared.act.Act.TheVariants as acts
-use Rattle.watch_text.specs.declared.head.CourseWord.{CourseWord}
-use Rattle.watch_text.specs.declared.head.CourseWord.TheVariants as courses
+use Rattle.watch_counts.specs.spec_state.declared.settings.Settings.{Settings}
+use Rattle.watch_counts.specs.spec_state.declared.task.Status.TheVariants.{Finished}
+use Rattle.watch_counts.specs.spec_state.declared.task.Task.{Task}
+use Rattle.watch_counts.specs.spec_state.Least.{IsLeastSpilled, IsLeastTask, IsTheLeast}
+use Rattle.watch_counts.specs.spec_state.Queries.{IsFreeCore, IsLeastIdle, IsRunning}
+use Rattle.watch_counts.specs.spec_state.Room.{QueueHasRoom}
+use Rattle.watch_counts.specs.spec_state.View.{View, block_at}
+use Rattle.watch_counts.specs.spec_state.task_law.Advance as standing
+use Rattle.watch_counts.specs.event_def.Advancing.{StandsSo}
+use Rattle.watch_counts.specs.event_def.End.{IsOver}
+use Rattle.watch_counts.specs.step_script.declared.act.Act.{Act}
+use Rattle.watch_counts.specs.step_script.declared.act.Act.TheVariants as acts
+use Rattle.watch_counts.specs.watch_text.declared.head.CourseWord.{CourseWord}
+use Rattle.watch_counts.specs.watch_text.declared.head.CourseWord.TheVariants as courses
 
--- the acts of a script; what brings the least task on; or so many rounds in lockstep, in an order that is drawn, among
--- which the least task is brought on to its commit wherever so many rounds in a row brought none
+-- the acts of a script; advances of the least task; or so many rounds in lockstep, in an order that is drawn, where the
+-- least task is advanced after so many starved rounds in a row
 pub data Course : Type 0 where
   OfScript : List Act → Course
   OfLeast : Course
-  OfRounds : (rounds seed barren : ℕ) → Settings → Course
+  OfRounds : (rounds seed most : ℕ) → Settings → Course
 
 abbrev pub course_word : Course → CourseWord
 course_word (OfScript script) = courses.Steps
 course_word OfLeast = courses.Least
-course_word (OfRounds rounds seed barren settings) = courses.Lockstep rounds seed barren
+course_word (OfRounds rounds seed most settings) = courses.Lockstep rounds seed most
+
+-- the course of a word, with the acts of its script
+abbrev pub course_of : CourseWord → Settings → List Act → Course
+course_of courses.Steps settings script = OfScript script
+course_of courses.Least settings script = OfLeast
+course_of (courses.Lockstep rounds seed most) settings script = OfRounds rounds seed most settings
 
 -- ---- the order of a round
 
@@ -70,77 +79,79 @@ shuffled (suc last) order = shuffled last (with_drawn last order)
 unfoldable pub next_order : ℕ → Order → Order
 next_order seed order = if seed == 0 then order else shuffled (length order.acts) order
 
--- ---- how far a course in rounds has come
+-- ---- how far a course has come
 
--- the order of the round that is played, how many rounds came before it, and the place in it of the next act; how many
--- tasks had committed where it began; how many rounds in a row up to there brought no commit; and whether the least
--- task is brought on, before this round begins
+-- the acts of the round that is played, in their order, how many rounds ended before it, and the place of its next act;
+-- how many tasks had committed when it began; how many rounds in a row before it were starved; and whether it advances
+-- the least task instead. The acts of a script are one round that never ends, and so are the advances of `least`
 pub record Stage : Type 0 where
   pub order : Order
   pub round : ℕ
   pub place : ℕ
   pub begun : ℕ
-  pub barren : ℕ
+  pub starved : ℕ
   pub forced : Bool
 
--- where a round begins, in this order: no act of it has come
-abbrev pub at_round : Order → (round begun barren : ℕ) → Stage
-at_round order round begun barren =
-    record { order = order; round = round; place = 0; begun = begun; barren = barren; forced = false }
+-- where a round begins, in this order
+abbrev pub at_round : Order → (round begun starved : ℕ) → Stage
+at_round order round begun starved =
+    record { order = order; round = round; place = 0; begun = begun; starved = starved; forced = false }
 
--- where the least task is brought on, before such a round
-abbrev pub forced_stage : Order → (round begun : ℕ) → Stage
-forced_stage order round begun = record (at_round order round begun 0) { forced = true }
+-- where a round begins that advances the least task
+abbrev pub at_forced : Order → (round begun : ℕ) → Stage
+at_forced order round begun = record (at_round order round begun 0) { forced = true }
 
--- where no act has come yet, and so many tasks have committed; of a course without rounds it says nothing
+-- before the first act, where so many tasks have committed
 unfoldable pub first_stage : Course → ℕ → Stage
-first_stage (OfRounds rounds seed barren settings) commits =
+first_stage (OfScript script) commits = at_round (record { drawn = 0; acts = script }) 0 commits 0
+first_stage OfLeast commits = at_forced (record { drawn = 0; acts = [] }) 0 commits
+first_stage (OfRounds rounds seed most settings) commits =
     at_round (next_order seed (record { drawn = seed; acts = round_acts settings.tiles settings.cores })) 0 commits 0
-first_stage other commits = at_round (record { drawn = 0; acts = [] }) 0 commits 0
 
--- how many rounds in a row brought no commit, once this one is through and so many tasks have committed
-abbrev pub barren_after : Stage → ℕ → ℕ
-barren_after stage commits = if commits == stage.begun then stage.barren + 1 else 0
+-- the next act, where there is one
+abbrev pub act_of : Stage → Option Act
+act_of stage = if stage.forced then Some acts.Advance else slice_get stage.order.acts stage.place
 
--- the next round, before which the least task is brought on where so many in a row brought no commit
-unfoldable pub next_round : (seed most : ℕ) → Stage → ℕ → Stage
-next_round seed most stage commits =
-    let barren = barren_after stage commits in
-    let order = next_order seed stage.order in
-    if barren == most then forced_stage order (stage.round + 1) commits
-    else at_round order (stage.round + 1) commits barren
+-- the run goes on, and its least task waits: it is idle or spilled, and so isn't dispatched
+abbrev pub LeastWaits : View → Type 0
+LeastWaits view = StandsSo view standing.Idle ⊎ StandsSo view standing.Spilled
 
--- behind an act, where so many tasks have committed: the least task is brought on until one did; else the next act of
--- the round comes, or the next round
-unfoldable pub stage_after : (seed most : ℕ) → Stage → ℕ → Stage
-stage_after seed most stage commits =
-    if stage.forced
-    then (if commits == stage.begun then stage else record stage { begun = commits; forced = false })
-    else if stage.place + 1 == length stage.order.acts
-    then next_round seed most stage commits
+-- a round that ends where so many tasks have committed is starved, if none did in it and the least task waits
+abbrev pub is_starved : Stage → (commits : ℕ) → (waits : Bool) → Bool
+is_starved stage commits waits = commits == stage.begun && waits
+
+-- how many rounds in a row are starved, with this one
+abbrev pub starved_after : Stage → (commits : ℕ) → (waits : Bool) → ℕ
+starved_after stage commits waits = if is_starved stage commits waits then stage.starved + 1 else 0
+
+-- the round that follows, in the next order
+abbrev pub following : (seed : ℕ) → Stage → (commits starved : ℕ) → Stage
+following seed stage commits starved = at_round (next_order seed stage.order) (stage.round + 1) commits starved
+
+-- the next round: it advances the least task where so many in a row were starved
+abbrev pub next_round : (seed most : ℕ) → Stage → (commits : ℕ) → (waits : Bool) → Stage
+next_round seed most stage commits waits =
+    if starved_after stage commits waits == most then at_forced stage.order (stage.round + 1) commits
+    else following seed stage commits (starved_after stage commits waits)
+
+-- after an act, where so many tasks have committed, and the least task waits or doesn't: it is advanced until it
+-- doesn't wait; else the next act of the round comes, or the next round
+abbrev pub stage_after : (seed most : ℕ) → Stage → (commits : ℕ) → (waits : Bool) → Stage
+stage_after seed most stage commits waits =
+    if stage.forced then (if waits then stage else following seed stage commits 0)
+    else if stage.place + 1 == length stage.order.acts then next_round seed most stage commits waits
     else record stage { place = stage.place + 1 }
 
-abbrev pub next_stage : Course → Stage → ℕ → Stage
-next_stage (OfRounds rounds seed barren settings) stage commits = stage_after seed barren stage commits
-next_stage other stage commits = stage
-
--- the act of a course in rounds, where there is one
-unfoldable pub round_act : ℕ → Stage → Option Act
-round_act rounds stage =
-    if stage.forced then Some acts.Advance
-    else if nat_lt stage.round rounds then slice_get stage.order.acts stage.place else None
-
--- the act of a number, counted from 0, at a stage, where there is one
-unfoldable pub course_act : Course → ℕ → Stage → Option Act
-course_act (OfScript script) number stage = slice_get script number
-course_act OfLeast number stage = Some acts.Advance
-course_act (OfRounds rounds seed barren settings) number stage = round_act rounds stage
+abbrev pub next_stage : Course → Stage → (commits : ℕ) → (waits : Bool) → Stage
+next_stage (OfScript script) stage commits waits = record stage { place = stage.place + 1 }
+next_stage OfLeast stage commits waits = stage
+next_stage (OfRounds rounds seed most settings) stage commits waits = stage_after seed most stage commits waits
 
 -- ---- which acts are asked for
 
 -- a tile dispatches its least idle task, where a core is free for it, or it is the least task; a running task makes a
 -- step; the least task commits, once it is finished; a tile brings a task back, where there is room for it, or it is
--- the least task; and where the least task is brought on, whatever that wants is made
+-- the least task; and an advance makes the event for the least task
 abbrev pub IsAskedInRound : View → Act → Type 0
 IsAskedInRound view (acts.Dispatch tile) =
     (id : ℕ) × (task : Task) × IsLeastIdle view tile id task
@@ -152,13 +163,25 @@ IsAskedInRound view (acts.Split tile) =
 IsAskedInRound view acts.Advance = Unit {0}
 IsAskedInRound view other = ⊥
 
--- each act of a script is asked for; of the other courses none once the run is over
+-- each act of a script is asked for, and each advance of `least`; in rounds none is once the run is over
 abbrev pub IsAskedBy : Course → View → Act → Type 0
-IsAskedBy (OfScript script) view act = Unit {0}
-IsAskedBy OfLeast view act = IsOver view → ⊥
-IsAskedBy (OfRounds rounds seed barren settings) view act = (IsOver view → ⊥) × IsAskedInRound view act
+IsAskedBy (OfRounds rounds seed most settings) view act = (IsOver view → ⊥) × IsAskedInRound view act
+IsAskedBy other view act = Unit {0}
 
--- behind so many acts, at this stage, the course is through: no act is left, or none is asked for any more
-abbrev pub IsThrough : Course → ℕ → Stage → View → Type 0
-IsThrough course count stage view =
-    (course_act course count stage ≡ None) ⊎ ((act : Act) → IsAskedBy course view act → ⊥)
+-- ---- the end
+
+-- the course goes on while its next act may come: a script does to its last act, and `least` until the run is over; so
+-- do rounds, but a round in which the run ends is played to its end
+abbrev pub GoesOnAt : Course → Stage → View → Type 0
+GoesOnAt (OfScript script) stage view = Unit {0}
+GoesOnAt OfLeast stage view = IsOver view → ⊥
+GoesOnAt (OfRounds rounds seed most settings) stage view =
+    (stage.round < rounds) × (IsOver view → stage.place ≢ 0)
+
+-- it has an act at this stage, and goes on with it; so each story of it has exactly one end
+abbrev pub HasNext : Course → Stage → View → Act → Type 0
+HasNext course stage view act = (act_of stage ≡ Some act) × GoesOnAt course stage view
+
+-- the course ends at this stage
+abbrev pub EndsAt : Course → Stage → View → Type 0
+EndsAt course stage view = (act : Act) → HasNext course stage view act → ⊥

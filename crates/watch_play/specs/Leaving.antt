@@ -3,19 +3,19 @@ use Rattle.std.specs.Prelude.{◌≡◌, ℕ, All, IfSome, List, false, length}
 use Rattle.guest_image.specs.ImageValue.{ImageValue, IsImage}
 use Rattle.place_policy.specs.Policy.{Policy}
 use Rattle.trace_tap.specs.TapValue.{TapValue}
-use Rattle.serial_machine.specs.declared.whole_run.SerialRun.{SerialRun}
-use Rattle.spec_state.specs.declared.settings.Settings.{Settings}
-use Rattle.spec_state.specs.Settings.{IsValid}
-use Rattle.spec_law.specs.Sound.{Sound}
-use Rattle.event_def.specs.Advancing.{AdvancesBy}
-use Rattle.event_def.specs.Book.{BookView}
-use Rattle.event_def.specs.End.{HasEnd}
-use Rattle.event_def.specs.Opening.{IsOpening}
-use Rattle.step_script.specs.Playing.{PlayState}
-use Rattle.step_script.specs.Ranges.{ActIsInRange}
+use Rattle.watch_counts.specs.serial_machine.declared.whole_run.SerialRun.{SerialRun}
+use Rattle.watch_counts.specs.spec_state.declared.settings.Settings.{Settings}
+use Rattle.watch_counts.specs.spec_state.Settings.{IsValid}
+use Rattle.watch_counts.specs.spec_law.Sound.{Sound}
+use Rattle.watch_counts.specs.event_def.Advancing.{AdvancesBy}
+use Rattle.watch_counts.specs.event_def.Book.{BookView}
+use Rattle.watch_counts.specs.event_def.End.{HasEnd}
+use Rattle.watch_counts.specs.event_def.Opening.{IsOpening}
+use Rattle.watch_counts.specs.step_script.Playing.{PlayState}
+use Rattle.watch_counts.specs.step_script.Ranges.{ActIsInRange}
 use Rattle.machine_run.specs.Least.{IsLeastRun}
 use Rattle.machine_run.specs.Leaving.{LeavesRun}
-use Rattle.watch_text.specs.Moments.{Moment}
+use Rattle.watch_counts.specs.watch_text.Moments.{Moment}
 use Rattle.watch_play.specs.Courses.{Course, OfLeast, OfRounds, OfScript, Stage}
 use Rattle.watch_play.specs.Stories.{StoryLeads}
 
@@ -23,7 +23,7 @@ use Rattle.watch_play.specs.Stories.{StoryLeads}
 abbrev pub IsWithin : Course → Settings → Type 0
 IsWithin (OfScript script) settings = All (ActIsInRange settings.tiles settings.cores) script
 IsWithin OfLeast settings = Unit {0}
-IsWithin (OfRounds rounds seed barren own) settings = own ≡ settings
+IsWithin (OfRounds rounds seed most own) settings = own ≡ settings
 
 -- a book is sound, wasn't stopped, and has these settings
 pub record IsSoundBook (image : ImageValue) (settings : Settings) (book : BookView) : Type 0 where

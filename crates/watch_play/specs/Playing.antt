@@ -1,9 +1,9 @@
 -- What comes of one act.
-use Rattle.std.specs.Prelude.{◌≡◌, ℕ, List, Result, Ok, Err, true}
+use Rattle.std.specs.Prelude.{◌≡◌, ◌+◌, ℕ, List, Result, Ok, Err, true}
 use Rattle.guest_image.specs.ImageValue.{ImageValue}
-use Rattle.step_script.specs.declared.act.Act.{Act}
-use Rattle.step_script.specs.Playing.{PlayState}
-use Rattle.watch_text.specs.Moments.{IsMoment, Moment}
+use Rattle.watch_counts.specs.step_script.declared.act.Act.{Act}
+use Rattle.watch_counts.specs.step_script.Playing.{PlayState}
+use Rattle.watch_counts.specs.watch_text.Moments.{IsMoment, Moment}
 use Rattle.watch_counts.specs.declared.counts.Counts.{Counts}
 use Rattle.watch_counts.specs.Capped.{capped_counts}
 use Rattle.watch_counts.specs.Counts.{counts_after}
@@ -13,6 +13,7 @@ use Rattle.watch_play.specs.declared.playing.PlayedAct.TheVariants as came
 use Rattle.watch_play.specs.declared.stop.StoryStop.{StoryStop}
 use Rattle.watch_play.specs.declared.stop.StoryStop.TheVariants as stops
 use Rattle.watch_play.specs.declared.telling.Telling.{Telling}
+use Rattle.watch_play.specs.declared.watch.SoTold.{SoTold}
 
 -- the act is this moment: the `at`-th act of the course, and the `number`-th that is asked for
 pub record IsMomentAt {N : Type 0} (image : ImageValue) (at number : ℕ) (act : Act) (m : Moment N)
@@ -39,9 +40,10 @@ CountsMoment telling m before after =
 
 -- an act of which no line is told is a moment, which is counted where counts are told; or memory ran out, it is none,
 -- and the book stays
-abbrev pub MakesAct : Type 0 → ImageValue → Telling → (at number : ℕ) → Act → PlayState → PlayState
-    → (before after : Counts) → Result (Unit {0}) StoryStop → Type 0
-MakesAct N image telling at number act old new before after (Ok done) =
-    (m : Moment N) × IsMomentAt image at number act m old new × CountsMoment telling m before after
-MakesAct N image telling at number act old new before after (Err stop) =
+abbrev pub MakesAct : Type 0 → ImageValue → Telling → (at : ℕ) → (told new_told : SoTold) → Act → PlayState → PlayState
+    → Result (Unit {0}) StoryStop → Type 0
+MakesAct N image telling at told new_told act old new (Ok done) =
+    (m : Moment N) × IsMomentAt image at (told.moments + 1) act m old new
+    × CountsMoment telling m told.counts new_told.counts
+MakesAct N image telling at told new_told act old new (Err stop) =
     (stop ≡ stops.Memory) × (new.book ≡ old.book)

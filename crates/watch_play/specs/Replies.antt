@@ -1,20 +1,20 @@
 -- A story of a script is a play of it: what is said of each act stands in its line.
 use Rattle.std.specs.Prelude.{◌≡◌, All, List, false, length, map}
 use Rattle.guest_image.specs.ImageValue.{ImageValue}
-use Rattle.spec_law.specs.Sound.{Sound}
-use Rattle.event_def.specs.declared.event.Event.TheVariants as event
-use Rattle.event_def.specs.declared.event.Reply.{Reply}
-use Rattle.event_def.specs.declared.event.Reply.TheVariants as reply
-use Rattle.event_def.specs.Book.{BookView}
-use Rattle.step_script.specs.declared.act.Act.{Act}
-use Rattle.step_script.specs.declared.act.Act.TheVariants as acts
-use Rattle.step_script.specs.declared.saying.Said.{Said}
-use Rattle.step_script.specs.declared.saying.Word.{Word}
-use Rattle.step_script.specs.declared.saying.Word.TheVariants as words
-use Rattle.step_script.specs.Playing.{Does, PlayState, Plays}
-use Rattle.step_script.specs.Ranges.{ActIsInRange}
-use Rattle.step_script.specs.Asking.{Attempt, Hands}
-use Rattle.watch_text.specs.Moments.{IsMoment, Moment}
+use Rattle.watch_counts.specs.spec_law.Sound.{Sound}
+use Rattle.watch_counts.specs.event_def.declared.event.Event.TheVariants as event
+use Rattle.watch_counts.specs.event_def.declared.event.Reply.{Reply}
+use Rattle.watch_counts.specs.event_def.declared.event.Reply.TheVariants as reply
+use Rattle.watch_counts.specs.event_def.Book.{BookView}
+use Rattle.watch_counts.specs.step_script.declared.act.Act.{Act}
+use Rattle.watch_counts.specs.step_script.declared.act.Act.TheVariants as acts
+use Rattle.watch_counts.specs.step_script.declared.saying.Said.{Said}
+use Rattle.watch_counts.specs.step_script.declared.saying.Word.{Word}
+use Rattle.watch_counts.specs.step_script.declared.saying.Word.TheVariants as words
+use Rattle.watch_counts.specs.step_script.Playing.{Does, PlayState, Plays}
+use Rattle.watch_counts.specs.step_script.Ranges.{ActIsInRange}
+use Rattle.watch_counts.specs.step_script.Asking.{Attempt, Hands}
+use Rattle.watch_counts.specs.watch_text.Moments.{IsMoment, Moment}
 use Rattle.watch_play.specs.Courses.{OfScript, Stage}
 use Rattle.watch_play.specs.Stories.{StoryLeads}
 

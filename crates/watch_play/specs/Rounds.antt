@@ -2,15 +2,15 @@
 -- that it passes over wouldn't be made.
 use Rattle.std.specs.Prelude.{◌≡◌, ◌≢◌, ℕ, List}
 use Rattle.guest_image.specs.ImageValue.{ImageValue}
-use Rattle.spec_law.specs.Sound.{Sound}
-use Rattle.event_def.specs.declared.event.Reply.{Reply}
-use Rattle.event_def.specs.declared.event.Reply.TheVariants as replies
-use Rattle.event_def.specs.Book.{BookView}
-use Rattle.event_def.specs.End.{IsOver}
-use Rattle.step_script.specs.declared.act.Act.{Act}
-use Rattle.step_script.specs.declared.act.Act.TheVariants as acts
-use Rattle.step_script.specs.Playing.{HeldLeg, PlayState}
-use Rattle.step_script.specs.Asking.{AsksFor, Attempt, AttemptComes}
+use Rattle.watch_counts.specs.spec_law.Sound.{Sound}
+use Rattle.watch_counts.specs.event_def.declared.event.Reply.{Reply}
+use Rattle.watch_counts.specs.event_def.declared.event.Reply.TheVariants as replies
+use Rattle.watch_counts.specs.event_def.Book.{BookView}
+use Rattle.watch_counts.specs.event_def.End.{IsOver}
+use Rattle.watch_counts.specs.step_script.declared.act.Act.{Act}
+use Rattle.watch_counts.specs.step_script.declared.act.Act.TheVariants as acts
+use Rattle.watch_counts.specs.step_script.Playing.{HeldLeg, PlayState}
+use Rattle.watch_counts.specs.step_script.Asking.{AsksFor, Attempt, AttemptComes}
 use Rattle.watch_play.specs.Courses.{IsAskedInRound}
 
 -- the act is a step

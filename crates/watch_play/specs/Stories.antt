@@ -1,11 +1,12 @@
 -- Stories: the moments of a course, from an opening on.
-use Rattle.std.specs.Prelude.{◌≡◌, ◌+◌, ℕ, zero, suc, List, [], ◌∷◌, ◌++◌, length, Some}
+use Rattle.std.specs.Prelude.{◌≡◌, ◌↔◌, ◌+◌, ℕ, zero, suc, Bool, IsTrue, List, [], ◌∷◌, ◌++◌, length}
 use Rattle.guest_image.specs.ImageValue.{ImageValue}
-use Rattle.event_def.specs.Book.{BookView}
-use Rattle.step_script.specs.declared.act.Act.{Act}
-use Rattle.step_script.specs.Playing.{PlayState}
-use Rattle.watch_text.specs.Moments.{IsMoment, Moment}
-use Rattle.watch_play.specs.Courses.{Course, Stage, course_act, first_stage, IsAskedBy, next_stage}
+use Rattle.watch_counts.specs.spec_state.View.{View}
+use Rattle.watch_counts.specs.event_def.Book.{BookView}
+use Rattle.watch_counts.specs.step_script.declared.act.Act.{Act}
+use Rattle.watch_counts.specs.step_script.Playing.{PlayState}
+use Rattle.watch_counts.specs.watch_text.Moments.{IsMoment, Moment}
+use Rattle.watch_play.specs.Courses.{Course, HasNext, IsAskedBy, LeastWaits, Stage, first_stage, next_stage}
 
 -- a book before its first act, for which no leg is held
 abbrev pub begun : BookView → PlayState
@@ -15,15 +16,21 @@ begun opening = record { book = opening; held = [] }
 -- moment more
 pub data ActComes {N : Type 0} (image : ImageValue) (course : Course) (number : ℕ) (stage : Stage)
     (front : List (Moment N)) (old : PlayState) (moments : List (Moment N)) (new : PlayState) : Type 0 where
-  Passes : (act : Act) → course_act course number stage ≡ Some act → (IsAskedBy course old.book.view act → ⊥)
+  Passes : (act : Act) → HasNext course stage old.book.view act → (IsAskedBy course old.book.view act → ⊥)
       → moments ≡ front → new ≡ old → ActComes image course number stage front old moments new
-  Makes : (m : Moment N) → course_act course number stage ≡ Some m.act → IsAskedBy course old.book.view m.act
+  Makes : (m : Moment N) → HasNext course stage old.book.view m.act → IsAskedBy course old.book.view m.act
       → m.at ≡ number + 1 → m.number ≡ length front + 1 → IsMoment image m old new → moments ≡ front ++ m ∷ []
       → ActComes image course number stage front old moments new
 
 -- how many tasks have committed
 abbrev pub commits_of : PlayState → ℕ
 commits_of play = length play.book.view.history
+
+-- the stage behind an act that led from a stage to this machine
+pub record NextStage (course : Course) (at : Stage) (view : View) (stage : Stage) : Type 0 where
+  pub waits : Bool
+  pub waits_is : IsTrue waits ↔ LeastWaits view
+  pub stage_is : stage ≡ next_stage course at (length view.history) waits
 
 -- so many acts of the course, from an opening on, gave these moments, and led here, to this stage
 abbrev pub StoryLeads : {N : Type 0} → ImageValue → Course → BookView → ℕ → Stage → List (Moment N) → PlayState → Type 0
@@ -32,4 +39,4 @@ StoryLeads image course opening zero stage moments new =
 StoryLeads {N} image course opening (suc number) stage moments new =
     (front : List (Moment N)) × (old : PlayState) × (at : Stage)
     × StoryLeads image course opening number at front old × ActComes image course number at front old moments new
-    × (stage ≡ next_stage course at (commits_of new))
+    × NextStage course at new.book.view stage

@@ -1,25 +1,21 @@
 -- How far a story was told.
-use Rattle.std.specs.Prelude.{◌≡◌, ◌⊎◌, ◌+◌, ◌<◌, ◌≤◌, ◌==◌, ◌++◌, ℕ, List, [], Result, Ok, Err, Some, length}
-use Rattle.std.specs.Prelude.{Bool, true, false, if◌then◌else◌}
+use Rattle.std.specs.Prelude.{◌≡◌, ◌⊎◌, ◌+◌, ◌<◌, ◌≤◌, ◌++◌, ℕ, List, [], Result, Ok, Err, length}
+use Rattle.std.specs.Prelude.{true, if◌then◌else◌}
 use Rattle.guest_image.specs.ImageValue.{ImageValue}
 use Rattle.sim_io.specs.Causes.{Rose}
 use Rattle.sim_io.specs.Parts.{SinkTakes, TakesFront}
 use Rattle.sim_io.specs.Streams.{SinkState}
-use Rattle.spec_state.specs.declared.settings.Settings.{Settings}
-use Rattle.event_def.specs.Book.{BookView}
-use Rattle.event_def.specs.End.{IsOver}
-use Rattle.step_script.specs.declared.act.Act.{Act}
-use Rattle.step_script.specs.Playing.{PlayState}
-use Rattle.watch_counts.specs.declared.counts.Counts.{Counts}
+use Rattle.watch_counts.specs.spec_state.declared.settings.Settings.{Settings}
+use Rattle.watch_counts.specs.event_def.Book.{BookView}
+use Rattle.watch_counts.specs.step_script.Playing.{PlayState}
 use Rattle.watch_counts.specs.Capped.{capped_counts}
-use Rattle.watch_text.specs.Moments.{Moment}
+use Rattle.watch_counts.specs.watch_text.Moments.{Moment}
 use Rattle.watch_play.specs.declared.stop.StoryStop.{StoryStop}
 use Rattle.watch_play.specs.declared.stop.StoryStop.TheVariants as stops
 use Rattle.watch_play.specs.declared.telling.Telling.{Telling}
-use Rattle.watch_play.specs.Courses.{Course, IsAskedBy, IsThrough, OfRounds, Order, Stage, at_round, course_act}
-use Rattle.watch_play.specs.Courses.{forced_stage, next_order, next_round, next_stage, stage_after}
-use Rattle.watch_play.specs.declared.lockstep.SoFar.{SoFar}
-use Rattle.watch_play.specs.Stories.{ActComes, StoryLeads, begun, commits_of}
+use Rattle.watch_play.specs.declared.watch.SoTold.{SoTold}
+use Rattle.watch_play.specs.Courses.{Course, EndsAt, Stage}
+use Rattle.watch_play.specs.Stories.{ActComes, StoryLeads, begun}
 use Rattle.watch_play.specs.Counted.{AreCounted, after_act, counts_lines, counts_of, last_counts}
 use Rattle.watch_play.specs.Texts.{has_counts, opening_lines, story_lines}
 
@@ -62,7 +58,7 @@ abbrev pub text_of_story : {N : Type 0} (plan : Plan) (opening : BookView) (mome
     (book : BookView) → HasStory plan opening moments book → List ℕ
 text_of_story plan opening moments book s = text_so_far plan opening s.count s.stage moments s.last s.goes
 
--- and that of one whose course is through: the counts come last, where counts are told
+-- and that of one whose course ended: the counts come last, where counts are told
 abbrev pub text_of_course : {N : Type 0} (plan : Plan) (opening : BookView) (moments : List (Moment N))
     (book : BookView) → HasStory plan opening moments book → List ℕ
 text_of_course plan opening moments book s = text_of_story plan opening moments book s
@@ -73,7 +69,7 @@ text_of_course plan opening moments book s = text_of_story plan opening moments 
 pub record IsAllTold (N : Type 0) (plan : Plan) (opening book : BookView) (before after : SinkState) : Type 0 where
   pub moments : List (Moment N)
   pub story : HasStory plan opening moments book
-  pub through : IsThrough plan.course story.count story.stage book.view
+  pub ends : EndsAt plan.course story.stage book.view
   pub took : SinkTakes before after (text_of_course plan opening moments book story)
   pub later : before.faults ≤ after.faults
 
@@ -109,11 +105,6 @@ Tells N plan opening book before after (Err stops.Memory) = IsToldInPart N plan 
 Tells N plan opening book before after (Err stops.Sink) = IsCutOff N plan opening book before after
 
 -- ---- a story that goes on
-
--- how much was told so far: so many moments, and what was counted of them
-pub record SoTold : Type 0 where
-  pub moments : ℕ
-  pub counts : Counts
 
 -- so many acts of the course led here, to this stage, through so many moments, all of which were told, or counted
 pub record IsSoFar {N : Type 0} (plan : Plan) (opening : BookView) (count : ℕ) (stage : Stage) (told : SoTold)
@@ -162,101 +153,26 @@ ComesOn N plan opening count stage told new before after (Ok done) =
 ComesOn N plan opening count stage told new before after (Err stop) =
     Tells N plan opening new.book before after (Err stop)
 
--- the course has no rounds
-abbrev pub HasNoRounds : Course → Type 0
-HasNoRounds (OfRounds rounds seed barren settings) = ⊥
-HasNoRounds other = Unit {0}
+-- the plan of these parts
+abbrev pub plan_with : ImageValue → Telling → Course → Settings → Plan
+plan_with image telling course settings =
+    record { course = course; settings = settings; image = image; telling = telling }
 
--- whatever story of a course without rounds led to the act of this number, which is asked for, it leads on, or the
--- story ends there
-abbrev pub MomentGoesOn : (N : Type 0) → ImageValue → Telling → (number : ℕ) → Act → (told new_told : SoTold)
+-- whatever story led to the act of this number at this stage, that comes, or the story ends there
+abbrev pub ActComesOn : (N : Type 0) → ImageValue → Telling → Course → (number : ℕ) → Stage → (told new_told : SoTold)
     → (old new : PlayState) → (now after : SinkState) → Result (Unit {0}) StoryStop → Type 0
-MomentGoesOn N image telling number act told new_told old new now after result =
-    (stage : Stage) (plan : Plan) (opening : BookView) (start : SinkState)
-    → plan.image ≡ image → plan.telling ≡ telling → HasNoRounds plan.course
-    → course_act plan.course number stage ≡ Some act → IsAskedBy plan.course old.book.view act
-    → GoesSoFar N plan opening number stage told old start now
-    → GoesOn N plan opening (number + 1) (next_stage plan.course stage (commits_of new)) new_told new start after
-    result
+ActComesOn N image telling course number stage told new_told old new now after result =
+    (settings : Settings) (opening : BookView) (start : SinkState)
+    → GoesSoFar N (plan_with image telling course settings) opening number stage told old start now
+    → ComesOn N (plan_with image telling course settings) opening number stage new_told new start after result
 
--- whatever story of a course in rounds led to the act of this number, that comes, or the story ends there
-abbrev pub ActComesOn : (N : Type 0) → ImageValue → Telling → (number : ℕ) → Act → (told new_told : SoTold)
-    → (old new : PlayState) → (now after : SinkState) → Result (Unit {0}) StoryStop → Type 0
-ActComesOn N image telling number act told new_told old new now after result =
-    (rounds seed barren : ℕ) (settings : Settings) (stage : Stage) (plan : Plan) (opening : BookView)
-    (start : SinkState)
-    → plan.image ≡ image → plan.telling ≡ telling → plan.course ≡ OfRounds rounds seed barren settings
-    → course_act plan.course number stage ≡ Some act → GoesSoFar N plan opening number stage told old start now
-    → ComesOn N plan opening number stage new_told new start after result
-
--- whatever story of such a course led to it, within this round, where it is the last act of the round or isn't, the
--- story leads on, to the next stage, or it ends there
-abbrev pub ActGoesOn : (N : Type 0) → ImageValue → Telling → (number : ℕ) → Act → (ends : Bool) → (round : ℕ)
+-- and it leads on to the next stage, or the story ends there
+abbrev pub ActGoesOn : (N : Type 0) → ImageValue → Telling → Course → (number : ℕ) → (stage next : Stage)
     → (told new_told : SoTold) → (old new : PlayState) → (now after : SinkState) → Result (Unit {0}) StoryStop → Type 0
-ActGoesOn N image telling number act ends round told new_told old new now after result =
-    (rounds seed barren : ℕ) (settings : Settings) (stage : Stage) (plan : Plan) (opening : BookView)
-    (start : SinkState)
-    → plan.image ≡ image → plan.telling ≡ telling → plan.course ≡ OfRounds rounds seed barren settings
-    → stage.forced ≡ false → stage.round ≡ round → (stage.place + 1 == length stage.order.acts) ≡ ends
-    → course_act plan.course number stage ≡ Some act → GoesSoFar N plan opening number stage told old start now
-    → GoesOn N plan opening (number + 1) (next_stage plan.course stage (commits_of new)) new_told new start after
-    result
-
--- whatever story of such a course led to this round in this order, the acts of the round lead on, to the next round, or
--- the story ends on the way
-abbrev pub RoundGoesOn : (N : Type 0) → ImageValue → Telling → (number : ℕ) → List Act → (round : ℕ)
-    → (told new_told : SoTold) → (old new : PlayState) → (now after : SinkState) → Result (Unit {0}) StoryStop → Type 0
-RoundGoesOn N image telling number acts round told new_told old new now after result =
-    (rounds seed barren : ℕ) (settings : Settings) (drawn so_barren : ℕ) (plan : Plan) (opening : BookView)
-    (start : SinkState)
-    → plan.image ≡ image → plan.telling ≡ telling → plan.course ≡ OfRounds rounds seed barren settings → round < rounds
-    → (let stage = at_round (record { drawn = drawn; acts = acts }) round (commits_of old) so_barren in
-    GoesSoFar N plan opening number stage told old start now
-    → GoesOn N plan opening (number + length acts) (next_round seed barren stage (commits_of new)) new_told new start
-    after result)
-
--- so many acts led to this stage, or the story ended on the way
-abbrev pub LeadsOn : (N : Type 0) → Plan → BookView → Stage → (told : SoTold) → (new : PlayState)
-    → (before after : SinkState) → Result ℕ StoryStop → Type 0
-LeadsOn N plan opening stage told new before after (Ok count) =
-    GoesSoFar N plan opening count stage told new before after
-LeadsOn N plan opening stage told new before after (Err stop) = Tells N plan opening new.book before after (Err stop)
-
--- whatever story of such a course led to where the least task is brought on, that leads on, or the story ends there
-abbrev pub ForcedGoesOn : (N : Type 0) → ImageValue → Telling → (number : ℕ) → (told new_told : SoTold)
-    → (old new : PlayState) → (now after : SinkState) → Result ℕ StoryStop → Type 0
-ForcedGoesOn N image telling number told new_told old new now after result =
-    (rounds seed barren : ℕ) (settings : Settings) (order : Order) (round : ℕ) (plan : Plan) (opening : BookView)
-    (start : SinkState)
-    → plan.image ≡ image → plan.telling ≡ telling → plan.course ≡ OfRounds rounds seed barren settings
-    → (let stage = forced_stage order round (commits_of old) in
-    GoesSoFar N plan opening number stage told old start now
-    → LeadsOn N plan opening (stage_after seed barren stage (commits_of new)) new_told new start after result)
-
--- where the next round begins, in the order that follows this one
-abbrev pub next_at : (seed : ℕ) → List Act → SoFar → (commits : ℕ) → Stage
-next_at seed acts so_far commits =
-    at_round (next_order seed (record { drawn = so_far.drawn; acts = acts })) so_far.rounds commits so_far.barren
-
--- so many acts led to where the next round begins, or where the run is over; or the story ended on the way
-abbrev pub LeadsThrough : (N : Type 0) → Plan → BookView → (seed : ℕ) → List Act → (told : SoTold)
-    → (new : PlayState) → (before after : SinkState) → Result SoFar StoryStop → Type 0
-LeadsThrough N plan opening seed acts told new before after (Ok so_far) =
-    (stage : Stage) × GoesSoFar N plan opening so_far.acts stage told new before after
-    × ((IsOver new.book.view → ⊥) → stage ≡ next_at seed acts so_far (commits_of new))
-LeadsThrough N plan opening seed acts told new before after (Err stop) =
-    Tells N plan opening new.book before after (Err stop)
-
--- whatever story of such a course led to the next round, that round, and what brings the least task on behind it, lead
--- on, or the story ends on the way
-abbrev pub NextGoesOn : (N : Type 0) → ImageValue → Telling → (seed barren : ℕ) → SoFar → (acts new_acts : List Act)
-    → (told new_told : SoTold) → (old new : PlayState) → (now after : SinkState) → Result SoFar StoryStop → Type 0
-NextGoesOn N image telling seed barren so_far acts new_acts told new_told old new now after result =
-    (rounds : ℕ) (settings : Settings) (plan : Plan) (opening : BookView) (start : SinkState)
-    → plan.image ≡ image → plan.telling ≡ telling → plan.course ≡ OfRounds rounds seed barren settings
-    → so_far.rounds < rounds
-    → GoesSoFar N plan opening so_far.acts (next_at seed acts so_far (commits_of old)) told old start now
-    → LeadsThrough N plan opening seed new_acts new_told new start after result
+ActGoesOn N image telling course number stage next told new_told old new now after result =
+    (settings : Settings) (opening : BookView) (start : SinkState)
+    → GoesSoFar N (plan_with image telling course settings) opening number stage told old start now
+    → GoesOn N (plan_with image telling course settings) opening (number + 1) next new_told new start after result
 
 -- ---- the opening
 

@@ -2,12 +2,12 @@
 use Rattle.std.specs.Prelude.{◌%◌, ◌≤◌, ◌==◌, ◌&&◌, ℕ, Bool, true, false, not, List, [], ◌++◌, if◌then◌else◌}
 use Rattle.std.specs.List.{flat_map}
 use Rattle.guest_image.specs.ImageValue.{ImageValue}
-use Rattle.spec_state.specs.declared.settings.Settings.{Settings}
-use Rattle.spec_state.specs.View.{View}
-use Rattle.watch_text.specs.Lines.{line_of}
-use Rattle.watch_text.specs.Moments.{Moment}
-use Rattle.watch_text.specs.Opening.{head_line, placed_lines}
-use Rattle.watch_text.specs.Views.{view_line}
+use Rattle.watch_counts.specs.spec_state.declared.settings.Settings.{Settings}
+use Rattle.watch_counts.specs.spec_state.View.{View}
+use Rattle.watch_counts.specs.watch_text.Lines.{line_of}
+use Rattle.watch_counts.specs.watch_text.Moments.{Moment}
+use Rattle.watch_counts.specs.watch_text.Opening.{head_line, placed_lines}
+use Rattle.watch_counts.specs.watch_text.Views.{view_line}
 use Rattle.watch_play.specs.declared.telling.Telling.{Telling}
 use Rattle.watch_play.specs.declared.telling.Telling.TheVariants as tellings
 use Rattle.watch_play.specs.Courses.{Course, course_word}

@@ -4,14 +4,14 @@ use Rattle.std.specs.List.{AllZip}
 use Rattle.guest_image.specs.ImageValue.{ImageValue, IsImage}
 use Rattle.place_policy.specs.Policy.{Policy}
 use Rattle.trace_tap.specs.TapValue.{TapValue}
-use Rattle.spec_state.specs.declared.settings.Settings.{Settings}
-use Rattle.spec_state.specs.Settings.{IsValid}
-use Rattle.event_def.specs.Book.{BookView}
-use Rattle.event_def.specs.Opening.{IsOpening}
-use Rattle.step_script.specs.Playing.{PlayState}
-use Rattle.outcome_law.specs.Laws.{AreSameBooks}
-use Rattle.watch_text.specs.Moments.{Moment}
-use Rattle.watch_play.specs.Courses.{Course, Stage}
+use Rattle.watch_counts.specs.spec_state.declared.settings.Settings.{Settings}
+use Rattle.watch_counts.specs.spec_state.Settings.{IsValid}
+use Rattle.watch_counts.specs.event_def.Book.{BookView}
+use Rattle.watch_counts.specs.event_def.Opening.{IsOpening}
+use Rattle.watch_counts.specs.step_script.Playing.{PlayState}
+use Rattle.machine_run.specs.outcome_law.Laws.{AreSameBooks}
+use Rattle.watch_counts.specs.watch_text.Moments.{Moment}
+use Rattle.watch_play.specs.Courses.{Course, EndsAt, Stage}
 use Rattle.watch_play.specs.Leaving.{IsWithin}
 use Rattle.watch_play.specs.Stories.{StoryLeads}
 
@@ -37,3 +37,14 @@ StoryIsOne N =
     → StoryLeads image course opening count stage moments last
     → StoryLeads image course other_opening count other_stage others other_last
     → (other_stage ≡ stage) × AllZip TellOneThing moments others × AreSameBooks last.book other_last.book
+
+-- and a course from an opening ends behind one number of acts, no other
+abbrev pub EndIsOne : Type 0 → Type 0
+EndIsOne N =
+    (image : ImageValue) (course : Course) (settings : Settings) (placers : List Policy) (taps : List TapValue)
+    (opening : BookView) (count other : ℕ) (stage other_stage : Stage) (moments others : List (Moment N))
+    (last other_last : PlayState)
+    → IsImage image → IsValid settings → IsWithin course settings → IsOpening image settings placers taps opening
+    → StoryLeads image course opening count stage moments last → EndsAt course stage last.book.view
+    → StoryLeads image course opening other other_stage others other_last
+    → EndsAt course other_stage other_last.book.view → other ≡ count

@@ -1,129 +1,145 @@
 //! What is told of counts.
 
-ghost use Rattle.std.specs.Prelude.{◌≡◌, [], true, if◌then◌else◌};
-ghost use Rattle.conflict_book.specs.BookViews.{machine_view};
+ghost use Rattle.std.specs.Prelude.{◌≡◌, ◌==◌, ◌&&◌, [], not, true, if◌then◌else◌, List};
+ghost use Rattle.watch_counts.specs.spec_state.declared.settings.Settings.{Settings};
+ghost use Rattle.watch_counts.specs.step_script.declared.act.Act.{Act};
 ghost use Rattle.watch_counts.specs.Capped.{capped_counts};
 ghost use Rattle.watch_counts.specs.Counts.{after_passed, after_round, counts_at};
+ghost use Rattle.watch_counts.specs.declared.counts.Counts.{Counts};
 ghost use Rattle.watch_counts.specs.Texts.{counts_line};
-ghost use Rattle.watch_play.specs.Made.{play_of};
+ghost use Rattle.watch_play.specs.Counted.{after_stage, is_due_behind, line_behind};
+ghost use Rattle.watch_play.specs.Courses as courses;
+ghost use Rattle.watch_play.specs.Courses.{course_of};
+ghost use Rattle.watch_play.specs.Staged.{stage_of};
 ghost use Rattle.watch_play.specs.Telling.{TellsText};
 ghost use Rattle.watch_play.specs.Texts.{are_counts_due, has_counts};
 
+use crate::stage::Stage;
 use crate::stop::{StoryStop, tell_text};
-use crate::telling::{are_counts_due, has_counts};
-use crate::watch::Watch;
-use place_policy::Placer;
+use crate::telling::{Telling, are_counts_due, has_counts};
+use crate::watch::Printer;
 use rv_core::Naming;
 use sim_io::Sink;
-use step_script::Act;
-use trace_tap::Tap;
+use watch_counts::spec_state::State;
+use watch_counts::step_script::Act;
+use watch_counts::watch_text::CourseWord;
 use watch_counts::{Counts, put_counts};
 
 /// Counts from here on: what was counted before is forgotten.
-pub(crate) fn begin_counts<N: Naming, P: Placer, T: Tap>(watch: &mut Watch<N, P, T>)
-    ensures counts { watch.new.counts ≡ capped_counts (counts_at (machine_view watch.old.book)) }
-    ensures play { play_of P.policy T.notes watch.new ≡ play_of P.policy T.notes watch.old }
-    ensures settings { (machine_view watch.new.book).settings ≡ (machine_view watch.old.book).settings }
-    ensures telling { watch.new.telling ≡ watch.old.telling }
-    ensures count { watch.new.count ≡ watch.old.count }
+pub(crate) fn begin_counts<N: Naming>(counts: &mut Counts, state: &State<N>)
+    ensures { counts.new ≡ capped_counts (counts_at state.now.view) }
 {
-    watch.counts = Counts::new(watch.book.state());
+    *counts = Counts::new(state);
 }
 
-/// Tells the counts.
-fn tell_line<N: Naming, P: Placer, T: Tap, K: Sink>(
-    watch: &mut Watch<N, P, T>,
+/// Tells the counts, if they are due.
+fn tell_counts_if<N: Naming, K: Sink>(
+    line: &mut String,
     sink: &mut K,
+    state: &State<N>,
+    counts: &Counts,
+    due: bool,
 ) -> Result<(), StoryStop>
-    ensures tells { (c : Counts) → watch.old.counts ≡ capped_counts c
-        → TellsText (counts_line c (machine_view watch.old.book)) (K.state sink.old) (K.state sink.new) result }
-    ensures counts { watch.new.counts ≡ watch.old.counts }
-    ensures play { play_of P.policy T.notes watch.new ≡ play_of P.policy T.notes watch.old }
-    ensures settings { (machine_view watch.new.book).settings ≡ (machine_view watch.old.book).settings }
-    ensures telling { watch.new.telling ≡ watch.old.telling }
-    ensures count { watch.new.count ≡ watch.old.count }
+    ensures { (c : Counts) → (due ≡ true → counts.now ≡ capped_counts c)
+        → TellsText (if due then counts_line c state.now.view else []) (K.state sink.old) (K.state sink.new) result }
 {
-    watch.line.clear();
-    if put_counts(&mut watch.line, &watch.counts, watch.book.state()).is_err() {
+    if !due {
+        return Ok(());
+    }
+    line.clear();
+    if put_counts(line, counts, state).is_err() {
         return Err(StoryStop::Memory);
     }
-    tell_text(sink, watch.line.as_bytes())
-}
-
-/// Tells the counts where they are due behind so many rounds, or moments where the course has no rounds.
-pub(crate) fn tell_counts_behind<N: Naming, P: Placer, T: Tap, K: Sink>(
-    watch: &mut Watch<N, P, T>,
-    sink: &mut K,
-    number: u64,
-) -> Result<(), StoryStop>
-    ensures tells { (c : Counts) → (has_counts watch.old.telling ≡ true → watch.old.counts ≡ capped_counts c)
-        → TellsText
-        (if are_counts_due watch.old.telling number then counts_line c (machine_view watch.old.book) else [])
-        (K.state sink.old) (K.state sink.new) result }
-    ensures counts { watch.new.counts ≡ watch.old.counts }
-    ensures play { play_of P.policy T.notes watch.new ≡ play_of P.policy T.notes watch.old }
-    ensures settings { (machine_view watch.new.book).settings ≡ (machine_view watch.old.book).settings }
-    ensures telling { watch.new.telling ≡ watch.old.telling }
-    ensures count { watch.new.count ≡ watch.old.count }
-{
-    if are_counts_due(watch.telling, number) {
-        tell_line(watch, sink)
-    } else {
-        Ok(())
-    }
+    tell_text(sink, line.as_bytes())
 }
 
 /// Tells the counts at the end of a course, where counts are told.
-pub(crate) fn tell_last_counts<N: Naming, P: Placer, T: Tap, K: Sink>(
-    watch: &mut Watch<N, P, T>,
+pub(crate) fn tell_last_counts<N: Naming, K: Sink>(
+    printer: &mut Printer,
     sink: &mut K,
+    state: &State<N>,
+    telling: Telling,
 ) -> Result<(), StoryStop>
-    ensures tells { (c : Counts) → (has_counts watch.old.telling ≡ true → watch.old.counts ≡ capped_counts c)
-        → TellsText (if has_counts watch.old.telling then counts_line c (machine_view watch.old.book) else [])
+    ensures { (c : Counts) → (has_counts telling ≡ true → printer.old.told.counts ≡ capped_counts c)
+        → TellsText (if has_counts telling then counts_line c state.now.view else [])
         (K.state sink.old) (K.state sink.new) result }
-    ensures play { play_of P.policy T.notes watch.new ≡ play_of P.policy T.notes watch.old }
 {
-    if has_counts(watch.telling) {
-        tell_line(watch, sink)
-    } else {
-        Ok(())
-    }
+    tell_counts_if(
+        &mut printer.line,
+        sink,
+        state,
+        &printer.told.counts,
+        has_counts(telling),
+    )
 }
 
 /// Counts an act that isn't asked for, where counts are told.
-pub(crate) fn pass_act<N: Naming, P: Placer, T: Tap>(watch: &mut Watch<N, P, T>, act: Act)
-    ensures counts { (c : Counts) → has_counts watch.old.telling ≡ true → watch.old.counts ≡ capped_counts c
-        → watch.new.counts ≡ capped_counts (after_passed act c) }
-    ensures play { play_of P.policy T.notes watch.new ≡ play_of P.policy T.notes watch.old }
-    ensures settings { (machine_view watch.new.book).settings ≡ (machine_view watch.old.book).settings }
-    ensures telling { watch.new.telling ≡ watch.old.telling }
-    ensures count { watch.new.count ≡ watch.old.count }
+pub(crate) fn pass_act(counts: &mut Counts, telling: Telling, act: Act)
+    ensures { (c : Counts) → has_counts telling ≡ true → counts.old ≡ capped_counts c
+        → counts.new ≡ capped_counts (after_passed act c) }
 {
-    if has_counts(watch.telling) {
-        watch.counts.pass(act);
+    if has_counts(telling) {
+        counts.pass(act);
     }
 }
 
-/// Counts a round that ended, where counts are told, and tells them where they are due behind so many.
-pub(crate) fn end_round<N: Naming, P: Placer, T: Tap, K: Sink>(
-    watch: &mut Watch<N, P, T>,
-    sink: &mut K,
-    rounds: u64,
-) -> Result<(), StoryStop>
-    ensures tells { (c : Counts) → (has_counts watch.old.telling ≡ true → watch.old.counts ≡ capped_counts c)
-        → TellsText (if are_counts_due watch.old.telling rounds
-        then counts_line (after_round c) (machine_view watch.old.book) else [])
-        (K.state sink.old) (K.state sink.new) result }
-    ensures counts { (c : Counts) → has_counts watch.old.telling ≡ true → watch.old.counts ≡ capped_counts c
-        → watch.new.counts ≡ capped_counts (after_round c) }
-    ensures play { play_of P.policy T.notes watch.new ≡ play_of P.policy T.notes watch.old }
-    ensures settings { (machine_view watch.new.book).settings ≡ (machine_view watch.old.book).settings }
-    ensures telling { watch.new.telling ≡ watch.old.telling }
-    ensures count { watch.new.count ≡ watch.old.count }
+/// Counts a round, where one ended: where so many had ended before an act, and so many behind it.
+fn count_round(counts: &mut Counts, before: u64, now: u64)
+    ensures { (c : Counts) → counts.old ≡ capped_counts c
+        → counts.new ≡ capped_counts (if now == before then c else after_round c) }
 {
-    if has_counts(watch.telling) {
-        watch.counts.end_round();
-        tell_counts_behind(watch, sink, rounds)
+    if now != before {
+        counts.end_round();
+    }
+}
+
+/// Whether counts are due behind a round, where one ended: so many had ended before an act, and so many behind it.
+fn is_round_due(telling: Telling, before: u64, now: u64) -> bool
+    ensures { result ≡ (not (now == before) && are_counts_due telling now) }
+{
+    if now == before {
+        false
+    } else {
+        are_counts_due(telling, now)
+    }
+}
+
+/// Whether counts are due behind the act of this number, which led to a stage, where so many rounds had ended.
+fn is_due_behind(telling: Telling, stage: &Stage, round: u64, number: u64) -> bool
+    ensures { (settings : Settings) (script : List Act) (at : courses.Stage) → at.round ≡ round
+        → result ≡ is_due_behind telling (course_of stage.now.course settings script) number at (stage_of stage.now) }
+{
+    match stage.course {
+        CourseWord::Steps => are_counts_due(telling, number),
+        CourseWord::Least => are_counts_due(telling, number),
+        CourseWord::Lockstep { .. } => is_round_due(telling, round, stage.round),
+    }
+}
+
+/// Behind the act of this number, which led to a stage where so many rounds had ended: counts the end of its round, and
+/// tells the counts that are due, where counts are told.
+pub(crate) fn end_act<N: Naming, K: Sink>(
+    printer: &mut Printer,
+    sink: &mut K,
+    state: &State<N>,
+    telling: Telling,
+    stage: &Stage,
+    round: u64,
+    number: u64,
+) -> Result<(), StoryStop>
+    ensures tells { (settings : Settings) (script : List Act) (at : courses.Stage) (c : Counts) → at.round ≡ round
+        → (has_counts telling ≡ true → printer.old.told.counts ≡ capped_counts c)
+        → TellsText (line_behind telling (course_of stage.now.course settings script) number at (stage_of stage.now) c
+        state.now.view) (K.state sink.old) (K.state sink.new) result }
+    ensures counts { (at : courses.Stage) (c : Counts) → at.round ≡ round → has_counts telling ≡ true
+        → printer.old.told.counts ≡ capped_counts c
+        → printer.new.told.counts ≡ capped_counts (after_stage at (stage_of stage.now) c) }
+    ensures moments { printer.new.told.moments ≡ printer.old.told.moments }
+{
+    if has_counts(telling) {
+        count_round(&mut printer.told.counts, round, stage.round);
+        let due = is_due_behind(telling, stage, round, number);
+        tell_counts_if(&mut printer.line, sink, state, &printer.told.counts, due)
     } else {
         Ok(())
     }

@@ -1,10 +1,10 @@
 //! Laws of stories and their lines. Each is the contract of a function that does nothing.
 
 ghost use Rattle.watch_play.specs.Leaving.{LeastStoryAdvances, LeastStoryIsRun, StoryStaysSound};
-ghost use Rattle.watch_play.specs.Lockstep.{ForcedGetsOn, LockstepPlays, RoundsCommit};
+ghost use Rattle.watch_play.specs.Lockstep.{ForcedGetsOn, LockstepPlays, RoundsDispatch};
 ghost use Rattle.watch_play.specs.Replies.{MomentDoes, StoryPlays};
 ghost use Rattle.watch_play.specs.Rounds.{AskedIsMade, PassedIsRefused};
-ghost use Rattle.watch_play.specs.Twice.{StoryIsOne};
+ghost use Rattle.watch_play.specs.Twice.{EndIsOne, StoryIsOne};
 
 use rv_core::Naming;
 
@@ -39,11 +39,11 @@ pub fn forced_gets_on<N: Naming>()
     ensures { ForcedGetsOn N }
 {}
 
-/// Of a story in rounds no more rounds came than so many for each commit and as many again, where the least task is
-/// brought on behind so many barren ones: a story of enough rounds reaches the end of its run, its limit of commits or
-/// a trap. The number is one at least, as no stretch of no rounds is one that brought no commit.
-pub fn rounds_commit<N: Naming>()
-    ensures { RoundsCommit N }
+/// In a story in rounds no more rounds in a row than M commit no task and end while the least task waits: of each
+/// M + 1 rounds one commits a task, or ends with the least task dispatched, or with the run. M is one at least, since
+/// after each round at least none in a row was starved.
+pub fn rounds_dispatch<N: Naming>()
+    ensures { RoundsDispatch N }
 {}
 
 /// The acts that a story in rounds tells, in their order, are a script that is played so: lockstep is `steps` of the
@@ -74,4 +74,10 @@ pub fn least_story_is_run<N: Naming>()
 /// tasks were taken back, and no more.
 pub fn story_is_one<N: Naming>()
     ensures { StoryIsOne N }
+{}
+
+/// A course from an opening ends behind one number of acts and no other: so the numbers of rounds and of acts that it
+/// tells, and of lines, are determined.
+pub fn end_is_one<N: Naming>()
+    ensures { EndIsOne N }
 {}

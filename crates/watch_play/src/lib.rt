@@ -9,22 +9,24 @@
 #![tactic(auto)]
 
 mod counting;
-mod courses;
+mod driving;
 mod laws;
 mod lockstep;
 mod opening;
 mod playing;
+mod stage;
 mod stop;
 mod telling;
 mod watch;
 
-pub use courses::{play_least, play_script};
+pub use driving::play_course;
 pub use laws::{
-    asked_is_made, forced_gets_on, least_story_advances, least_story_is_run, lockstep_plays,
-    moment_does, passed_is_refused, rounds_commit, story_is_one, story_plays, story_stays_sound,
+    asked_is_made, end_is_one, forced_gets_on, least_story_advances, least_story_is_run,
+    lockstep_plays, moment_does, passed_is_refused, rounds_dispatch, story_is_one, story_plays,
+    story_stays_sound,
 };
-pub use lockstep::play_rounds;
 pub use opening::tell_opening;
 pub use stop::{StoryStop, tell_text};
 pub use telling::Telling;
-pub use watch::Watch;
+pub use watch::{Play, Printer, SoTold, Watch};
+pub use watch_counts::{conflict_book, spec_state, step_script, watch_text};

@@ -1,11 +1,10 @@
 //! What is told before the first act.
 
-ghost use Rattle.std.specs.Prelude.{◌≡◌, ◌++◌, OnOk};
+ghost use Rattle.std.specs.Prelude.{◌≡◌, ◌++◌, OnOk, [], if◌then◌else◌};
 ghost use Rattle.std.specs.String.{string_bytes};
-ghost use Rattle.conflict_book.specs.BookViews.{machine_view, view_of};
-ghost use Rattle.watch_text.specs.Opening.{head_line, placed_lines};
+ghost use Rattle.watch_counts.specs.conflict_book.BookViews.{machine_view, view_of};
+ghost use Rattle.watch_counts.specs.watch_text.Opening.{head_line, placed_lines};
 ghost use Rattle.watch_play.specs.Courses.{course_word};
-ghost use Rattle.watch_play.specs.Made.{play_of};
 ghost use Rattle.watch_play.specs.Telling.{Plan, TellsOpening, TellsText};
 
 use crate::stop::{StoryStop, tell_text};
@@ -17,67 +16,47 @@ use rv_core::Naming;
 use sim_io::Sink;
 use std::alloc::AllocError;
 use trace_tap::Tap;
-use watch_text::{CourseWord, put_head, put_placed};
+use watch_counts::spec_state::State;
+use watch_counts::watch_text::{CourseWord, put_head, put_placed};
 
-/// Puts the lines together.
-fn put_opening<N: Naming, P: Placer, T: Tap>(
-    watch: &mut Watch<N, P, T>,
+/// Puts the lines before the first act together, or the head alone.
+fn put_opening<N: Naming>(
+    line: &mut String,
     image: &Image,
     course: CourseWord,
+    state: &State<N>,
+    whole: bool,
 ) -> Result<(), AllocError>
-    ensures line { OnOk result (string_bytes watch.new.line
-        ≡ head_line course (machine_view watch.old.book).settings image.now
-        ++ placed_lines (machine_view watch.old.book)) }
-    ensures play { play_of P.policy T.notes watch.new ≡ play_of P.policy T.notes watch.old }
-    ensures telling { watch.new.telling ≡ watch.old.telling }
-    ensures count { watch.new.count ≡ watch.old.count }
-    ensures counts { watch.new.counts ≡ watch.old.counts }
+    ensures { let view = state.now.view in
+        OnOk result (string_bytes line.new ≡ head_line course view.settings image.now
+        ++ (if whole then placed_lines view else [])) }
 {
-    watch.line.clear();
-    put_head(&mut watch.line, course, watch.book.settings(), image)?;
-    put_placed(&mut watch.line, watch.book.state())
+    line.clear();
+    put_head(line, course, state.settings(), image)?;
+    if whole {
+        put_placed(line, state)
+    } else {
+        Ok(())
+    }
 }
 
-/// Tells the lines before the first act.
-fn tell_lines<N: Naming, P: Placer, T: Tap, K: Sink>(
-    watch: &mut Watch<N, P, T>,
+/// Tells the lines before the first act, or the head alone.
+fn tell_lines<N: Naming, K: Sink>(
+    line: &mut String,
     sink: &mut K,
     image: &Image,
     course: CourseWord,
+    state: &State<N>,
+    whole: bool,
 ) -> Result<(), StoryStop>
-    ensures tells { let view = machine_view watch.old.book in
-        TellsText (head_line course view.settings image.now ++ placed_lines view) (K.state sink.old)
-        (K.state sink.new) result }
-    ensures play { play_of P.policy T.notes watch.new ≡ play_of P.policy T.notes watch.old }
-    ensures telling { watch.new.telling ≡ watch.old.telling }
-    ensures count { watch.new.count ≡ watch.old.count }
-    ensures counts { watch.new.counts ≡ watch.old.counts }
+    ensures { let view = state.now.view in
+        TellsText (head_line course view.settings image.now ++ (if whole then placed_lines view else []))
+        (K.state sink.old) (K.state sink.new) result }
 {
-    if put_opening(watch, image, course).is_err() {
+    if put_opening(line, image, course, state, whole).is_err() {
         return Err(StoryStop::Memory);
     }
-    tell_text(sink, watch.line.as_bytes())
-}
-
-/// Tells the head alone.
-fn tell_head<N: Naming, P: Placer, T: Tap, K: Sink>(
-    watch: &mut Watch<N, P, T>,
-    sink: &mut K,
-    image: &Image,
-    course: CourseWord,
-) -> Result<(), StoryStop>
-    ensures tells { TellsText (head_line course (machine_view watch.old.book).settings image.now) (K.state sink.old)
-        (K.state sink.new) result }
-    ensures play { play_of P.policy T.notes watch.new ≡ play_of P.policy T.notes watch.old }
-    ensures telling { watch.new.telling ≡ watch.old.telling }
-    ensures count { watch.new.count ≡ watch.old.count }
-    ensures counts { watch.new.counts ≡ watch.old.counts }
-{
-    watch.line.clear();
-    if put_head(&mut watch.line, course, watch.book.settings(), image).is_err() {
-        return Err(StoryStop::Memory);
-    }
-    tell_text(sink, watch.line.as_bytes())
+    tell_text(sink, line.as_bytes())
 }
 
 /// Tells the head, and the tasks of the image where they were placed, where lines are told; where counts are, the head
@@ -89,17 +68,31 @@ pub fn tell_opening<N: Naming, P: Placer, T: Tap, K: Sink>(
     course: CourseWord,
 ) -> Result<(), StoryStop>
     ensures tells { (plan : Plan) → plan.image ≡ image.now → course_word plan.course ≡ course
-        → plan.settings ≡ (machine_view watch.old.book).settings → plan.telling ≡ watch.old.telling
-        → TellsOpening plan (view_of P.policy T.notes watch.old.book) (K.state sink.old) (K.state sink.new) result }
-    ensures play { play_of P.policy T.notes watch.new ≡ play_of P.policy T.notes watch.old }
+        → plan.settings ≡ (machine_view watch.old.play.book).settings → plan.telling ≡ watch.old.telling
+        → TellsOpening plan (view_of P.policy T.notes watch.old.play.book) (K.state sink.old) (K.state sink.new)
+        result }
+    ensures play { watch.new.play ≡ watch.old.play }
     ensures telling { watch.new.telling ≡ watch.old.telling }
-    ensures count { watch.new.count ≡ watch.old.count }
-    ensures counts { watch.new.counts ≡ watch.old.counts }
+    ensures told { watch.new.printer.told ≡ watch.old.printer.told }
 {
     if has_lines(watch.telling) {
-        tell_lines(watch, sink, image, course)
+        tell_lines(
+            &mut watch.printer.line,
+            sink,
+            image,
+            course,
+            watch.play.book.state(),
+            true,
+        )
     } else if has_counts(watch.telling) {
-        tell_head(watch, sink, image, course)
+        tell_lines(
+            &mut watch.printer.line,
+            sink,
+            image,
+            course,
+            watch.play.book.state(),
+            false,
+        )
     } else {
         Ok(())
     }

@@ -3,14 +3,14 @@
 ghost use Rattle.std.specs.Prelude.{◌≡◌, ◌+◌, ◌<◌, ◌^◌, ◌++◌, List, OnOk, ℕ, true};
 ghost use Rattle.std.specs.String.{string_bytes};
 ghost use Rattle.rv_core.specs.LegValue.{LegValue};
-ghost use Rattle.conflict_book.specs.BookViews.{effect_of, events_made, machine_view, view_of};
-ghost use Rattle.spec_state.specs.declared.task.Task.{Task};
-ghost use Rattle.spec_state.specs.Changes.{TakesLeg};
-ghost use Rattle.step_script.specs.Ranges.{ActIsInRange};
-ghost use Rattle.step_script.specs.Asking.{AskedIsInRange, AsksFor, asks_of};
-ghost use Rattle.step_script.specs.Playing.{HeldLeg, PlayState};
-ghost use Rattle.watch_text.specs.Lines.{rest_text};
-ghost use Rattle.watch_text.specs.Moments.{IsAbout, IsAskedFor, task_of};
+ghost use Rattle.watch_counts.specs.conflict_book.BookViews.{effect_of, events_made, machine_view, view_of};
+ghost use Rattle.watch_counts.specs.spec_state.declared.task.Task.{Task};
+ghost use Rattle.watch_counts.specs.spec_state.Changes.{TakesLeg};
+ghost use Rattle.watch_counts.specs.step_script.Ranges.{ActIsInRange};
+ghost use Rattle.watch_counts.specs.step_script.Asking.{AskedIsInRange, AsksFor, asks_of};
+ghost use Rattle.watch_counts.specs.step_script.Playing.{HeldLeg, PlayState};
+ghost use Rattle.watch_counts.specs.watch_text.Lines.{rest_text};
+ghost use Rattle.watch_counts.specs.watch_text.Moments.{IsAbout, IsAskedFor, task_of};
 ghost use Rattle.watch_play.specs.Made.{TellsAct, play_of};
 ghost use Rattle.watch_play.specs.Playing.{ComesToLine, MakesAct};
 ghost use Rattle.watch_play.specs.Texts.{IsTellable, has_counts, has_lines, is_due, view_text};
@@ -22,18 +22,20 @@ ghost use Rattle.watch_counts.specs.Work.{done_by};
 
 use crate::stop::StoryStop;
 use crate::telling::{Telling, has_counts, has_lines};
-use crate::watch::Watch;
-use conflict_book::{Book, Reply};
+use crate::watch::{Play, Printer, SoTold};
 use guest_image::Image;
 use place_policy::Placer;
 use rv_core::{Leg, Naming};
 use sim_io::{Sink, write_all};
-use spec_state::State;
 use std::alloc::AllocError;
-use step_script::{Act, Asked};
 use trace_tap::Tap;
-use watch_counts::{Done, done_by};
-use watch_text::{About, Answer, about_of, about_taken, put_front, put_rest, put_view};
+use watch_counts::conflict_book::{Book, Reply};
+use watch_counts::spec_state::State;
+use watch_counts::step_script::{Act, Asked};
+use watch_counts::watch_text::{
+    About, Answer, about_of, about_taken, put_front, put_rest, put_view,
+};
+use watch_counts::{Counts, Done, done_by};
 
 /// What came of an act.
 #[derive(Clone, Copy, Debug, PartialEq, Eq)]
@@ -77,77 +79,79 @@ fn put_view_behind<N: Naming, P: Placer, T: Tap>(
     }
 }
 
-/// The rest of the line of an act, and the view behind it where it is told.
+/// The rest of the line of an act, the last of so many moments, and the view behind it where it is told.
 fn tell_rest<N: Naming, P: Placer, T: Tap>(
-    watch: &mut Watch<N, P, T>,
+    line: &mut String,
+    book: &Book<N, P, T>,
+    telling: Telling,
+    number: u64,
     asked: &Asked,
     about: &About,
     answer: &Answer,
 ) -> Result<(), AllocError>
-    requires events { answer.now.events ≡ events_made watch.old.book }
-    requires telling { IsTellable watch.old.telling }
-    ensures line { (leg : LegValue) → let view = machine_view watch.old.book in
-        OnOk result (string_bytes watch.new.line ≡ string_bytes watch.old.line
-        ++ rest_text (effect_of watch.old.book) answer.now.output view (asks_of {N = N} asked.now leg)
-        (task_of about.now) about.now.request answer.now.reply answer.now.aborted (events_made watch.old.book)
-        ++ view_text watch.old.telling watch.old.count view (events_made watch.old.book)) }
-    ensures play { play_of P.policy T.notes watch.new ≡ play_of P.policy T.notes watch.old }
-    ensures telling { watch.new.telling ≡ watch.old.telling }
-    ensures count { watch.new.count ≡ watch.old.count }
+    requires events { answer.now.events ≡ events_made book.now }
+    requires telling { IsTellable telling }
+    ensures { (leg : LegValue) → let view = machine_view book.now in
+        OnOk result (string_bytes line.new ≡ string_bytes line.old
+        ++ rest_text (effect_of book.now) answer.now.output view (asks_of {N = N} asked.now leg)
+        (task_of about.now) about.now.request answer.now.reply answer.now.aborted (events_made book.now)
+        ++ view_text telling number view (events_made book.now)) }
 {
-    let state = watch.book.state();
-    put_rest(
-        &mut watch.line,
-        state,
-        asked,
-        about,
-        watch.book.effect(),
-        answer,
-    )?;
-    put_view_behind(&mut watch.line, &watch.book, watch.telling, watch.count)
+    put_rest(line, book.state(), asked, about, book.effect(), answer)?;
+    put_view_behind(line, book, telling, number)
 }
 
 /// Plays an act of this number, from 1, and puts its line together, where lines are told.
 fn play_act<N: Naming, P: Placer, T: Tap>(
-    watch: &mut Watch<N, P, T>,
+    play: &mut Play<N, P, T>,
+    printer: &mut Printer,
     image: &Image,
+    telling: Telling,
     at: u64,
     act: Act,
 ) -> PlayedAct
     requires image { image.now ≡ N.image }
-    requires within { let settings = (machine_view watch.old.book).settings in
+    requires within { let settings = (machine_view play.old.book).settings in
         ActIsInRange settings.tiles settings.cores act }
-    requires telling { IsTellable watch.old.telling }
-    requires lines { has_lines watch.old.telling ≡ true }
-    requires count { watch.old.count + 1 < 2 ^ 64 }
-    ensures comes { ComesToLine N N.image watch.old.telling at (watch.old.count + 1) act
-        (play_of P.policy T.notes watch.old) result (string_bytes watch.new.line) (play_of P.policy T.notes watch.new) }
-    ensures settings { (machine_view watch.new.book).settings ≡ (machine_view watch.old.book).settings }
-    ensures telling { watch.new.telling ≡ watch.old.telling }
-    ensures count { result ≡ PlayedAct.Told → watch.new.count ≡ watch.old.count + 1 }
+    requires telling { IsTellable telling }
+    requires lines { has_lines telling ≡ true }
+    requires count { printer.old.told.moments + 1 < 2 ^ 64 }
+    ensures comes { ComesToLine N N.image telling at (printer.old.told.moments + 1) act
+        (play_of P.policy T.notes play.old) result (string_bytes printer.new.line) (play_of P.policy T.notes play.new) }
+    ensures settings { (machine_view play.new.book).settings ≡ (machine_view play.old.book).settings }
+    ensures count { result ≡ PlayedAct.Told → printer.new.told.moments ≡ printer.old.told.moments + 1 }
 {
-    let Ok(asked) = watch.player.ask(image, &watch.book, act) else {
+    let Ok(asked) = play.player.ask(image, &play.book, act) else {
         return PlayedAct::Unmade;
     };
-    let leg = watch.player.leg();
-    let about = about_act(watch.book.state(), act, &asked, leg);
-    let output = watch.book.state().output().len();
-    watch.line.clear();
-    if put_front(&mut watch.line, at, act, &asked, &about, leg).is_err() {
+    let leg = play.player.leg();
+    let about = about_act(play.book.state(), act, &asked, leg);
+    let output = play.book.state().output().len();
+    printer.line.clear();
+    if put_front(&mut printer.line, at, act, &asked, &about, leg).is_err() {
         return PlayedAct::Unmade;
     }
-    let applied = watch.player.make(&mut watch.book, asked);
+    let applied = play.player.make(&mut play.book, asked);
     if applied.reply == Reply::Memory {
         return PlayedAct::Unmade;
     }
-    watch.count += 1;
+    printer.told.moments += 1;
     let answer = Answer {
         reply: applied.reply,
         aborted: applied.aborted,
-        events: watch.book.steps(),
+        events: play.book.steps(),
         output,
     };
-    match tell_rest(watch, &asked, &about, &answer) {
+    let number = printer.told.moments;
+    match tell_rest(
+        &mut printer.line,
+        &play.book,
+        telling,
+        number,
+        &asked,
+        &about,
+        &answer,
+    ) {
         Ok(()) => PlayedAct::Told,
         Err(_) => PlayedAct::Untold,
     }
@@ -155,27 +159,28 @@ fn play_act<N: Naming, P: Placer, T: Tap>(
 
 /// Plays an act of this number, and tells its line.
 fn tell_line<N: Naming, P: Placer, T: Tap, K: Sink>(
-    watch: &mut Watch<N, P, T>,
+    play: &mut Play<N, P, T>,
+    printer: &mut Printer,
     sink: &mut K,
     image: &Image,
+    telling: Telling,
     at: u64,
     act: Act,
 ) -> Result<(), StoryStop>
     requires image { image.now ≡ N.image }
-    requires within { let settings = (machine_view watch.old.book).settings in
+    requires within { let settings = (machine_view play.old.book).settings in
         ActIsInRange settings.tiles settings.cores act }
-    requires telling { IsTellable watch.old.telling }
-    requires lines { has_lines watch.old.telling ≡ true }
-    requires count { watch.old.count + 1 < 2 ^ 64 }
-    ensures tells { TellsAct N N.image watch.old.telling at (watch.old.count + 1) act
-        (play_of P.policy T.notes watch.old) (play_of P.policy T.notes watch.new) watch.old.counts watch.new.counts
+    requires telling { IsTellable telling }
+    requires lines { has_lines telling ≡ true }
+    requires count { printer.old.told.moments + 1 < 2 ^ 64 }
+    ensures tells { TellsAct N N.image telling at printer.old.told printer.new.told act
+        (play_of P.policy T.notes play.old) (play_of P.policy T.notes play.new)
         (K.state sink.old) (K.state sink.new) result }
-    ensures settings { (machine_view watch.new.book).settings ≡ (machine_view watch.old.book).settings }
-    ensures telling { watch.new.telling ≡ watch.old.telling }
-    ensures count { OnOk result (watch.new.count ≡ watch.old.count + 1) }
+    ensures settings { (machine_view play.new.book).settings ≡ (machine_view play.old.book).settings }
+    ensures count { OnOk result (printer.new.told.moments ≡ printer.old.told.moments + 1) }
 {
-    match play_act(watch, image, at, act) {
-        PlayedAct::Told => match write_all(sink, watch.line.as_bytes()) {
+    match play_act(play, printer, image, telling, at, act) {
+        PlayedAct::Told => match write_all(sink, printer.line.as_bytes()) {
             Ok(()) => Ok(()),
             Err(_) => Err(StoryStop::Sink),
         },
@@ -221,16 +226,17 @@ fn about_act<N: Naming>(state: &State<N>, act: Act, asked: &Asked, leg: &Leg<N>)
 }
 
 /// What the task has done that a commit is about, where counts are told.
-fn done_before<N: Naming, P: Placer, T: Tap>(
-    watch: &Watch<N, P, T>,
+fn done_before<N: Naming>(
+    state: &State<N>,
+    telling: Telling,
     asked: &Asked,
     about: &About,
 ) -> Option<Done>
-    ensures { (leg : LegValue) → has_counts watch.now.telling ≡ true → result
-        ≡ done_by {N = N} (machine_view watch.now.book) (asks_of asked.now leg) (task_of about.now) }
+    ensures { (leg : LegValue) → has_counts telling ≡ true → result
+        ≡ done_by {N = N} state.now.view (asks_of asked.now leg) (task_of about.now) }
 {
-    if has_counts(watch.telling) {
-        done_by(watch.book.state(), asked, about)
+    if has_counts(telling) {
+        done_by(state, asked, about)
     } else {
         None
     }
@@ -239,7 +245,9 @@ fn done_before<N: Naming, P: Placer, T: Tap>(
 /// Counts an act that was played, where counts are told: its number, what it came to, with how many instructions its
 /// leg has, what that is about, what the task had done that a commit is about, and the reply.
 fn count_moment<N: Naming, P: Placer, T: Tap>(
-    watch: &mut Watch<N, P, T>,
+    counts: &mut Counts,
+    book: &Book<N, P, T>,
+    telling: Telling,
     at: u64,
     act: Act,
     asked: &Asked,
@@ -248,82 +256,88 @@ fn count_moment<N: Naming, P: Placer, T: Tap>(
     done: &Option<Done>,
     reply: Reply,
 )
-    ensures counts { (leg : LegValue) (c : Counts) → has_counts watch.old.telling ≡ true → leg.steps ≡ steps
-        → watch.old.counts ≡ capped_counts c → watch.new.counts ≡ capped_counts
+    ensures { (leg : LegValue) (c : Counts) → has_counts telling ≡ true → leg.steps ≡ steps
+        → counts.old ≡ capped_counts c → counts.new ≡ capped_counts
         (after_attempt reply (asks_of {N = N} asked.now leg) (task_of about.now) about.now.request
-        (effect_of watch.old.book) done.now (machine_view watch.old.book)
-        (after_told at (kind_done act (asks_of {N = N} asked.now leg)) c)) }
-    ensures play { play_of P.policy T.notes watch.new ≡ play_of P.policy T.notes watch.old }
-    ensures telling { watch.new.telling ≡ watch.old.telling }
-    ensures count { watch.new.count ≡ watch.old.count }
+        (effect_of book.now) done.now (machine_view book.now)
+        (after_told at act (kind_done act (asks_of {N = N} asked.now leg)) c)) }
 {
-    if has_counts(watch.telling) {
-        let effect = watch.book.effect();
-        let state = watch.book.state();
-        watch
-            .counts
-            .note(at, act, asked, steps, about, done, reply, effect, state);
+    if has_counts(telling) {
+        let (effect, state) = (book.effect(), book.state());
+        counts.note(at, act, asked, steps, about, done, reply, effect, state);
     }
 }
 
 /// Plays an act of this number, of which no line is told, and counts it where counts are.
 fn make_act<N: Naming, P: Placer, T: Tap>(
-    watch: &mut Watch<N, P, T>,
+    play: &mut Play<N, P, T>,
+    told: &mut SoTold,
     image: &Image,
+    telling: Telling,
     at: u64,
     act: Act,
 ) -> Result<(), StoryStop>
     requires image { image.now ≡ N.image }
-    requires within { let settings = (machine_view watch.old.book).settings in
+    requires within { let settings = (machine_view play.old.book).settings in
         ActIsInRange settings.tiles settings.cores act }
-    requires count { watch.old.count + 1 < 2 ^ 64 }
-    ensures makes { MakesAct N N.image watch.old.telling at (watch.old.count + 1) act
-        (play_of P.policy T.notes watch.old) (play_of P.policy T.notes watch.new) watch.old.counts watch.new.counts
-        result }
-    ensures settings { (machine_view watch.new.book).settings ≡ (machine_view watch.old.book).settings }
-    ensures telling { watch.new.telling ≡ watch.old.telling }
-    ensures count { OnOk result (watch.new.count ≡ watch.old.count + 1) }
+    requires count { told.old.moments + 1 < 2 ^ 64 }
+    ensures makes { MakesAct N N.image telling at told.old told.new act
+        (play_of P.policy T.notes play.old) (play_of P.policy T.notes play.new) result }
+    ensures settings { (machine_view play.new.book).settings ≡ (machine_view play.old.book).settings }
+    ensures count { OnOk result (told.new.moments ≡ told.old.moments + 1) }
 {
-    let Ok(asked) = watch.player.ask(image, &watch.book, act) else {
+    let Ok(asked) = play.player.ask(image, &play.book, act) else {
         return Err(StoryStop::Memory);
     };
-    let leg = watch.player.leg();
+    let leg = play.player.leg();
     let steps = leg.steps();
     // What the act is about belongs to its moment, told or not.
-    let about = about_act(watch.book.state(), act, &asked, leg);
-    let done = done_before(watch, &asked, &about);
-    let applied = watch.player.make(&mut watch.book, asked);
+    let about = about_act(play.book.state(), act, &asked, leg);
+    let done = done_before(play.book.state(), telling, &asked, &about);
+    let applied = play.player.make(&mut play.book, asked);
     if applied.reply == Reply::Memory {
         return Err(StoryStop::Memory);
     }
-    watch.count += 1;
-    count_moment(watch, at, act, &asked, steps, &about, &done, applied.reply);
+    told.moments += 1;
+    count_moment(
+        &mut told.counts,
+        &play.book,
+        telling,
+        at,
+        act,
+        &asked,
+        steps,
+        &about,
+        &done,
+        applied.reply,
+    );
     Ok(())
 }
 
 /// Plays an act of this number, and tells it where lines are told; else the sink is left alone.
 pub(crate) fn tell_act<N: Naming, P: Placer, T: Tap, K: Sink>(
-    watch: &mut Watch<N, P, T>,
+    play: &mut Play<N, P, T>,
+    printer: &mut Printer,
     sink: &mut K,
     image: &Image,
+    telling: Telling,
     at: u64,
     act: Act,
 ) -> Result<(), StoryStop>
     requires image { image.now ≡ N.image }
-    requires within { let settings = (machine_view watch.old.book).settings in
+    requires within { let settings = (machine_view play.old.book).settings in
         ActIsInRange settings.tiles settings.cores act }
-    requires telling { IsTellable watch.old.telling }
-    requires count { watch.old.count + 1 < 2 ^ 64 }
-    ensures tells { TellsAct N N.image watch.old.telling at (watch.old.count + 1) act
-        (play_of P.policy T.notes watch.old) (play_of P.policy T.notes watch.new) watch.old.counts watch.new.counts
+    requires telling { IsTellable telling }
+    requires count { printer.old.told.moments + 1 < 2 ^ 64 }
+    ensures tells { TellsAct N N.image telling at printer.old.told printer.new.told act
+        (play_of P.policy T.notes play.old) (play_of P.policy T.notes play.new)
         (K.state sink.old) (K.state sink.new) result }
-    ensures settings { (machine_view watch.new.book).settings ≡ (machine_view watch.old.book).settings }
-    ensures telling { watch.new.telling ≡ watch.old.telling }
-    ensures count { OnOk result (watch.new.count ≡ watch.old.count + 1) }
+    ensures settings { (machine_view play.new.book).settings ≡ (machine_view play.old.book).settings }
+    ensures count { OnOk result (printer.new.told.moments ≡ printer.old.told.moments + 1) }
 {
-    if has_lines(watch.telling) {
-        tell_line(watch, sink, image, at, act)
+    if has_lines(telling) {
+        tell_line(play, printer, sink, image, telling, at, act)
     } else {
-        make_act(watch, image, at, act)
+        make_act(play, &mut printer.told, image, telling, at, act)
     }
 }

@@ -4,7 +4,7 @@ use Rattle.std.proofs.Common.{sym, take}
 use Rattle.std.specs.Prelude.{cond, filter}
 use Rattle.std.proofs.lemmas.List.{append-nil, map-append}
 use Rattle.std.proofs.lemmas.List.Elements.{filter_more}
-use Rattle.spec_state.specs.declared.effect.TakenTask.{TakenTask}
+use Rattle.script_text.specs.spec_state.declared.effect.TakenTask.{TakenTask}
 use Rattle.watch_text.specs.Changes.{gone_ids}
 
 abbrev is_gone : TakenTask → Bool

@@ -5,10 +5,10 @@ use Rattle.std.specs.declared.option.Option.{Option}
 use Rattle.std.specs.declared.result.Result.{Result}
 use Rattle.std.proofs.lemmas.Result.{on_ok_weaker}
 use Rattle.task_request.specs.declared.request.Request.{Request}
-use Rattle.spec_state.specs.Effects.{EffectValue}
-use Rattle.spec_state.specs.View.{View}
-use Rattle.event_def.specs.declared.event.Event.{Event}
-use Rattle.step_script.specs.Asking.{Attempt, Hands}
+use Rattle.script_text.specs.spec_state.Effects.{EffectValue}
+use Rattle.script_text.specs.spec_state.View.{View}
+use Rattle.script_text.specs.event_def.declared.event.Event.{Event}
+use Rattle.script_text.specs.step_script.Asking.{Attempt, Hands}
 use Rattle.watch_text.specs.Changes.{change_text, own_text, taken_text}
 
 -- what changed is what it took back and spilled, and its own change

@@ -4,3 +4,4 @@ mod Joined
 mod Handed
 mod Gone
 mod Taken
+pub mod Below

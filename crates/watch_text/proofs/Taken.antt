@@ -1,9 +1,9 @@
 -- The task that takes a leg on a core.
 use Rattle.std.proofs.Common.{◌≡◌, ◌∙◌, ℕ, Some, None, subst, sym, slice_get}
 use Rattle.rv_core.specs.LegValue.{LegValue}
-use Rattle.spec_state.specs.declared.task.Task.{Task}
-use Rattle.spec_state.specs.Changes.{TakesLeg}
-use Rattle.spec_state.specs.View.{View, cores_at}
+use Rattle.script_text.specs.spec_state.declared.task.Task.{Task}
+use Rattle.script_text.specs.spec_state.Changes.{TakesLeg}
+use Rattle.script_text.specs.spec_state.View.{View, cores_at}
 
 module _ (view : View) (tile core : ℕ) (leg : LegValue)
     (takes : (id : ℕ) × (task : Task) × TakesLeg view tile core leg id task) where

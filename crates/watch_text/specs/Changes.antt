@@ -7,19 +7,19 @@ use Rattle.task_request.specs.declared.request.Request.{Request}
 use Rattle.task_request.specs.declared.request.Request.TheVariants as requests
 use Rattle.undo_log.specs.declared.access.Access.{Access}
 use Rattle.script_text.specs.Replies.{reply_text}
-use Rattle.spec_state.specs.declared.effect.SpilledTask.{SpilledTask}
-use Rattle.spec_state.specs.declared.effect.TakenTask.{TakenTask}
-use Rattle.spec_state.specs.declared.task.Status.{Status}
-use Rattle.spec_state.specs.declared.task.Status.TheVariants.{Idle, Running, Trapped, Finished}
-use Rattle.spec_state.specs.declared.task.Task.{Task}
-use Rattle.spec_state.specs.declared.task.TaskId.{TaskId}
-use Rattle.spec_state.specs.Effects.{EffectValue}
-use Rattle.spec_state.specs.Fronts.{name_given}
-use Rattle.spec_state.specs.View.{View, task_at}
-use Rattle.event_def.specs.declared.event.Event.TheVariants as event
-use Rattle.event_def.specs.declared.event.Reply.{Reply}
-use Rattle.event_def.specs.declared.event.Reply.TheVariants as reply
-use Rattle.step_script.specs.Asking.{Attempt, Hands, Says}
+use Rattle.script_text.specs.spec_state.declared.effect.SpilledTask.{SpilledTask}
+use Rattle.script_text.specs.spec_state.declared.effect.TakenTask.{TakenTask}
+use Rattle.script_text.specs.spec_state.declared.task.Status.{Status}
+use Rattle.script_text.specs.spec_state.declared.task.Status.TheVariants.{Idle, Running, Trapped, Finished}
+use Rattle.script_text.specs.spec_state.declared.task.Task.{Task}
+use Rattle.script_text.specs.spec_state.declared.task.TaskId.{TaskId}
+use Rattle.script_text.specs.spec_state.Effects.{EffectValue}
+use Rattle.script_text.specs.spec_state.Fronts.{name_given}
+use Rattle.script_text.specs.spec_state.View.{View, task_at}
+use Rattle.script_text.specs.event_def.declared.event.Event.TheVariants as event
+use Rattle.script_text.specs.event_def.declared.event.Reply.{Reply}
+use Rattle.script_text.specs.event_def.declared.event.Reply.TheVariants as reply
+use Rattle.script_text.specs.step_script.Asking.{Attempt, Hands, Says}
 use Rattle.watch_text.specs.Fields.{hex_text, items_field, name_field, number_field, pair_text, some_field, word_field}
 
 -- the last item

@@ -6,7 +6,7 @@ use Rattle.guest_image.specs.declared.image.Kind.{Kind}
 use Rattle.guest_image.specs.declared.image.Kind.TheVariants.{Unordered, Ordered}
 use Rattle.line_table.specs.declared.lines.FilterKind.{FilterKind}
 use Rattle.line_table.specs.declared.lines.FilterKind.TheVariants.{Modulo, Bloom, Exact}
-use Rattle.report_text.specs.Hex.{byte_hex}
+use Rattle.script_text.specs.report_text.Hex.{byte_hex}
 
 -- a number under a name
 abbrev pub number_field : List ℕ → ℕ → List ℕ

@@ -2,10 +2,10 @@
 use Rattle.std.specs.Prelude.{ℕ, List, ◌++◌, codes, length}
 use Rattle.std.specs.declared.option.Option.{Option}
 use Rattle.task_request.specs.declared.request.Request.{Request}
-use Rattle.spec_state.specs.Effects.{EffectValue}
-use Rattle.spec_state.specs.View.{View}
-use Rattle.event_def.specs.declared.event.Reply.{Reply}
-use Rattle.step_script.specs.Asking.{Attempt}
+use Rattle.script_text.specs.spec_state.Effects.{EffectValue}
+use Rattle.script_text.specs.spec_state.View.{View}
+use Rattle.script_text.specs.event_def.declared.event.Reply.{Reply}
+use Rattle.script_text.specs.step_script.Asking.{Attempt}
 use Rattle.watch_text.specs.Changes.{change_by, change_text, reply_part}
 use Rattle.watch_text.specs.Moments.{Moment}
 use Rattle.watch_text.specs.Requests.{front_text}

@@ -3,19 +3,19 @@ use Rattle.std.specs.Prelude.{◌≡◌, ℕ, Some, None, slice_get, option_map}
 use Rattle.std.specs.declared.option.Option.{Option}
 use Rattle.guest_image.specs.ImageValue.{ImageValue}
 use Rattle.task_request.specs.declared.request.Request.{Request}
-use Rattle.spec_state.specs.declared.task.Task.{Task}
-use Rattle.spec_state.specs.Effects.{EffectValue}
-use Rattle.spec_state.specs.View.{View, cores_at}
-use Rattle.spec_state.specs.Changes.{TakesLeg, request_of}
-use Rattle.spec_state.specs.Least.{IsTheLeast}
-use Rattle.spec_state.specs.Queries.{IsDispatched, IsIdle, IsLatestDispatched, IsLeastIdle}
-use Rattle.event_def.specs.declared.event.Event.TheVariants as event
-use Rattle.event_def.specs.declared.event.Reply.{Reply}
-use Rattle.event_def.specs.Book.{BookView}
-use Rattle.event_def.specs.Causes.{IsStale}
-use Rattle.step_script.specs.declared.act.Act.{Act}
-use Rattle.step_script.specs.Asking.{AsksFor, Attempt, AttemptTells, ComesOf, Hands, Says}
-use Rattle.step_script.specs.Playing.{PlayState}
+use Rattle.script_text.specs.spec_state.declared.task.Task.{Task}
+use Rattle.script_text.specs.spec_state.Effects.{EffectValue}
+use Rattle.script_text.specs.spec_state.View.{View, cores_at}
+use Rattle.script_text.specs.spec_state.Changes.{TakesLeg, request_of}
+use Rattle.script_text.specs.spec_state.Least.{IsTheLeast}
+use Rattle.script_text.specs.spec_state.Queries.{IsDispatched, IsIdle, IsLatestDispatched, IsLeastIdle}
+use Rattle.script_text.specs.event_def.declared.event.Event.TheVariants as event
+use Rattle.script_text.specs.event_def.declared.event.Reply.{Reply}
+use Rattle.script_text.specs.event_def.Book.{BookView}
+use Rattle.script_text.specs.event_def.Causes.{IsStale}
+use Rattle.script_text.specs.step_script.declared.act.Act.{Act}
+use Rattle.script_text.specs.step_script.Asking.{AsksFor, Attempt, AttemptTells, ComesOf, Hands, Says}
+use Rattle.script_text.specs.step_script.Playing.{PlayState}
 use Rattle.watch_text.specs.declared.about.About.{About}
 
 -- the number of the act, and which of the told ones it is, both from 1; the act, what it came to, the task that this

@@ -6,10 +6,10 @@ use Rattle.guest_image.specs.ImageValue.{ImageValue}
 use Rattle.spill_store.specs.SpilledTasks.{Spilled}
 use Rattle.task_desc.specs.declared.desc.Desc.{Desc}
 use Rattle.line_table.specs.declared.lines.FilterKind.{FilterKind}
-use Rattle.spec_state.specs.declared.settings.Settings.{Settings}
-use Rattle.spec_state.specs.declared.task.Task.{Task}
-use Rattle.spec_state.specs.Fronts.{name_given}
-use Rattle.spec_state.specs.View.{View, block_at, queue_at, task_at}
+use Rattle.script_text.specs.spec_state.declared.settings.Settings.{Settings}
+use Rattle.script_text.specs.spec_state.declared.task.Task.{Task}
+use Rattle.script_text.specs.spec_state.Fronts.{name_given}
+use Rattle.script_text.specs.spec_state.View.{View, block_at, queue_at, task_at}
 use Rattle.watch_text.specs.declared.head.CourseWord.{CourseWord}
 use Rattle.watch_text.specs.declared.head.CourseWord.TheVariants as courses
 use Rattle.watch_text.specs.declared.placed.Placed.{Placed}
@@ -18,16 +18,16 @@ use Rattle.watch_text.specs.Fields.{window_field, word_field}
 
 -- ---- the head
 
--- how many rounds, what their orders are drawn from, and how many may be barren
-abbrev pub rounds_text : (rounds seed barren : ℕ) → List ℕ
-rounds_text rounds seed barren =
-    number_field (codes "rounds") rounds ++ number_field (codes "seed") seed ++ number_field (codes "barren") barren
+-- how many rounds, what their orders are drawn from, and how many may be starved
+abbrev pub rounds_text : (rounds seed starved : ℕ) → List ℕ
+rounds_text rounds seed starved =
+    number_field (codes "rounds") rounds ++ number_field (codes "seed") seed ++ number_field (codes "starved") starved
 
 abbrev pub course_text : CourseWord → List ℕ
 course_text courses.Steps = word_field (codes "course") (codes "steps")
 course_text courses.Least = word_field (codes "course") (codes "least")
-course_text (courses.Lockstep rounds seed barren) =
-    word_field (codes "course") (codes "lockstep") ++ rounds_text rounds seed barren
+course_text (courses.Lockstep rounds seed starved) =
+    word_field (codes "course") (codes "lockstep") ++ rounds_text rounds seed starved
 
 -- how large a tile is, and how many there are
 unfoldable pub sizes_text : Settings → List ℕ

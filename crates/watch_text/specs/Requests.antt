@@ -8,12 +8,12 @@ use Rattle.task_desc.specs.declared.desc.Place.TheVariants.{Same, Sub, Super}
 use Rattle.task_desc.specs.declared.desc.Spawn.{Spawn}
 use Rattle.task_request.specs.declared.request.Request.{Request}
 use Rattle.task_request.specs.declared.request.Request.TheVariants as requests
-use Rattle.event_def.specs.declared.event.Event.{Event}
-use Rattle.event_def.specs.declared.event.Event.TheVariants as event
-use Rattle.step_script.specs.declared.act.Act.{Act}
-use Rattle.step_script.specs.declared.act.Act.TheVariants as acts
+use Rattle.script_text.specs.event_def.declared.event.Event.{Event}
+use Rattle.script_text.specs.event_def.declared.event.Event.TheVariants as event
+use Rattle.script_text.specs.step_script.declared.act.Act.{Act}
+use Rattle.script_text.specs.step_script.declared.act.Act.TheVariants as acts
 use Rattle.watch_text.specs.declared.front.Spot.{Spot}
-use Rattle.step_script.specs.Asking.{Attempt, Hands, Says}
+use Rattle.script_text.specs.step_script.Asking.{Attempt, Hands, Says}
 use Rattle.watch_text.specs.Fields.{kind_word, number_field, some_field, start_text, word_field}
 
 -- ---- words

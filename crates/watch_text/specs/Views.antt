@@ -6,10 +6,10 @@ use Rattle.guest_image.specs.ImageValue.{ImageValue}
 use Rattle.guest_image.specs.Numbers.{word_at}
 use Rattle.run_journal.specs.declared.end.End.{End}
 use Rattle.run_journal.specs.declared.end.End.TheVariants as ends
-use Rattle.spec_state.specs.declared.task.Status.{Status}
-use Rattle.spec_state.specs.declared.task.Status.TheVariants.{Idle, Running, Trapped, Finished}
-use Rattle.spec_state.specs.declared.task.Task.{Task}
-use Rattle.spec_state.specs.View.{View, block_at, cores_at, finished_at, queue_at, task_at}
+use Rattle.script_text.specs.spec_state.declared.task.Status.{Status}
+use Rattle.script_text.specs.spec_state.declared.task.Status.TheVariants.{Idle, Running, Trapped, Finished}
+use Rattle.script_text.specs.spec_state.declared.task.Task.{Task}
+use Rattle.script_text.specs.spec_state.View.{View, block_at, cores_at, finished_at, queue_at, task_at}
 use Rattle.watch_text.specs.Fields.{hex_text, items_text, name_field, number_field, word_field}
 
 -- ---- a view

@@ -2,19 +2,19 @@
 
 ghost use Rattle.std.specs.Prelude.{◌≡◌, ◌<◌, ℕ, IfSome, IsNone, None, Some, option_map};
 ghost use Rattle.rv_core.specs.LegValue.{LegValue};
-ghost use Rattle.spec_state.specs.declared.task.Task.{Task};
-ghost use Rattle.spec_state.specs.Changes.{TakesLeg, request_of};
-ghost use Rattle.spec_state.specs.Least.{IsTheLeast};
-ghost use Rattle.event_def.specs.Causes.{IsStale};
-ghost use Rattle.event_basis.specs.Whereabouts.{queued_in};
-ghost use Rattle.step_script.specs.Asking.{AskedIsInRange, asks_of};
+ghost use Rattle.script_text.specs.spec_state.declared.task.Task.{Task};
+ghost use Rattle.script_text.specs.spec_state.Changes.{TakesLeg, request_of};
+ghost use Rattle.script_text.specs.spec_state.Least.{IsTheLeast};
+ghost use Rattle.script_text.specs.event_def.Causes.{IsStale};
+ghost use Rattle.script_text.specs.event_basis.Whereabouts.{queued_in};
+ghost use Rattle.script_text.specs.step_script.Asking.{AskedIsInRange, asks_of};
 ghost use Rattle.watch_text.specs.Moments.{IsAbout, IsAskedFor, task_of};
 
-use conflict_book::Legless;
-use event_step::taker;
 use rv_core::{Leg, Naming};
-use spec_state::{State, TaskId, Where};
-use step_script::Asked;
+use script_text::conflict_book::Legless;
+use script_text::event_step::taker;
+use script_text::spec_state::{State, TaskId, Where};
+use script_text::step_script::Asked;
 use task_request::{Request, request_of};
 
 /// What an event is about.

@@ -2,12 +2,12 @@
 
 ghost use Rattle.std.specs.Prelude.{◌≡◌, ◌++◌, ℕ, IfOk, OnOk};
 ghost use Rattle.std.specs.String.{string_bytes};
-ghost use Rattle.spec_state.specs.Fronts.{name_given};
+ghost use Rattle.script_text.specs.spec_state.Fronts.{name_given};
 ghost use Rattle.watch_text.specs.Changes.{aborted_text, back_text, gone_ids, lists_text, spilled_text, taken_text};
 
 use crate::fields::put_number;
 use crate::items::{ListItem, put_list};
-use spec_state::{Creator, Effect, SpilledTask, TakenTask};
+use script_text::spec_state::{Creator, Effect, SpilledTask, TakenTask};
 use std::alloc::{AllocError, Global};
 use std::fmt::Write;
 

@@ -3,7 +3,7 @@
 ghost use Rattle.std.specs.Prelude.{◌≡◌, ◌<◌, ◌≤◌, ◌++◌, OnOk, codes, decimal};
 ghost use Rattle.std.specs.List.{flat_map};
 ghost use Rattle.std.specs.String.{string_bytes};
-ghost use Rattle.report_text.specs.Hex.{byte_hex};
+ghost use Rattle.script_text.specs.report_text.Hex.{byte_hex};
 ghost use Rattle.watch_text.specs.Fields.{args_field, comma_before, items_field, items_text, more_items, name_field};
 ghost use Rattle.watch_text.specs.Fields.{number_field, some_field, start_text, word_field};
 

@@ -3,7 +3,7 @@
 ghost use Rattle.std.specs.Prelude.{◌≡◌, ◌+◌, ◌++◌, ◌<◌, OnOk, Some, codes, decimal};
 ghost use Rattle.std.specs.String.{string_bytes};
 ghost use Rattle.rv_core.specs.LegValue.{LegValue};
-ghost use Rattle.step_script.specs.Asking.{asks_of};
+ghost use Rattle.script_text.specs.step_script.Asking.{asks_of};
 ghost use Rattle.watch_text.specs.Fields.{number_field, some_field, word_field};
 ghost use Rattle.watch_text.specs.Moments.{task_of};
 ghost use Rattle.watch_text.specs.Requests.{access_text, act_spot, do_spot, enqueue_fields, front_text, in_tile};
@@ -15,11 +15,11 @@ use crate::fields::{
     put_core, put_digits, put_field, put_number, put_start, put_text, put_word_field,
 };
 use crate::words::{do_word, kind_word, place_word};
-use conflict_book::Legless;
 use guest_image::DATA_START;
 use rv_core::{Leg, Naming, width_of_load};
+use script_text::conflict_book::Legless;
+use script_text::step_script::{Act, Asked};
 use std::alloc::AllocError;
-use step_script::{Act, Asked};
 use task_desc::Spawn;
 use task_request::Request;
 

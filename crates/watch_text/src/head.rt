@@ -10,7 +10,7 @@ use crate::fields::{put_number, put_word};
 use crate::words::{filter_word, kind_word};
 use guest_image::Image;
 use line_table::FilterKind;
-use spec_state::Settings;
+use script_text::spec_state::Settings;
 use std::alloc::AllocError;
 use std::fmt::Write;
 
@@ -21,25 +21,25 @@ pub enum CourseWord {
     Steps,
     /// What brings the least task on, up to the end of the run.
     Least,
-    /// In each round every tile dispatches, every running core makes a step, tasks commit and come back; where many
-    /// rounds in a row brought no commit, the least task is brought on to its own.
+    /// In each round every tile dispatches, every running core makes a step, tasks commit and come back; after many
+    /// starved rounds in a row, a round advances the least task until it is dispatched.
     Lockstep {
         /// How many rounds: 1 to 1,000,000.
         rounds: u32,
         /// What the order of a round is drawn from; 0 leaves it as it is.
         seed: u32,
-        /// After how many rounds without a commit the least task is brought on: 1 to 1,000,000.
-        barren: u32,
+        /// After how many starved rounds in a row the least task is advanced: 1 to 1,000,000.
+        starved: u32,
     },
 }
 
-/// How many rounds, what their orders are drawn from, and how many may be barren.
-fn put_rounds(line: &mut String, rounds: u32, seed: u32, barren: u32) -> Result<(), AllocError>
-    ensures { OnOk result (string_bytes line.new ≡ string_bytes line.old ++ rounds_text rounds seed barren) }
+/// How many rounds, what their orders are drawn from, and how many may be starved.
+fn put_rounds(line: &mut String, rounds: u32, seed: u32, starved: u32) -> Result<(), AllocError>
+    ensures { OnOk result (string_bytes line.new ≡ string_bytes line.old ++ rounds_text rounds seed starved) }
 {
     put_number(line, "rounds", u64::from(rounds))?;
     put_number(line, "seed", u64::from(seed))?;
-    put_number(line, "barren", u64::from(barren))
+    put_number(line, "starved", u64::from(starved))
 }
 
 fn put_course(line: &mut String, course: CourseWord) -> Result<(), AllocError>
@@ -51,10 +51,10 @@ fn put_course(line: &mut String, course: CourseWord) -> Result<(), AllocError>
         CourseWord::Lockstep {
             rounds,
             seed,
-            barren,
+            starved,
         } => {
             put_word(line, "course", "lockstep")?;
-            put_rounds(line, rounds, seed, barren)
+            put_rounds(line, rounds, seed, starved)
         }
     }
 }

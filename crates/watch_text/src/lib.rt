@@ -28,4 +28,7 @@ pub use front::put_front;
 pub use head::{CourseWord, put_head};
 pub use placed::put_placed;
 pub use rest::put_rest;
+pub use script_text::{
+    conflict_book, event_def, event_move, event_prelude, spec_dispatch, spec_state, step_script,
+};
 pub use view::put_view;

@@ -3,7 +3,7 @@
 ghost use Rattle.std.specs.Prelude.{◌≡◌, ◌<◌, ◌++◌, OnOk, Some, drop, option_copied, option_map};
 ghost use Rattle.std.specs.String.{string_bytes};
 ghost use Rattle.rv_core.specs.LegValue.{LegValue};
-ghost use Rattle.step_script.specs.Asking.{asks_of};
+ghost use Rattle.script_text.specs.step_script.Asking.{asks_of};
 ghost use Rattle.watch_text.specs.Changes.{arrived_text, commit_text, core_of_status};
 ghost use Rattle.watch_text.specs.Changes.{dispatched_text, emitted_text};
 ghost use Rattle.watch_text.specs.Changes.{entry_text};
@@ -14,12 +14,12 @@ ghost use Rattle.watch_text.specs.Moments.{task_of};
 use crate::about::{About, task_of};
 use crate::change::{name_creator, name_index};
 use crate::fields::{put_core, put_field, put_hex, put_name, put_some, put_text};
-use conflict_book::Legless;
 use rv_core::Naming;
-use serial_machine::Entry;
-use spec_state::{State, Status, Task, TaskId};
+use script_text::conflict_book::Legless;
+use script_text::serial_machine::Entry;
+use script_text::spec_state::{State, Status, Task, TaskId};
+use script_text::step_script::Asked;
 use std::alloc::AllocError;
-use step_script::Asked;
 use task_request::Request;
 
 /// The core that a status names.

@@ -3,14 +3,14 @@
 ghost use Rattle.std.specs.Prelude.{◌≡◌, ◌<◌, ◌++◌, OnOk, None, Some};
 ghost use Rattle.std.specs.List.{flat_map};
 ghost use Rattle.std.specs.String.{string_bytes};
-ghost use Rattle.spec_state.specs.View.{block_at};
+ghost use Rattle.script_text.specs.spec_state.View.{block_at};
 ghost use Rattle.watch_text.specs.Opening.{place_text, placed_desc, placed_front, placed_line, placed_lines};
 ghost use Rattle.watch_text.specs.Opening.{placed_rest, placed_task, queued_line, spilled_line, tile_lines};
 
 use crate::change::{name_creator, name_index};
 use crate::fields::{put_name, put_some, put_start};
 use rv_core::Naming;
-use spec_state::{State, Task, TaskId};
+use script_text::spec_state::{State, Task, TaskId};
 use std::alloc::AllocError;
 use std::fmt::Write;
 use task_desc::Desc;

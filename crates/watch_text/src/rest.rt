@@ -3,7 +3,7 @@
 ghost use Rattle.std.specs.Prelude.{◌≡◌, ◌++◌, OnOk};
 ghost use Rattle.std.specs.String.{string_bytes};
 ghost use Rattle.rv_core.specs.LegValue.{LegValue};
-ghost use Rattle.step_script.specs.Asking.{asks_of};
+ghost use Rattle.script_text.specs.step_script.Asking.{asks_of};
 ghost use Rattle.watch_text.specs.Changes.{change_by, change_text, own_text, reply_part, taken_text};
 ghost use Rattle.watch_text.specs.Lines.{rest_text};
 ghost use Rattle.watch_text.specs.Moments.{task_of};
@@ -14,11 +14,11 @@ use crate::change::put_taken;
 use crate::fields::{put_field, put_text, put_word_field};
 use crate::own::put_own;
 use crate::words::reply_word;
-use event_def::Reply;
 use rv_core::Naming;
-use spec_state::{Effect, State};
+use script_text::event_def::Reply;
+use script_text::spec_state::{Effect, State};
+use script_text::step_script::Asked;
 use std::alloc::AllocError;
-use step_script::Asked;
 
 /// The reply, and how many events were made so far.
 #[tactic(auto, unfolding(crate::specs::Changes::reply_part))]

@@ -11,7 +11,7 @@ use crate::fields::put_comma;
 use crate::items::put_items;
 use crate::words::status_word;
 use rv_core::Naming;
-use spec_state::{State, TaskId};
+use script_text::spec_state::{State, TaskId};
 use std::alloc::AllocError;
 use std::fmt::Write;
 

@@ -2,20 +2,20 @@
 
 ghost use Rattle.std.specs.Prelude.{◌≡◌};
 ghost use Rattle.script_text.specs.Replies.{reply_text};
-ghost use Rattle.step_script.specs.Asking.{asks_of};
+ghost use Rattle.script_text.specs.step_script.Asking.{asks_of};
 ghost use Rattle.watch_text.specs.Fields.{filter_word, kind_word};
 ghost use Rattle.watch_text.specs.Requests.{act_word, do_word, place_word};
 ghost use Rattle.watch_text.specs.Views.{end_word, status_word};
 ghost use Rattle.rv_core.specs.LegValue.{LegValue};
 
-use conflict_book::Legless;
-use event_def::Reply;
 use guest_image::Kind;
 use line_table::FilterKind;
 use run_journal::End;
 use rv_core::Naming;
-use spec_state::Status;
-use step_script::{Act, Asked};
+use script_text::conflict_book::Legless;
+use script_text::event_def::Reply;
+use script_text::spec_state::Status;
+use script_text::step_script::{Act, Asked};
 use task_desc::Place;
 
 fn act_word(act: Act) -> &'static str

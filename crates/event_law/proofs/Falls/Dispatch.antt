@@ -14,20 +14,20 @@ use Rattle.fractal_vt.proofs.Proved.{equal_keys_tie, first_not_greater, key_cmp_
 use Rattle.guest_image.specs.ImageValue.{ImageValue}
 use Rattle.order_law.proofs.Proved.{below_reopened, rises}
 use Rattle.spill_store.specs.SpilledTasks.{Spilled, open_key}
-use Rattle.spec_state.specs.declared.numbers.TheConstants.{DISPATCH_NUMBERS}
-use Rattle.spec_state.specs.declared.task.Status.{Status}
-use Rattle.spec_state.specs.declared.task.Status.TheVariants.{Idle}
-use Rattle.spec_state.specs.declared.task.Task.{Task}
-use Rattle.spec_state.specs.View.{View, task_at, block_at}
-use Rattle.spec_state.specs.Aborts.{Aborts, OnlyNode, is_marked}
-use Rattle.spec_state.specs.Changes.{Dispatches}
-use Rattle.spec_state.specs.Numbers.{FreesNumber, Renumbers, has_free, renumbered_task, renumbers}
-use Rattle.spec_state.specs.Groups.{keyed_task}
-use Rattle.spec_state.specs.Least.{Queued, IsQueuedAt, IsLeastTask, spot_cmp, ranked_cmp}
-use Rattle.spec_state.specs.Queries.{IsIdle, IsLatestOnCore}
+use Rattle.event_def.specs.spec_state.declared.numbers.TheConstants.{DISPATCH_NUMBERS}
+use Rattle.event_def.specs.spec_state.declared.task.Status.{Status}
+use Rattle.event_def.specs.spec_state.declared.task.Status.TheVariants.{Idle}
+use Rattle.event_def.specs.spec_state.declared.task.Task.{Task}
+use Rattle.event_def.specs.spec_state.View.{View, task_at, block_at}
+use Rattle.event_def.specs.spec_state.Aborts.{Aborts, OnlyNode, is_marked}
+use Rattle.event_def.specs.spec_state.Changes.{Dispatches}
+use Rattle.event_def.specs.spec_state.Numbers.{FreesNumber, Renumbers, has_free, renumbered_task, renumbers}
+use Rattle.event_def.specs.spec_state.Groups.{keyed_task}
+use Rattle.event_def.specs.spec_state.Least.{Queued, IsQueuedAt, IsLeastTask, spot_cmp, ranked_cmp}
+use Rattle.event_def.specs.spec_state.Queries.{IsIdle, IsLatestOnCore}
 use Rattle.spec_law.specs.Sound.{Sound}
-use Rattle.spec_state.specs.Tasks.{idle_again}
-use Rattle.spec_state.specs.Stored.{HasCore}
+use Rattle.event_def.specs.spec_state.Tasks.{idle_again}
+use Rattle.event_def.specs.spec_state.Stored.{HasCore}
 use Rattle.spec_law.proofs.Proved.{cascade_is_later, dispatch_stays_sound, each_now, each_renumbered}
 use Rattle.spec_law.proofs.Proved.{holds_placed, holds_task, is_renumbered, makes_least, not_below_least, now}
 use Rattle.spec_law.proofs.Proved.{queued_at, renumbered_now, renumbered_to, same_order, spilled_was, upto_queued}

@@ -10,13 +10,13 @@ use Rattle.rv_core.specs.LegValue.{LegValue}
 use Rattle.task_desc.specs.declared.desc.Spawn.{Spawn}
 use Rattle.task_request.specs.declared.request.Request.TheVariants.{Enqueue}
 use Rattle.task_request.specs.Requests.{request_at}
-use Rattle.spec_state.specs.declared.task.Status.TheVariants.{Idle, Running}
-use Rattle.spec_state.specs.declared.task.Task.{Task}
-use Rattle.spec_state.specs.View.{View, task_at}
-use Rattle.spec_state.specs.Tasks.{context_of}
-use Rattle.spec_state.specs.Least.{IsHeir, IsTheLeast}
-use Rattle.spec_state.specs.Room.{Enqueuer, asker_of}
-use Rattle.spec_state.specs.Changes.{TakesLeg, request_of, task_past_leg}
+use Rattle.event_def.specs.spec_state.declared.task.Status.TheVariants.{Idle, Running}
+use Rattle.event_def.specs.spec_state.declared.task.Task.{Task}
+use Rattle.event_def.specs.spec_state.View.{View, task_at}
+use Rattle.event_def.specs.spec_state.Tasks.{context_of}
+use Rattle.event_def.specs.spec_state.Least.{IsHeir, IsTheLeast}
+use Rattle.event_def.specs.spec_state.Room.{Enqueuer, asker_of}
+use Rattle.event_def.specs.spec_state.Changes.{TakesLeg, request_of, task_past_leg}
 use Rattle.spec_law.specs.RoomLaws.{AsksAsLeast, child_of}
 use Rattle.spec_law.specs.Sound.{Sound}
 use Rattle.spec_law.specs.Keeping.{AsksAt, IsLegOf}

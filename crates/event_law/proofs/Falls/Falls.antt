@@ -4,17 +4,17 @@ use Rattle.std.proofs.Common.{inl, true, inr}
 use Rattle.guest_image.specs.ImageValue.{ImageValue}
 use Rattle.place_policy.specs.Policy.{Policy}
 use Rattle.rv_core.specs.LegValue.{LegValue}
-use Rattle.spec_state.specs.declared.task.Status.TheVariants.{Idle}
-use Rattle.spec_state.specs.declared.task.Task.{Task}
+use Rattle.event_def.specs.spec_state.declared.task.Status.TheVariants.{Idle}
+use Rattle.event_def.specs.spec_state.declared.task.Task.{Task}
 use Rattle.task_request.specs.declared.request.Request.{Request}
 use Rattle.task_request.specs.declared.request.Request.TheVariants.{Continue, Load, Store, Enqueue, MakeSub, Emit, End}
 use Rattle.task_request.specs.declared.request.Request.TheVariants.{Trap}
-use Rattle.spec_state.specs.Changes.{request_of}
-use Rattle.spec_state.specs.View.{View}
-use Rattle.spec_state.specs.Least.{IsLeastTask, IsLeastSpilled}
-use Rattle.spec_state.specs.Room.{Splitter, asker_of}
+use Rattle.event_def.specs.spec_state.Changes.{request_of}
+use Rattle.event_def.specs.spec_state.View.{View}
+use Rattle.event_def.specs.spec_state.Least.{IsLeastTask, IsLeastSpilled}
+use Rattle.event_def.specs.spec_state.Room.{Splitter, asker_of}
 use Rattle.spec_law.specs.Sound.{Sound}
-use Rattle.spec_state.specs.Tasks.{idle_task, spilled_descriptor}
+use Rattle.event_def.specs.spec_state.Tasks.{idle_task, spilled_descriptor}
 use Rattle.spec_law.proofs.Proved.{split_keeps_least}
 use Rattle.event_def.specs.declared.event.Event.{Event}
 use Rattle.event_def.specs.declared.event.Event.TheVariants as event

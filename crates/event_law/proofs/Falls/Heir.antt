@@ -5,13 +5,13 @@ use Rattle.std.proofs.lemmas.Cmp.{tied_itself}
 use Rattle.fractal_vt.specs.Keys.{key_cmp}
 use Rattle.fractal_vt.proofs.Proved.{key_cmp_total}
 use Rattle.guest_image.specs.ImageValue.{ImageValue}
-use Rattle.spec_state.specs.declared.task.Task.{Task}
-use Rattle.spec_state.specs.View.{View, task_at}
-use Rattle.spec_state.specs.Aborts.{Aborts, OnlyNode}
-use Rattle.spec_state.specs.Least.{IsHeir}
-use Rattle.spec_state.specs.Queries.{Conflicts, IsLater}
-use Rattle.spec_state.specs.Room.{Enqueuer, Coalesces, MakesRoom, queue_has_room, coalesces, aborts_victim}
-use Rattle.spec_state.specs.Room.{aborts_creator}
+use Rattle.event_def.specs.spec_state.declared.task.Task.{Task}
+use Rattle.event_def.specs.spec_state.View.{View, task_at}
+use Rattle.event_def.specs.spec_state.Aborts.{Aborts, OnlyNode}
+use Rattle.event_def.specs.spec_state.Least.{IsHeir}
+use Rattle.event_def.specs.spec_state.Queries.{Conflicts, IsLater}
+use Rattle.event_def.specs.spec_state.Room.{Enqueuer, Coalesces, MakesRoom, queue_has_room, coalesces, aborts_victim}
+use Rattle.event_def.specs.spec_state.Room.{aborts_creator}
 use Rattle.spec_law.specs.Sound.{Sound}
 use Rattle.spec_law.specs.AbortLaws.{AllConflicts, OneTask}
 use Rattle.spec_law.proofs.Proved.{abort_keeps_heir, abort_of_one_is_sound, cascade_spares_heir}

@@ -8,7 +8,7 @@ use Rattle.rv_core.specs.LegValue.{LegValue, IsLegOfImage}
 use Rattle.rv_core.specs.Legs.{IsLeg, PlainInstructions, next_at}
 use Rattle.rv_core.specs.Next.{Stops}
 use Rattle.rv_core.proofs.Proved.{next_at-inside, PlainInstruction-within, PlainInstructions-counted}
-use Rattle.serial_machine.proofs.Proved.{spent_traps}
+use Rattle.event_def.proofs.Below.serial_machine.Proved.{spent_traps}
 use Rattle.task_desc.specs.declared.desc.Ctx.{Ctx}
 use Rattle.task_request.specs.declared.request.Request.{Request}
 use Rattle.task_request.specs.declared.request.Request.TheVariants.{Continue, Trap}

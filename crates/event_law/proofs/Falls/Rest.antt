@@ -1,12 +1,12 @@
 -- What is left up to the next commit or the end, by how the least task stands.
 use Rattle.std.proofs.Common.{ℕ, ◌+◌, ◌-◌, ◌≡◌, ◌≤◌, sym, ap, subst, ◌∙◌, arith}
-use Rattle.task_law.specs.Advance.{Standing, rest_of_way}
-use Rattle.task_law.specs.Advance as standing
-use Rattle.spec_state.specs.declared.task.Status.{Status}
-use Rattle.spec_state.specs.declared.task.Status.TheVariants.{Idle, Running, Trapped, Finished}
-use Rattle.spec_state.specs.declared.task.Task.{Task}
-use Rattle.spec_state.specs.View.{View}
-use Rattle.spec_state.specs.Least.{Queued, Spilled_at, IsLeastTask, IsLeastSpilled}
+use Rattle.event_def.specs.task_law.Advance.{Standing, rest_of_way}
+use Rattle.event_def.specs.task_law.Advance as standing
+use Rattle.event_def.specs.spec_state.declared.task.Status.{Status}
+use Rattle.event_def.specs.spec_state.declared.task.Status.TheVariants.{Idle, Running, Trapped, Finished}
+use Rattle.event_def.specs.spec_state.declared.task.Task.{Task}
+use Rattle.event_def.specs.spec_state.View.{View}
+use Rattle.event_def.specs.spec_state.Least.{Queued, Spilled_at, IsLeastTask, IsLeastSpilled}
 use Rattle.spec_law.proofs.Proved.{least_is_one}
 use Rattle.event_def.specs.Advancing.{HasRest, StandsSo}
 use Rattle.event_def.specs.End.{IsOver}

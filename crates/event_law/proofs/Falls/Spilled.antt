@@ -16,13 +16,15 @@ use Rattle.guest_image.specs.ImageValue.{ImageValue}
 use Rattle.order_law.proofs.Proved.{below_reopened}
 use Rattle.spill_store.specs.SpilledTasks.{Spilled, open_key}
 use Rattle.spill_store.specs.Pushing.{after_pushes}
-use Rattle.spec_state.specs.declared.task.Task.{Task}
-use Rattle.spec_state.specs.View.{View, task_at, block_at}
-use Rattle.spec_state.specs.Aborts.{Aborts, OnlyNode}
-use Rattle.spec_state.specs.Groups.{keyed_task}
-use Rattle.spec_state.specs.Least.{Spot, Queued, Spilled_at, HasKey, IsLeastSpilled, place_cmp, spot_cmp, ranked_cmp}
-use Rattle.spec_state.specs.Room.{Splitter, Coalesces, IsSpilledAs, MakesRoom, queue_has_room, coalesces, aborts_victim}
-use Rattle.spec_state.specs.Room.{aborts_creator}
+use Rattle.event_def.specs.spec_state.declared.task.Task.{Task}
+use Rattle.event_def.specs.spec_state.View.{View, task_at, block_at}
+use Rattle.event_def.specs.spec_state.Aborts.{Aborts, OnlyNode}
+use Rattle.event_def.specs.spec_state.Groups.{keyed_task}
+use Rattle.event_def.specs.spec_state.Least.{Spot, Queued, Spilled_at, HasKey, IsLeastSpilled, place_cmp, spot_cmp}
+use Rattle.event_def.specs.spec_state.Least.{ranked_cmp}
+use Rattle.event_def.specs.spec_state.Room.{Splitter, Coalesces, IsSpilledAs, MakesRoom, queue_has_room, coalesces}
+use Rattle.event_def.specs.spec_state.Room.{aborts_victim}
+use Rattle.event_def.specs.spec_state.Room.{aborts_creator}
 use Rattle.spec_law.specs.Sound.{Sound, SoundSizes}
 use Rattle.spec_law.proofs.Proved.{abort_of_one_is_sound, added_stands, each_now, inside, pushes_each}
 use Rattle.spec_law.proofs.Proved.{queued_at, queued_was, StandsAt}

@@ -10,13 +10,14 @@ use Rattle.task_request.specs.declared.request.Request.{Request}
 use Rattle.task_request.specs.declared.request.Request.TheVariants.{Continue, Load, Store, MakeSub, Emit}
 use Rattle.task_request.proofs.Proved.{request_at-continue}
 use Rattle.undo_log.specs.Undo.{MemoryCall, access_of}
-use Rattle.spec_state.specs.declared.task.Status.TheVariants.{Running, Trapped, Finished}
-use Rattle.spec_state.specs.declared.task.Task.{Task}
-use Rattle.spec_state.specs.View.{View, task_at}
-use Rattle.spec_state.specs.Tasks.{is_dispatched, context_of}
-use Rattle.spec_state.specs.Least.{IsHeir, IsLeastTask}
-use Rattle.spec_state.specs.Changes.{TakesLeg, request_of, task_past_leg, Keeps, KeepsQuantum, KeepsTrap, MakesSub}
-use Rattle.spec_state.specs.Changes.{Emits, Accesses, Finishes}
+use Rattle.event_def.specs.spec_state.declared.task.Status.TheVariants.{Running, Trapped, Finished}
+use Rattle.event_def.specs.spec_state.declared.task.Task.{Task}
+use Rattle.event_def.specs.spec_state.View.{View, task_at}
+use Rattle.event_def.specs.spec_state.Tasks.{is_dispatched, context_of}
+use Rattle.event_def.specs.spec_state.Least.{IsHeir, IsLeastTask}
+use Rattle.event_def.specs.spec_state.Changes.{TakesLeg, request_of, task_past_leg, Keeps, KeepsQuantum, KeepsTrap}
+use Rattle.event_def.specs.spec_state.Changes.{MakesSub}
+use Rattle.event_def.specs.spec_state.Changes.{Emits, Accesses, Finishes}
 use Rattle.spec_law.specs.Sound.{Sound}
 use Rattle.spec_law.proofs.Proved.{keeps_steps, step_keeps_heir, StepsOne, stepped_task}
 use Rattle.event_def.specs.Advancing.{HasRest, IsLeastLeg}

@@ -15,17 +15,17 @@ use Rattle.rv_core.specs.LegValue.{LegValue, IsLegOfImage}
 use Rattle.task_desc.specs.declared.desc.Spawn.{Spawn}
 use Rattle.task_request.specs.declared.request.Request.TheVariants.{Enqueue, End}
 use Rattle.task_request.specs.Requests.{request_at}
-use Rattle.spec_state.specs.declared.task.Status.{Status}
-use Rattle.spec_state.specs.declared.task.Status.TheVariants.{Idle, Running}
-use Rattle.spec_state.specs.declared.task.Task.{Task}
-use Rattle.spec_state.specs.View.{View, task_at, finished_at}
-use Rattle.spec_state.specs.Tasks.{is_dispatched, context_of}
-use Rattle.spec_state.specs.Least.{IsLeastTask, IsTheLeast}
-use Rattle.spec_state.specs.Room.{Enqueuer, asker_of}
-use Rattle.spec_state.specs.Queries.{IsLater}
-use Rattle.spec_state.specs.Aborts.{Aborts, OnlyNode, is_marked}
+use Rattle.event_def.specs.spec_state.declared.task.Status.{Status}
+use Rattle.event_def.specs.spec_state.declared.task.Status.TheVariants.{Idle, Running}
+use Rattle.event_def.specs.spec_state.declared.task.Task.{Task}
+use Rattle.event_def.specs.spec_state.View.{View, task_at, finished_at}
+use Rattle.event_def.specs.spec_state.Tasks.{is_dispatched, context_of}
+use Rattle.event_def.specs.spec_state.Least.{IsLeastTask, IsTheLeast}
+use Rattle.event_def.specs.spec_state.Room.{Enqueuer, asker_of}
+use Rattle.event_def.specs.spec_state.Queries.{IsLater}
+use Rattle.event_def.specs.spec_state.Aborts.{Aborts, OnlyNode, is_marked}
 use Rattle.spec_law.specs.RoomLaws.{AsksAsLeast}
-use Rattle.spec_state.specs.Changes.{TakesLeg, request_of}
+use Rattle.event_def.specs.spec_state.Changes.{TakesLeg, request_of}
 use Rattle.spec_law.specs.Sound.{Sound}
 use Rattle.spec_law.proofs.Proved.{abort_of_later_is_sound, cascade_is_later, end_stays_sound, enqueue_stays_sound}
 use Rattle.spec_law.proofs.Proved.{filter_leaves, list_mapped}

@@ -3,14 +3,14 @@ use Rattle.std.proofs.Common.{ℕ, ◌≡◌, ◌≢◌, ◌<◌, true, false, S
 use Rattle.std.specs.Prelude.{length}
 use Rattle.guest_image.specs.ImageValue.{ImageValue}
 use Rattle.run_journal.specs.declared.end.End.TheVariants as ends
-use Rattle.spec_state.specs.declared.numbers.TheConstants.{DISPATCH_NUMBERS}
-use Rattle.spec_state.specs.View.{View}
-use Rattle.spec_state.specs.Tasks.{is_dispatched}
-use Rattle.spec_state.specs.Least.{IsLeastTask, IsTheLeast}
-use Rattle.spec_state.specs.Numbers.{FreesNumber, has_free, renumbers}
-use Rattle.spec_state.specs.Changes.{Commits}
+use Rattle.event_def.specs.spec_state.declared.numbers.TheConstants.{DISPATCH_NUMBERS}
+use Rattle.event_def.specs.spec_state.View.{View}
+use Rattle.event_def.specs.spec_state.Tasks.{is_dispatched}
+use Rattle.event_def.specs.spec_state.Least.{IsLeastTask, IsTheLeast}
+use Rattle.event_def.specs.spec_state.Numbers.{FreesNumber, has_free, renumbers}
+use Rattle.event_def.specs.spec_state.Changes.{Commits}
 use Rattle.spec_law.specs.Sound.{Sound}
-use Rattle.spec_state.specs.Aborts.{OnlyNode}
+use Rattle.event_def.specs.spec_state.Aborts.{OnlyNode}
 use Rattle.spec_law.proofs.Proved.{abort_of_one_is_sound, commit_is_sound_turn, dispatch_stays_sound, least_is_one}
 use Rattle.spec_law.proofs.Proved.{renumbering_leaves_numbers, renumbering_stays_sound}
 use Rattle.event_def.specs.declared.event.Event.TheVariants as event

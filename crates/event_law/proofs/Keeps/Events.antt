@@ -7,10 +7,10 @@ use Rattle.rv_core.specs.LegValue.{LegValue, IsLegOfImage}
 use Rattle.task_request.specs.declared.request.Request.{Request}
 use Rattle.task_request.specs.declared.request.Request.TheVariants.{Continue, Load, Store, Enqueue, MakeSub, Emit, End}
 use Rattle.task_request.specs.declared.request.Request.TheVariants.{Trap}
-use Rattle.spec_state.specs.Changes.{request_of}
-use Rattle.spec_state.specs.View.{View}
-use Rattle.spec_state.specs.Least.{Queued, Spilled_at, IsHeir, IsLeastSpilled}
-use Rattle.spec_state.specs.Room.{Splitter, asker_of}
+use Rattle.event_def.specs.spec_state.Changes.{request_of}
+use Rattle.event_def.specs.spec_state.View.{View}
+use Rattle.event_def.specs.spec_state.Least.{Queued, Spilled_at, IsHeir, IsLeastSpilled}
+use Rattle.event_def.specs.spec_state.Room.{Splitter, asker_of}
 use Rattle.spec_law.specs.RoomLaws.{AsksAsLeast}
 use Rattle.spec_law.specs.Sound.{Sound}
 use Rattle.spec_law.proofs.Proved.{least_is_one, split_stays_sound}

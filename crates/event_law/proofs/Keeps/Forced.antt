@@ -2,14 +2,14 @@
 use Rattle.std.proofs.Common.{ℕ, ◌≡◌, true, false, Some, refl, sym, ap, subst, ◌∙◌}
 use Rattle.guest_image.specs.ImageValue.{ImageValue}
 use Rattle.rv_core.specs.LegValue.{LegValue, IsLegOfImage}
-use Rattle.spec_state.specs.declared.task.Status.{Status}
-use Rattle.spec_state.specs.declared.task.Status.TheVariants.{Idle, Running}
-use Rattle.spec_state.specs.declared.task.Task.{Task}
-use Rattle.spec_state.specs.View.{View, task_at}
-use Rattle.spec_state.specs.Tasks.{is_dispatched}
-use Rattle.spec_state.specs.Least.{IsHeir, IsLeastTask}
-use Rattle.spec_state.specs.Aborts.{Aborts, is_marked}
-use Rattle.spec_state.specs.Stored.{HasCore}
+use Rattle.event_def.specs.spec_state.declared.task.Status.{Status}
+use Rattle.event_def.specs.spec_state.declared.task.Status.TheVariants.{Idle, Running}
+use Rattle.event_def.specs.spec_state.declared.task.Task.{Task}
+use Rattle.event_def.specs.spec_state.View.{View, task_at}
+use Rattle.event_def.specs.spec_state.Tasks.{is_dispatched}
+use Rattle.event_def.specs.spec_state.Least.{IsHeir, IsLeastTask}
+use Rattle.event_def.specs.spec_state.Aborts.{Aborts, is_marked}
+use Rattle.event_def.specs.spec_state.Stored.{HasCore}
 use Rattle.spec_law.specs.Sound.{Sound, StandsAs}
 use Rattle.spec_law.specs.Keeping.{IsLegOf}
 use Rattle.spec_law.proofs.Proved.{heirs_are_one, unmarked_stays}

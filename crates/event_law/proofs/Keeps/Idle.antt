@@ -12,12 +12,12 @@ use Rattle.std.specs.Cmp.{IsTotalOrder}
 use Rattle.fractal_vt.specs.declared.key.Key.{Key}
 use Rattle.fractal_vt.specs.Keys.{key_cmp}
 use Rattle.fractal_vt.proofs.Proved.{key_cmp_total}
-use Rattle.spec_state.specs.declared.task.Status.{Status}
-use Rattle.spec_state.specs.declared.task.Status.TheVariants.{Idle, Running, Trapped, Finished}
-use Rattle.spec_state.specs.declared.task.Task.{Task}
-use Rattle.spec_state.specs.View.{View, task_at, queue_at}
-use Rattle.spec_state.specs.Least.{Queued, IsQueuedAt, ranked_cmp, spot_cmp}
-use Rattle.spec_state.specs.Queries.{IsIdle, IsLeastIdle}
+use Rattle.event_def.specs.spec_state.declared.task.Status.{Status}
+use Rattle.event_def.specs.spec_state.declared.task.Status.TheVariants.{Idle, Running, Trapped, Finished}
+use Rattle.event_def.specs.spec_state.declared.task.Task.{Task}
+use Rattle.event_def.specs.spec_state.View.{View, task_at, queue_at}
+use Rattle.event_def.specs.spec_state.Least.{Queued, IsQueuedAt, ranked_cmp, spot_cmp}
+use Rattle.event_def.specs.spec_state.Queries.{IsIdle, IsLeastIdle}
 use Rattle.spec_law.specs.Sound.{SoundSizes}
 use Rattle.spec_law.proofs.Proved.{contains_get, distinct_at, get_contains, ranked_turned, same_spot}
 use Rattle.tile_queues.proofs.Proved.{one_place}

@@ -2,12 +2,13 @@
 use Rattle.std.proofs.Common.{ℕ, ◌≡◌, ◌≢◌, inl, inr, Option, Some, None, refl, sym, ap, subst, ◌∙◌}
 use Rattle.fractal_vt.specs.declared.key.Key.{Key}
 use Rattle.guest_image.specs.ImageValue.{ImageValue}
-use Rattle.spec_state.specs.declared.task.Status.TheVariants.{Idle}
-use Rattle.spec_state.specs.declared.task.Task.{Task}
-use Rattle.spec_state.specs.View.{View, task_at}
-use Rattle.spec_state.specs.Aborts.{Aborts, OnlyNode}
-use Rattle.spec_state.specs.Room.{Asker, Enqueuer, Coalesces, QueueHasRoom, IsLeastAsker, IsVictim, MakesRoom, asker_of}
-use Rattle.spec_state.specs.Room.{queue_has_room, coalesces, aborts_victim, aborts_creator}
+use Rattle.event_def.specs.spec_state.declared.task.Status.TheVariants.{Idle}
+use Rattle.event_def.specs.spec_state.declared.task.Task.{Task}
+use Rattle.event_def.specs.spec_state.View.{View, task_at}
+use Rattle.event_def.specs.spec_state.Aborts.{Aborts, OnlyNode}
+use Rattle.event_def.specs.spec_state.Room.{Asker, Enqueuer, Coalesces, QueueHasRoom, IsLeastAsker, IsVictim, MakesRoom}
+use Rattle.event_def.specs.spec_state.Room.{asker_of}
+use Rattle.event_def.specs.spec_state.Room.{queue_has_room, coalesces, aborts_victim, aborts_creator}
 use Rattle.spec_law.specs.RoomLaws.{AsksAsLeast, MayBeTaken}
 use Rattle.spec_law.specs.Sound.{Sound}
 use Rattle.spec_law.proofs.Proved.{abort_for_room_is_sound, cascade_spares_heir, coalesce_stays_sound, leaves_place}

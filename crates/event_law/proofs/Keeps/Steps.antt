@@ -8,12 +8,12 @@ use Rattle.rv_table.specs.declared.instr.LoadWidth.{LoadWidth}
 use Rattle.task_request.specs.declared.request.Request.{Request}
 use Rattle.task_request.specs.declared.request.Request.TheVariants.{Load, Store, MakeSub, Emit, Trap}
 use Rattle.task_request.specs.Requests.{request_at}
-use Rattle.spec_state.specs.declared.task.Task.{Task}
-use Rattle.spec_state.specs.View.{View, task_at}
-use Rattle.spec_state.specs.Tasks.{is_dispatched, context_of}
-use Rattle.spec_state.specs.Aborts.{is_marked}
-use Rattle.spec_state.specs.Queries.{Conflicts, HasLine}
-use Rattle.spec_state.specs.Changes.{TakesLeg, request_of, KeepsQuantum, KeepsTrap, MakesSub, Emits}
+use Rattle.event_def.specs.spec_state.declared.task.Task.{Task}
+use Rattle.event_def.specs.spec_state.View.{View, task_at}
+use Rattle.event_def.specs.spec_state.Tasks.{is_dispatched, context_of}
+use Rattle.event_def.specs.spec_state.Aborts.{is_marked}
+use Rattle.event_def.specs.spec_state.Queries.{Conflicts, HasLine}
+use Rattle.event_def.specs.spec_state.Changes.{TakesLeg, request_of, KeepsQuantum, KeepsTrap, MakesSub, Emits}
 use Rattle.spec_law.specs.Sound.{Sound}
 use Rattle.spec_law.specs.Keeping.{AsksAt, IsLegOf, NoneConflicts}
 use Rattle.spec_law.proofs.Proved.{abort_of_conflicts_is_sound, byte_stays_sound, conflicts_spare_asker}

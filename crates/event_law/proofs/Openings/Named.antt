@@ -8,26 +8,26 @@ use Rattle.guest_image.specs.declared.image.ImageTask.{ImageTask}
 use Rattle.guest_image.specs.declared.image.Kind.{Kind}
 use Rattle.guest_image.specs.ImageValue.{ImageValue}
 use Rattle.pending_list.specs.declared.task.PendingTask.{PendingTask}
-use Rattle.serial_machine.specs.Run.{image_task}
+use Rattle.event_def.specs.serial_machine.Run.{image_task}
 use Rattle.spill_store.specs.SpilledTasks.{Spilled}
 use Rattle.task_desc.specs.declared.desc.Name.{Name}
-use Rattle.task_law.specs.Tasks as bags
-use Rattle.task_law.specs.Tasks.{In, IsFree, IsSpilled, Names, SpilledBagTask}
-use Rattle.task_law.specs.Sound.{AreSound, SameFree}
-use Rattle.task_law.specs.Grows as grow
-use Rattle.task_law.proofs.Proved.{none_sound, placements_keep}
-use Rattle.spec_state.specs.declared.settings.Settings.{Settings}
-use Rattle.spec_state.specs.declared.task.Creator.{Creator}
-use Rattle.spec_state.specs.declared.task.Creator.TheVariants.{Committed, Live}
-use Rattle.spec_state.specs.declared.task.Task.{Task}
-use Rattle.spec_state.specs.View.{View, task_at}
-use Rattle.spec_state.specs.Tasks.{idle_task, is_dispatched}
-use Rattle.spec_state.specs.Groups.{all_spilled, bag_creator, bag_task, bag_tasks, bag_spilled, bags_spilled}
-use Rattle.spec_state.specs.Least.{HasName, IsHeir}
-use Rattle.spec_state.specs.Room.{Coalesces, QueueHasRoom, IsFull}
+use Rattle.event_def.specs.task_law.Tasks as bags
+use Rattle.event_def.specs.task_law.Tasks.{In, IsFree, IsSpilled, Names, SpilledBagTask}
+use Rattle.event_def.specs.task_law.Sound.{AreSound, SameFree}
+use Rattle.event_def.specs.task_law.Grows as grow
+use Rattle.event_def.proofs.Below.task_law.Proved.{none_sound, placements_keep}
+use Rattle.event_def.specs.spec_state.declared.settings.Settings.{Settings}
+use Rattle.event_def.specs.spec_state.declared.task.Creator.{Creator}
+use Rattle.event_def.specs.spec_state.declared.task.Creator.TheVariants.{Committed, Live}
+use Rattle.event_def.specs.spec_state.declared.task.Task.{Task}
+use Rattle.event_def.specs.spec_state.View.{View, task_at}
+use Rattle.event_def.specs.spec_state.Tasks.{idle_task, is_dispatched}
+use Rattle.event_def.specs.spec_state.Groups.{all_spilled, bag_creator, bag_task, bag_tasks, bag_spilled, bags_spilled}
+use Rattle.event_def.specs.spec_state.Least.{HasName, IsHeir}
+use Rattle.event_def.specs.spec_state.Room.{Coalesces, QueueHasRoom, IsFull}
 use Rattle.event_def.specs.Book.{BookView, picked_tile}
-use Rattle.spec_state.specs.Opening.{IsEmptyView}
-use Rattle.spec_state.proofs.Proved.{within_lists}
+use Rattle.event_def.specs.spec_state.Opening.{IsEmptyView}
+use Rattle.event_def.proofs.Below.spec_state.Proved.{within_lists}
 use Rattle.event_def.specs.Opening.{image_descriptor, PlacesImageTask, PlacesAll}
 use Rattle.event_law.proofs.Lists.{all_of_lists, from_option}
 use Rattle.event_law.proofs.Openings.Rooted.{IsImageSpilled, AreImageTasks, coalesces_keeps, places_keeps, none_are}

@@ -19,21 +19,22 @@ use Rattle.order_law.specs.Tasks.{Keyed}
 use Rattle.order_law.specs.Events.{IsAmongSpilled}
 use Rattle.order_law.proofs.Proved.{beside_which, opening_law}
 use Rattle.pending_list.specs.declared.task.PendingTask.{PendingTask}
-use Rattle.task_law.specs.Tasks.{In}
-use Rattle.serial_machine.specs.Run.{image_task, IsRun, opening, opening_memory}
+use Rattle.event_def.specs.task_law.Tasks.{In}
+use Rattle.event_def.specs.serial_machine.Run.{image_task, IsRun, opening, opening_memory}
 use Rattle.spill_store.specs.SpilledTasks.{Spilled}
 use Rattle.task_desc.specs.Calls.{domain_ts}
 use Rattle.undo_log.specs.Number.{AreBytes}
-use Rattle.spec_state.specs.declared.numbers.TheConstants.{DISPATCH_NUMBERS}
-use Rattle.spec_state.specs.declared.settings.Settings.{Settings}
-use Rattle.spec_state.specs.declared.task.Task.{Task}
-use Rattle.spec_state.specs.View.{View, task_at}
-use Rattle.spec_state.specs.Filters.{HasNotes}
-use Rattle.spec_state.specs.Tasks.{is_dispatched, is_ordered_at}
-use Rattle.spec_state.specs.Groups.{heir_unless, keyed_tasks, keyed_task, keyed_spilled, all_keyed, all_spilled}
-use Rattle.spec_state.specs.Groups.{logged_tasks, logged_task}
-use Rattle.spec_state.specs.Least.{IsHeir}
-use Rattle.spec_state.specs.Settings.{IsValid}
+use Rattle.event_def.specs.spec_state.declared.numbers.TheConstants.{DISPATCH_NUMBERS}
+use Rattle.event_def.specs.spec_state.declared.settings.Settings.{Settings}
+use Rattle.event_def.specs.spec_state.declared.task.Task.{Task}
+use Rattle.event_def.specs.spec_state.View.{View, task_at}
+use Rattle.event_def.specs.spec_state.Filters.{HasNotes}
+use Rattle.event_def.specs.spec_state.Tasks.{is_dispatched, is_ordered_at}
+use Rattle.event_def.specs.spec_state.Groups.{heir_unless, keyed_tasks, keyed_task, keyed_spilled, all_keyed}
+use Rattle.event_def.specs.spec_state.Groups.{all_spilled}
+use Rattle.event_def.specs.spec_state.Groups.{logged_tasks, logged_task}
+use Rattle.event_def.specs.spec_state.Least.{IsHeir}
+use Rattle.event_def.specs.spec_state.Settings.{IsValid}
 use Rattle.spec_law.specs.Sound.{Sound, SoundMemory, SoundOrder, SoundTasks}
 use Rattle.spec_law.proofs.Proved.{none_noted}
 use Rattle.event_def.specs.Book.{BookView}

@@ -7,8 +7,8 @@ use Rattle.std.proofs.lemmas.Bool.{cases_eq, cases_lt}
 use Rattle.std.proofs.lemmas.List.{get_or-set_same, get_or-set_other, set_past}
 use Rattle.std.proofs.lemmas.List.Elements.{Contains-push, Contains-push_cases, Contains-append_left}
 use Rattle.std.proofs.lemmas.List.Kept.{AllPairs-filter}
-use Rattle.task_law.specs.Room.{RoomTask, kept_by, queue_after}
-use Rattle.spec_state.proofs.Proved.{head_or_tail, in_tail}
+use Rattle.event_def.specs.task_law.Room.{RoomTask, kept_by, queue_after}
+use Rattle.event_def.proofs.Below.spec_state.Proved.{head_or_tail, in_tail}
 
 here : (x : ℕ) (xs : List ℕ) (id : ℕ) → x ≡ id → Contains (x ∷ xs) id
 here x xs id is = (0, omega arith, is)

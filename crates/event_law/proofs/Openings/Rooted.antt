@@ -9,15 +9,15 @@ use Rattle.guest_image.specs.declared.image.Kind.{Kind}
 use Rattle.guest_image.specs.ImageValue.{ImageValue}
 use Rattle.spill_store.specs.SpilledTasks.{Spilled}
 use Rattle.spill_store.specs.Pushing.{after_pushes}
-use Rattle.spec_state.specs.declared.settings.Settings.{Settings}
-use Rattle.spec_state.specs.declared.task.Creator.TheVariants.{Committed}
-use Rattle.spec_state.specs.declared.task.Task.{Task}
-use Rattle.spec_state.specs.View.{View, task_at, block_at}
-use Rattle.spec_state.specs.Tasks.{idle_task, descriptor_of, spilled_as}
-use Rattle.spec_state.specs.Least.{HasName}
-use Rattle.spec_state.specs.Room.{IsSpilledAs, Coalesces, QueueHasRoom, IsFull}
+use Rattle.event_def.specs.spec_state.declared.settings.Settings.{Settings}
+use Rattle.event_def.specs.spec_state.declared.task.Creator.TheVariants.{Committed}
+use Rattle.event_def.specs.spec_state.declared.task.Task.{Task}
+use Rattle.event_def.specs.spec_state.View.{View, task_at, block_at}
+use Rattle.event_def.specs.spec_state.Tasks.{idle_task, descriptor_of, spilled_as}
+use Rattle.event_def.specs.spec_state.Least.{HasName}
+use Rattle.event_def.specs.spec_state.Room.{IsSpilledAs, Coalesces, QueueHasRoom, IsFull}
 use Rattle.event_def.specs.Book.{BookView, picked_tile}
-use Rattle.spec_state.specs.Opening.{IsEmptyView}
+use Rattle.event_def.specs.spec_state.Opening.{IsEmptyView}
 use Rattle.event_def.specs.Opening.{image_descriptor, PlacesImageTask, PlacesAll}
 use Rattle.spec_law.proofs.Proved.{all_added, pushes_each}
 use Rattle.event_law.proofs.Lists.{at_each_place}

@@ -10,19 +10,19 @@ use Rattle.std.proofs.lemmas.List.Quantifiers.{all_pairs_push}
 use Rattle.guest_image.specs.declared.image.ImageTask.{ImageTask}
 use Rattle.guest_image.specs.declared.image.Kind.{Kind}
 use Rattle.guest_image.specs.ImageValue.{ImageValue}
-use Rattle.task_law.specs.Room.{queue_after}
-use Rattle.spec_state.specs.declared.settings.Settings.{Settings}
-use Rattle.spec_state.specs.declared.task.Creator.TheVariants.{Committed}
-use Rattle.spec_state.specs.declared.task.Task.{Task}
-use Rattle.spec_state.specs.View.{View, task_at, queue_at}
-use Rattle.spec_state.specs.Tasks.{idle_task}
-use Rattle.spec_state.specs.Groups.{room_tasks, room_task}
-use Rattle.spec_state.specs.Queries.{IsQueued}
-use Rattle.spec_state.specs.Room.{Coalesces, QueueHasRoom, IsFull}
+use Rattle.event_def.specs.task_law.Room.{queue_after}
+use Rattle.event_def.specs.spec_state.declared.settings.Settings.{Settings}
+use Rattle.event_def.specs.spec_state.declared.task.Creator.TheVariants.{Committed}
+use Rattle.event_def.specs.spec_state.declared.task.Task.{Task}
+use Rattle.event_def.specs.spec_state.View.{View, task_at, queue_at}
+use Rattle.event_def.specs.spec_state.Tasks.{idle_task}
+use Rattle.event_def.specs.spec_state.Groups.{room_tasks, room_task}
+use Rattle.event_def.specs.spec_state.Queries.{IsQueued}
+use Rattle.event_def.specs.spec_state.Room.{Coalesces, QueueHasRoom, IsFull}
 use Rattle.spec_law.proofs.Proved.{some_first}
 use Rattle.event_def.specs.Book.{BookView, picked_tile}
-use Rattle.spec_state.specs.Opening.{IsEmptyView}
-use Rattle.spec_state.specs.Stored.{HasTask}
+use Rattle.event_def.specs.spec_state.Opening.{IsEmptyView}
+use Rattle.event_def.specs.spec_state.Stored.{HasTask}
 use Rattle.event_def.specs.Opening.{image_descriptor, PlacesImageTask, PlacesAll}
 use Rattle.event_law.proofs.Lists.{at_each_place}
 use Rattle.event_law.proofs.Openings.Queued.{kept_was, kept_there, kept_stays, kept_few, kept_fewer, kept_distinct}

@@ -12,16 +12,16 @@ use Rattle.guest_image.specs.declared.image.Kind.TheVariants.{Unordered, Ordered
 use Rattle.guest_image.specs.ImageValue.{ImageValue}
 use Rattle.spill_store.specs.SpilledTasks.{Spilled}
 use Rattle.task_desc.specs.Record.{IsDesc}
-use Rattle.spec_state.specs.declared.emitted.TheConstants.{MAX_EMITTED}
-use Rattle.spec_state.specs.declared.settings.Settings.{Settings}
-use Rattle.spec_state.specs.declared.task.Status.{Status}
-use Rattle.spec_state.specs.declared.task.Status.TheVariants.{Idle, Finished}
-use Rattle.spec_state.specs.declared.task.Task.{Task}
-use Rattle.spec_state.specs.Settings.{IsValid}
-use Rattle.spec_state.specs.View.{View, task_at, finished_at, cores_at}
-use Rattle.spec_state.specs.Tasks.{depth_of}
-use Rattle.spec_state.specs.Groups.{all_spilled}
-use Rattle.spec_state.specs.Stored.{HasCore, HasTask}
+use Rattle.event_def.specs.spec_state.declared.emitted.TheConstants.{MAX_EMITTED}
+use Rattle.event_def.specs.spec_state.declared.settings.Settings.{Settings}
+use Rattle.event_def.specs.spec_state.declared.task.Status.{Status}
+use Rattle.event_def.specs.spec_state.declared.task.Status.TheVariants.{Idle, Finished}
+use Rattle.event_def.specs.spec_state.declared.task.Task.{Task}
+use Rattle.event_def.specs.spec_state.Settings.{IsValid}
+use Rattle.event_def.specs.spec_state.View.{View, task_at, finished_at, cores_at}
+use Rattle.event_def.specs.spec_state.Tasks.{depth_of}
+use Rattle.event_def.specs.spec_state.Groups.{all_spilled}
+use Rattle.event_def.specs.spec_state.Stored.{HasCore, HasTask}
 use Rattle.spec_law.specs.Sound.{SoundSizes}
 use Rattle.event_def.specs.Opening.{root_kinds}
 use Rattle.event_law.proofs.Lists.{at_each_place, all_of_lists}

@@ -9,19 +9,19 @@ use Rattle.guest_image.specs.declared.image.Kind.{Kind}
 use Rattle.guest_image.specs.declared.image.Kind.TheVariants.{Unordered, Ordered}
 use Rattle.guest_image.specs.ImageValue.{ImageValue}
 use Rattle.pending_list.specs.declared.task.PendingTask.{PendingTask}
-use Rattle.serial_machine.specs.Run.{opening, image_task}
+use Rattle.event_def.specs.serial_machine.Run.{opening, image_task}
 use Rattle.spill_store.specs.SpilledTasks.{Spilled}
-use Rattle.task_law.specs.Commit.{Matches}
-use Rattle.task_law.specs.Domains.{FitsBags}
-use Rattle.task_law.specs.Sound.{AreSound}
-use Rattle.task_law.specs.Tasks.{In}
-use Rattle.spec_state.specs.declared.settings.Settings.{Settings}
-use Rattle.spec_state.specs.declared.task.Creator.TheVariants.{Committed, Live}
-use Rattle.spec_state.specs.declared.task.Task.{Task}
-use Rattle.spec_state.specs.declared.task.TaskId.{TaskId}
-use Rattle.spec_state.specs.View.{View, task_at}
-use Rattle.spec_state.specs.Tasks.{kind_at}
-use Rattle.spec_state.specs.Groups.{all_spilled, bag_tasks, bags_spilled, domains_of}
+use Rattle.event_def.specs.task_law.Commit.{Matches}
+use Rattle.event_def.specs.task_law.Domains.{FitsBags}
+use Rattle.event_def.specs.task_law.Sound.{AreSound}
+use Rattle.event_def.specs.task_law.Tasks.{In}
+use Rattle.event_def.specs.spec_state.declared.settings.Settings.{Settings}
+use Rattle.event_def.specs.spec_state.declared.task.Creator.TheVariants.{Committed, Live}
+use Rattle.event_def.specs.spec_state.declared.task.Task.{Task}
+use Rattle.event_def.specs.spec_state.declared.task.TaskId.{TaskId}
+use Rattle.event_def.specs.spec_state.View.{View, task_at}
+use Rattle.event_def.specs.spec_state.Tasks.{kind_at}
+use Rattle.event_def.specs.spec_state.Groups.{all_spilled, bag_tasks, bags_spilled, domains_of}
 use Rattle.spec_law.specs.Sound.{SoundTasks, StandsAs}
 use Rattle.event_def.specs.Opening.{root_kinds}
 use Rattle.event_law.proofs.Lists.{all_of_lists}

@@ -4,13 +4,13 @@ use Rattle.std.proofs.lemmas.Bool.{cases_eq}
 use Rattle.guest_image.specs.declared.image.ImageTask.{ImageTask}
 use Rattle.guest_image.specs.declared.image.Kind.{Kind}
 use Rattle.guest_image.specs.ImageValue.{ImageValue}
-use Rattle.spec_state.specs.declared.settings.Settings.{Settings}
-use Rattle.spec_state.specs.declared.task.Creator.TheVariants.{Committed}
-use Rattle.spec_state.specs.declared.task.Task.{Task}
-use Rattle.spec_state.specs.View.{View, task_at}
-use Rattle.spec_state.specs.Tasks.{idle_task}
-use Rattle.spec_state.specs.Opening.{IsEmptyView}
-use Rattle.spec_state.specs.Room.{Coalesces, QueueHasRoom, IsFull}
+use Rattle.event_def.specs.spec_state.declared.settings.Settings.{Settings}
+use Rattle.event_def.specs.spec_state.declared.task.Creator.TheVariants.{Committed}
+use Rattle.event_def.specs.spec_state.declared.task.Task.{Task}
+use Rattle.event_def.specs.spec_state.View.{View, task_at}
+use Rattle.event_def.specs.spec_state.Tasks.{idle_task}
+use Rattle.event_def.specs.spec_state.Opening.{IsEmptyView}
+use Rattle.event_def.specs.spec_state.Room.{Coalesces, QueueHasRoom, IsFull}
 use Rattle.event_def.specs.Book.{BookView, picked_tile}
 use Rattle.event_def.specs.Opening.{image_descriptor, PlacesImageTask, PlacesAll}
 use Rattle.event_law.proofs.Openings.Rooted.{coalesced_was}

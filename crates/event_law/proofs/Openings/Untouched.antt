@@ -4,12 +4,12 @@ use Rattle.std.proofs.Common.{None, ℕ, ◌≡◌, ◌⊎◌, inl, inr, List, [
 use Rattle.guest_image.specs.declared.image.ImageTask.{ImageTask}
 use Rattle.guest_image.specs.declared.image.Kind.{Kind}
 use Rattle.guest_image.specs.ImageValue.{ImageValue}
-use Rattle.serial_machine.specs.Run.{opening_memory}
-use Rattle.spec_state.specs.declared.settings.Settings.{Settings}
-use Rattle.spec_state.specs.View.{View, version_of}
-use Rattle.spec_state.specs.Room.{QueueHasRoom, IsFull, Coalesces}
+use Rattle.event_def.specs.serial_machine.Run.{opening_memory}
+use Rattle.event_def.specs.spec_state.declared.settings.Settings.{Settings}
+use Rattle.event_def.specs.spec_state.View.{View, version_of}
+use Rattle.event_def.specs.spec_state.Room.{QueueHasRoom, IsFull, Coalesces}
 use Rattle.event_def.specs.Book.{BookView, picked_tile}
-use Rattle.spec_state.specs.Opening.{IsEmptyView}
+use Rattle.event_def.specs.spec_state.Opening.{IsEmptyView}
 use Rattle.event_def.specs.Opening.{PlacesImageTask, PlacesAll}
 
 -- all else is as in the view without a task

@@ -8,10 +8,11 @@ use Rattle.std.specs.declared.cmp.Ordering.{Ordering}
 use Rattle.fractal_vt.specs.declared.key.Key.{Key}
 use Rattle.fractal_vt.proofs.Proved.{key_cmp_total, greater_not}
 use Rattle.spill_store.specs.SpilledTasks.{Spilled, open_key}
-use Rattle.spec_state.specs.declared.task.Task.{Task}
-use Rattle.spec_state.specs.View.{View, task_at, queue_at, block_at}
-use Rattle.spec_state.specs.Least.{Spot, Queued, Spilled_at, HasKey, IsAllCommitted, IsLeastSpot, ranked_cmp, spot_cmp}
-use Rattle.spec_state.proofs.Proved.{at_within}
+use Rattle.event_def.specs.spec_state.declared.task.Task.{Task}
+use Rattle.event_def.specs.spec_state.View.{View, task_at, queue_at, block_at}
+use Rattle.event_def.specs.spec_state.Least.{Spot, Queued, Spilled_at, HasKey, IsAllCommitted, IsLeastSpot, ranked_cmp}
+use Rattle.event_def.specs.spec_state.Least.{spot_cmp}
+use Rattle.event_def.proofs.Below.spec_state.Proved.{at_within}
 use Rattle.event_law.proofs.Search.{HasLeast, IsBelow, only_one, either_least, search}
 
 -- the kind of a spot: queued ones come first

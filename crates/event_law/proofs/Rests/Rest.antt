@@ -1,6 +1,6 @@
 -- What is left up to and with the next commit, or up to the end, is bounded.
 use Rattle.std.proofs.Common.{◌+◌, ◌≤◌, subst, sym}
-use Rattle.task_law.proofs.Proved.{rest_bounded}
+use Rattle.event_def.proofs.Below.task_law.Proved.{rest_bounded}
 use Rattle.event_law.specs.Laws.{RestIsBounded}
 
 -- it is what a standing leaves, which is bounded for each standing

@@ -1,8 +1,8 @@
 -- The rests of a view are one number.
 use Rattle.std.proofs.Common.{ℕ, ◌+◌, ◌-◌, ◌≡◌, ◌≤◌, subst, ◌∙◌, arith}
-use Rattle.task_law.specs.Advance.{Standing, rest_of_way}
-use Rattle.task_law.specs.Advance as standing
-use Rattle.spec_state.specs.View.{View}
+use Rattle.event_def.specs.task_law.Advance.{Standing, rest_of_way}
+use Rattle.event_def.specs.task_law.Advance as standing
+use Rattle.event_def.specs.spec_state.View.{View}
 use Rattle.event_def.specs.Advancing.{HasRest, StandsSo}
 use Rattle.event_def.specs.End.{IsOver}
 use Rattle.event_law.specs.Laws.{RestIsOne}

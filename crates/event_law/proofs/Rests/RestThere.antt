@@ -5,14 +5,15 @@ use Rattle.guest_image.specs.ImageValue.{ImageValue}
 use Rattle.run_journal.specs.declared.end.End.{End}
 use Rattle.run_journal.specs.declared.end.End.TheVariants as ends
 use Rattle.task_desc.specs.declared.desc.Name.{Name}
-use Rattle.task_law.specs.Advance.{Standing, rest_of_way}
-use Rattle.task_law.specs.Advance as standing
-use Rattle.spec_state.specs.declared.task.Status.{Status}
-use Rattle.spec_state.specs.declared.task.Status.TheVariants.{Idle, Running, Trapped, Finished}
-use Rattle.spec_state.specs.declared.task.Task.{Task}
-use Rattle.spec_state.specs.View.{View, queue_at}
-use Rattle.spec_state.specs.Least.{Spot, Queued, Spilled_at, IsAllCommitted, IsLeastSpot, IsLeastTask, IsLeastSpilled}
-use Rattle.spec_state.specs.Least.{IsQueuedAt}
+use Rattle.event_def.specs.task_law.Advance.{Standing, rest_of_way}
+use Rattle.event_def.specs.task_law.Advance as standing
+use Rattle.event_def.specs.spec_state.declared.task.Status.{Status}
+use Rattle.event_def.specs.spec_state.declared.task.Status.TheVariants.{Idle, Running, Trapped, Finished}
+use Rattle.event_def.specs.spec_state.declared.task.Task.{Task}
+use Rattle.event_def.specs.spec_state.View.{View, queue_at}
+use Rattle.event_def.specs.spec_state.Least.{Spot, Queued, Spilled_at, IsAllCommitted, IsLeastSpot, IsLeastTask}
+use Rattle.event_def.specs.spec_state.Least.{IsLeastSpilled}
+use Rattle.event_def.specs.spec_state.Least.{IsQueuedAt}
 use Rattle.spec_law.specs.Sound.{Sound}
 use Rattle.spec_law.proofs.Proved.{get_contains, least_is_next, least_is_one}
 use Rattle.event_def.specs.Advancing.{StandsSo}

@@ -9,15 +9,16 @@ use Rattle.order_law.specs.Events.{IsLeastInKeys}
 use Rattle.order_law.specs.Tasks.{Keyed, levels_of}
 use Rattle.order_law.proofs.Proved.{innermost}
 use Rattle.pending_list.specs.declared.task.PendingTask.{PendingTask}
-use Rattle.serial_machine.specs.Turn.{inner}
-use Rattle.spec_state.specs.Groups.{all_keyed, all_spilled, bag_creator, bag_spilled, bag_task, keyed_tasks, keyed_task}
-use Rattle.spec_state.specs.Least.{HasKey, IsAllCommitted, Queued, Spilled_at, Spot}
+use Rattle.event_def.specs.serial_machine.Turn.{inner}
+use Rattle.event_def.specs.spec_state.Groups.{all_keyed, all_spilled, bag_creator, bag_spilled, bag_task, keyed_tasks}
+use Rattle.event_def.specs.spec_state.Groups.{keyed_task}
+use Rattle.event_def.specs.spec_state.Least.{HasKey, IsAllCommitted, Queued, Spilled_at, Spot}
 use Rattle.spec_law.specs.Sound.{Sound}
-use Rattle.spec_state.specs.View.{View, task_at}
+use Rattle.event_def.specs.spec_state.View.{View, task_at}
 use Rattle.spec_law.proofs.Proved.{below_all, firm_is_committed, Free, free_is_keyed, id_below, in_spilled, lowest}
 use Rattle.spec_law.proofs.Proved.{none_is_committed, place_in_all, queued_stands, spilled_in_keys, spilled_stands}
 use Rattle.spec_law.proofs.Proved.{spot_of, which}
-use Rattle.task_law.specs.Tasks.{pending}
+use Rattle.event_def.specs.task_law.Tasks.{pending}
 use Rattle.event_law.proofs.Serials.Stack.{none_stands, stands_nowhere}
 
 -- some task of the view is free

@@ -1,10 +1,10 @@
 -- When the serial machine has no pending task.
 use Rattle.std.proofs.Common.{◌≡◌, ℕ, List, [], ◌∷◌, refl, sym, subst, inl}
 use Rattle.pending_list.specs.declared.task.PendingTask.{PendingTask}
-use Rattle.serial_machine.specs.BagValue.{BagValue}
-use Rattle.serial_machine.specs.Turn.{inner}
-use Rattle.task_law.specs.Commit.{Stands}
-use Rattle.task_law.proofs.Proved.{head_has, inner-Stands, Stands-inner}
+use Rattle.event_def.specs.serial_machine.BagValue.{BagValue}
+use Rattle.event_def.specs.serial_machine.Turn.{inner}
+use Rattle.event_def.specs.task_law.Commit.{Stands}
+use Rattle.event_def.proofs.Below.task_law.Proved.{head_has, inner-Stands, Stands-inner}
 
 -- where no task stands in a bag, no bag is left
 pub none_stands : (stack : List BagValue) → ((depth : ℕ) (p : PendingTask) → Stands stack depth p → ⊥)

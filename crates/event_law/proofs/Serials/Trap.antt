@@ -9,24 +9,24 @@ use Rattle.memory_law.specs.Events as memory
 use Rattle.memory_law.specs.Tasks.{Logged, Earlier}
 use Rattle.memory_law.proofs.Proved.{commit_keeps_chain}
 use Rattle.order_law.proofs.Proved.{least_is_below}
-use Rattle.run_law.proofs.Proved.{run_sized}
+use Rattle.event_def.proofs.Below.run_law.Proved.{run_sized}
 use Rattle.pending_list.specs.declared.task.PendingTask.{PendingTask}
-use Rattle.serial_machine.specs.Turn.{TrapsSo, context_in_bag}
+use Rattle.event_def.specs.serial_machine.Turn.{TrapsSo, context_in_bag}
 use Rattle.task_desc.specs.declared.desc.Name.{Name}
-use Rattle.task_law.specs.Domains.{FitsBags}
-use Rattle.task_law.specs.Logged.{TrapsWithLog, LoggedRun}
-use Rattle.task_law.specs.Tasks.{pending}
-use Rattle.task_law.proofs.Proved.{contexts_fit, logged_trap_is_serial}
+use Rattle.event_def.specs.task_law.Domains.{FitsBags}
+use Rattle.event_def.specs.task_law.Logged.{TrapsWithLog, LoggedRun}
+use Rattle.event_def.specs.task_law.Tasks.{pending}
+use Rattle.event_def.proofs.Below.task_law.Proved.{contexts_fit, logged_trap_is_serial}
 use Rattle.task_request.specs.TaskState.{task_at_start}
-use Rattle.spec_state.specs.declared.task.Creator.TheVariants.{Committed}
-use Rattle.spec_state.specs.declared.task.Task.{Task}
-use Rattle.spec_state.specs.Groups.{all_keyed, bag_task, keyed_task, logged_tasks, logged_task}
+use Rattle.event_def.specs.spec_state.declared.task.Creator.TheVariants.{Committed}
+use Rattle.event_def.specs.spec_state.declared.task.Task.{Task}
+use Rattle.event_def.specs.spec_state.Groups.{all_keyed, bag_task, keyed_task, logged_tasks, logged_task}
 use Rattle.spec_law.specs.Laws.{MayTakeTurn}
-use Rattle.spec_state.specs.Least.{IsLeastTask}
+use Rattle.event_def.specs.spec_state.Least.{IsLeastTask}
 use Rattle.spec_law.specs.Sound.{Sound, StandsAs, TrapsNext, done_so_far}
-use Rattle.spec_state.specs.Tasks.{depth_of, start_context}
-use Rattle.spec_state.specs.View.{View, task_at}
-use Rattle.spec_state.proofs.Proved.{same_test, other_test}
+use Rattle.event_def.specs.spec_state.Tasks.{depth_of, start_context}
+use Rattle.event_def.specs.spec_state.View.{View, task_at}
+use Rattle.event_def.proofs.Below.spec_state.Proved.{same_test, other_test}
 use Rattle.spec_law.proofs.Proved.{least_is_next, least_of_all, number_of, queued_stands, run_stack, starts_so}
 use Rattle.event_def.specs.End.{LeastIsTrapped}
 use Rattle.fractal_vt.proofs.Proved.{mapped_some}

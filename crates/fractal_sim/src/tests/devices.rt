@@ -22,7 +22,7 @@ const WHOLE: Streams = Streams {
     ..PIECES
 };
 
-/// A front of an image is told as too short.
+/// A prefix of an image is reported as too short.
 fn is_short(
     rt: &(impl Abort + Alloc<A = Global> + Threads + Wait + Sync),
     length: usize,
@@ -216,7 +216,7 @@ fn devices_that_fail_are_told(rt: HostRuntime) -> Result<(), Fail> {
     Ok(())
 }
 
-/// One byte more than is read is told.
+/// One byte more than is read is reported.
 fn long_is_told(
     rt: &(impl Abort + Alloc<A = Global> + Threads + Wait + Sync),
     words: &str,

@@ -2,13 +2,13 @@
 
 use crate::tests::images::ENDING;
 use crate::tests::{Case, holds_with};
+use machine_run::tile_worker::Gate;
 use std::alloc::{Alloc, Global};
 use std::process::Abort;
 use std::sync::Wait;
 use std::sync::atomic::{AtomicU64, Ordering};
 use std::test::Fail;
 use std::thread::Threads;
-use tile_worker::Gate;
 
 /// How often a gate looks whether another worker has passed before it gives up.
 const LOOKS: u32 = 200_000_000;

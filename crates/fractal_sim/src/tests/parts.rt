@@ -6,11 +6,11 @@ use crate::tests::images::{MANY, READER};
 use crate::tests::reports::MANY_REPORT;
 use crate::tests::schedules::CONFLICT;
 use crate::tests::{Case, holds_with};
+use machine_run::tile_worker::OpenGate;
 use place_policy::Placer;
 use std::sync::Arc;
 use std::sync::atomic::{AtomicU64, Ordering};
 use std::test::Fail;
-use tile_worker::OpenGate;
 use trace_tap::{LastN, LineProfile, Tap};
 
 /// Always picks the first tile, and counts the tasks that are placed.

@@ -12,7 +12,7 @@ pub(super) const MANY_REPORT: &str =
     57 1.8 1 56\n58 1.7 1 57\n59 1.6 1 58\n60 1.5 1 59\n61 1.4 1 60\n62 1.3 1 61\n63 1.2 1 62\n64 1.1 1 63\n\
     65 1.0 1 64\noutput -\nend normal\n";
 
-// The same with 65 children.
+// The report of a task that enqueues 65 children.
 pub(super) const MORE_REPORT: &str =
     "fractal 1\n1 0.0 1 0\n2 1.64 1 1\n3 1.63 1 2\n4 1.62 1 3\n5 1.61 1 4\n6 1.60 1 5\n7 1.59 1 6\n8 1.58 1 7\n\
     9 1.57 1 8\n10 1.56 1 9\n11 1.55 1 10\n12 1.54 1 11\n13 1.53 1 12\n14 1.52 1 13\n15 1.51 1 14\n16 1.50 1 15\n\
@@ -24,7 +24,7 @@ pub(super) const MORE_REPORT: &str =
     57 1.9 1 56\n58 1.8 1 57\n59 1.7 1 58\n60 1.6 1 59\n61 1.5 1 60\n62 1.4 1 61\n63 1.3 1 62\n64 1.2 1 63\n\
     65 1.1 1 64\n66 1.0 1 65\noutput -\nend normal\n";
 
-// Each task makes a subdomain with a task like itself; at depth 16 there is no deeper one.
+// Each task makes a subdomain with a task like itself, down to the greatest depth, 16.
 pub(super) const DEEPER_REPORT: &str =
     "fractal 1\n1 0.0 1 0\n2 1.0 2 0\n3 2.0 3 0\n4 3.0 4 0\n5 4.0 5 0\n6 5.0 6 0\n7 6.0 7 0\n8 7.0 8 0\n9 8.0 9 0\n\
     10 9.0 10 0\n11 10.0 11 0\n12 11.0 12 0\n13 12.0 13 0\n14 13.0 14 0\n15 14.0 15 0\noutput -\n\

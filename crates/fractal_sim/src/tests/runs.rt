@@ -236,7 +236,7 @@ fn checks_are_told(rt: HostRuntime) -> Result<(), Fail> {
     each_holds(&rt, &CHECKS)
 }
 
-// Calls whose words are refused.
+// Calls with invalid arguments.
 static MISUSES: [Case; 5] = [
     Case {
         words: "",

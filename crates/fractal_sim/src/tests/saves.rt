@@ -1,5 +1,5 @@
 //! The command `save`: what it writes at the commit limit, what can't be saved, runs that end before the limit, and
-//! runs that go on from what was saved.
+//! runs that continue from what was saved.
 
 use crate::tests::images::{
     BELOW, CHILD, CUT, DEEPER, DEEPER_AT_2, FULL_FRONT, FULL_TASK, OUTSIDE, READER, SAVED_CHILD,

@@ -1,4 +1,4 @@
-//! Scripts that are played: what is said of each act and the report, what the taps saw, and the status.
+//! Scripts that are played: the replies to the acts and the report, what the taps saw, and the status.
 
 use crate::tests::images::{
     APART, CROWD, CUT, EMIT, ENDING, FOUR, OUTSIDE, POINTER, READER, STACKED, STORE,
@@ -6,12 +6,12 @@ use crate::tests::images::{
 use crate::tests::{Case, each_holds};
 use std::test::Fail;
 
-// The reader is taken back by the writer, with its child, and reads again.
+// The reader is aborted by the writer, with its child, and reads again.
 pub(super) const CONFLICT: &str =
     "dispatch 0\nstep 0 0\nstep 0 0\nstep 0 0\ndispatch 1\nstep 1 0\nstep 1 0\ncommit\n\
     dispatch 0\nstep 0 0\nstep 0 0\nstep 0 0\nstep 0 0\ncommit\ndispatch 0\nstep 0 0\ncommit\n";
 
-// The task whose pointer isn't there yet traps, is taken back, and reads the right one.
+// The task whose pointer isn't stored yet traps, is aborted, and reads the right one.
 const TRAPPED: &str =
     "dispatch 0\nstep 0 0\nstep 0 0\nstep 0 0\ncommit\ndispatch 1\nstep 1 0\nstep 1 0\ncommit\n\
     dispatch 0\nstep 0 0\nstep 0 0\nstep 0 0\nstep 0 0\ncommit\n";
@@ -22,7 +22,7 @@ const STALLED: &str =
     abort 0\ndispatch 0\ncoalesce 0\ncoalesce 0\nsplit 0\n";
 
 static SCHEDULES: [Case; 26] = [
-    // A store takes back the reader with its child, and another one the task that trapped.
+    // A store aborts the reader with its child, and another one the task that trapped.
     Case {
         words: "steps --tiles 2 --cores 1",
         read: (READER, CONFLICT),
@@ -44,7 +44,7 @@ static SCHEDULES: [Case; 26] = [
         ),
         left: (0, "normal", 2, Some(13)),
     },
-    // With a full commit queue the earlier task takes the later one back where it ends, and the later one stalls.
+    // With a full commit queue the earlier task aborts the later one when it ends, and the later one stalls.
     Case {
         words: "steps --tiles 1 --cores 2 --commit-queue 1",
         read: (
@@ -92,8 +92,8 @@ static SCHEDULES: [Case; 26] = [
         left: (0, "open", 1, Some(10)),
     },
     // The word that is read and the one that is written lie 16,384 bytes apart. Lines of 16 bytes are 1,024 apart
-    // there, so one bit of the filter stands for both, and the reader is taken back. Lines of 64 bytes are 256 apart,
-    // and have a bit each.
+    // there, so they share one bit of the filter, and the reader is aborted. Lines of 64 bytes are 256 apart, and have
+    // a bit each.
     Case {
         words: "steps --tiles 2 --cores 1",
         read: (APART, "dispatch 0\nstep 0 0\ndispatch 1\nstep 1 0\n"),
@@ -112,7 +112,7 @@ static SCHEDULES: [Case; 26] = [
         ),
         left: (0, "open", 0, Some(4)),
     },
-    // With a full task queue the least task has a later one taken back and spilled for its child; then a split stalls.
+    // With a full task queue the least task has a later one aborted and spilled for its child; then a split stalls.
     Case {
         words: "steps --tiles 1 --cores 4 --task-queue 4",
         read: (
@@ -125,7 +125,7 @@ static SCHEDULES: [Case; 26] = [
         ),
         left: (0, "open", 0, Some(6)),
     },
-    // Texts that are no scripts: a tile that isn't there, an empty line, a core that isn't there.
+    // Texts that aren't scripts: a missing tile, an empty line, a missing core.
     Case {
         words: "steps --tiles 2 --cores 1",
         read: (READER, "dispatch 2\n"),
@@ -157,7 +157,7 @@ static SCHEDULES: [Case; 26] = [
         written: ("", "fault usage\n"),
         left: (1, "none", 0, None),
     },
-    // Runs that end in a trap and at the commit limit, and one that goes on, for which workers make no difference.
+    // Runs that end in a trap and at the commit limit, and one that isn't over, for which workers make no difference.
     Case {
         words: "steps --tiles 1",
         read: (OUTSIDE, "dispatch 0\nstep 0 0\nadvance\n"),
@@ -182,8 +182,8 @@ static SCHEDULES: [Case; 26] = [
         written: ("", "moved 0\nfractal 1\noutput -\nend open\n"),
         left: (0, "open", 0, Some(1)),
     },
-    // The same of `trace`: no script, no image, words that are refused; then what the taps saw of no act, and of a run
-    // that ended in a trap.
+    // Calls of `trace`: no script, no image, invalid arguments; then what the taps saw of no act, and of a run that
+    // ended in a trap.
     Case {
         words: "trace --tiles 2 --cores 1",
         read: (READER, "dispatch 2\n"),

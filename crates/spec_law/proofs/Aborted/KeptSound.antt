@@ -3,7 +3,7 @@ use Rattle.std.proofs.Common.{◌≡◌, ◌≢◌, ℕ, Some, refl, sym, ap, su
 use Rattle.std.specs.declared.cmp.Ordering.TheVariants.{Less}
 use Rattle.guest_image.specs.ImageValue.{ImageValue}
 use Rattle.fractal_vt.specs.Keys.{key_cmp}
-use Rattle.serial_machine.specs.Run.{IsRun}
+use Rattle.spec_state.specs.serial_machine.Run.{IsRun}
 use Rattle.spec_state.specs.declared.task.Creator.{Creator}
 use Rattle.spec_state.specs.declared.task.Creator.TheVariants.{Committed, Live}
 use Rattle.spec_state.specs.declared.task.Task.{Task}

@@ -2,11 +2,11 @@
 use Rattle.std.proofs.Common.{◌≡◌, ℕ, Bool, true, false, length, Option, Some, refl, sym, ap, subst, ◌∙◌, inl}
 use Rattle.std.proofs.Common.{is_some, unwrap_or}
 use Rattle.guest_image.specs.ImageValue.{ImageValue}
-use Rattle.serial_machine.specs.State.{SerialState}
-use Rattle.task_law.specs.Commit.{Matches}
-use Rattle.task_law.specs.Domains.{FitsBags}
-use Rattle.task_law.specs.Sound.{AreSound, SameFree}
-use Rattle.task_law.proofs.Proved.{aborts_keep}
+use Rattle.spec_state.specs.serial_machine.State.{SerialState}
+use Rattle.spec_state.specs.task_law.Commit.{Matches}
+use Rattle.spec_state.specs.task_law.Domains.{FitsBags}
+use Rattle.spec_state.specs.task_law.Sound.{AreSound, SameFree}
+use Rattle.spec_state.proofs.Below.task_law.Proved.{aborts_keep}
 use Rattle.spec_state.specs.declared.task.Creator.TheVariants.{Committed, Live}
 use Rattle.spec_state.specs.declared.task.Task.{Task}
 use Rattle.spec_state.specs.declared.task.TaskId.{TaskId}

@@ -7,8 +7,8 @@ use Rattle.memory_law.specs.Notes.{notes_of}
 use Rattle.memory_law.specs.Tasks.{Logged, Earlier}
 use Rattle.order_law.specs.Events as order
 use Rattle.order_law.specs.Tasks.{Keyed}
-use Rattle.task_law.specs.Moves as moves
-use Rattle.task_law.specs.Tasks as bags
+use Rattle.spec_state.specs.task_law.Moves as moves
+use Rattle.spec_state.specs.task_law.Tasks as bags
 use Rattle.spec_state.specs.declared.task.Creator.{Creator}
 use Rattle.spec_state.specs.declared.task.Creator.TheVariants.{Committed, Live}
 use Rattle.spec_state.specs.declared.task.Task.{Task}

@@ -11,7 +11,7 @@ use Rattle.rv_core.specs.declared.state.Core.{Core}
 use Rattle.rv_core.specs.Legs.{after_other_of, after_load_of}
 use Rattle.rv_core.specs.LegValue.{LegValue}
 use Rattle.rv_core.specs.Memory.{load_width}
-use Rattle.serial_machine.specs.Run.{IsRun}
+use Rattle.spec_state.specs.serial_machine.Run.{IsRun}
 use Rattle.undo_log.specs.declared.access.Access.{Access}
 use Rattle.undo_log.specs.Number.{IsAccessible, number_at, after_write}
 use Rattle.undo_log.specs.Undo.{MemoryCall, Load, Store, access_of, after_call}

@@ -6,13 +6,13 @@ use Rattle.rv_core.specs.Legs.{after_other_of, after_load_of}
 use Rattle.rv_core.specs.LegValue.{LegValue}
 use Rattle.rv_core.specs.Memory.{load_width}
 use Rattle.rv_table.specs.declared.instr.LoadWidth.{LoadWidth}
-use Rattle.run_law.proofs.Proved.{run_reaches}
+use Rattle.spec_state.proofs.Below.run_law.Proved.{run_reaches}
 use Rattle.task_request.specs.declared.request.Request.{Request}
 use Rattle.task_request.specs.declared.request.Request.TheVariants as request
 use Rattle.task_request.specs.Conditions.{IsInData}
 use Rattle.task_request.specs.TaskState.{task_at_start}
 use Rattle.task_request.proofs.Proved.{request_at-reaches}
-use Rattle.task_law.specs.Logged.{LoggedRun, load, store}
+use Rattle.spec_state.specs.task_law.Logged.{LoggedRun, load, store}
 use Rattle.undo_log.specs.declared.access.Access.{Access}
 use Rattle.undo_log.specs.Number.{number_at}
 use Rattle.undo_log.specs.Undo.{Load, Store, access_of}

@@ -5,8 +5,8 @@ use Rattle.std.proofs.lemmas.Bool.{cases_eq}
 use Rattle.guest_image.specs.ImageValue.{ImageValue}
 use Rattle.memory_law.specs.Tasks.{Logged}
 use Rattle.memory_law.proofs.Proved.{idle_tasks_keep_chain}
-use Rattle.serial_machine.specs.State.{SerialState}
-use Rattle.task_law.proofs.Proved.{get_cases}
+use Rattle.spec_state.specs.serial_machine.State.{SerialState}
+use Rattle.spec_state.proofs.Below.task_law.Proved.{get_cases}
 use Rattle.spec_state.specs.declared.task.Task.{Task}
 use Rattle.spec_state.specs.View.{View, task_at, queue_at}
 use Rattle.spec_state.specs.Filters.{HasNotes}

@@ -9,8 +9,8 @@ use Rattle.guest_image.specs.declared.image.Kind.{Kind}
 use Rattle.guest_image.specs.declared.image.Kind.TheVariants.{Unordered, Ordered}
 use Rattle.task_desc.specs.declared.desc.Place.{Place}
 use Rattle.task_desc.specs.declared.desc.Place.TheVariants.{Same, Sub, Super}
-use Rattle.task_law.specs.Domains.{Domain, first_kind, ChildDomains}
-use Rattle.task_law.specs.Domains as turns
+use Rattle.spec_state.specs.task_law.Domains.{Domain, first_kind, ChildDomains}
+use Rattle.spec_state.specs.task_law.Domains as turns
 use Rattle.spec_state.specs.declared.task.Task.{Task}
 use Rattle.spec_state.specs.Tasks.{kind_at, kind_if, outer_kind, floor_in, start_context, sub_bit, depth_of, own_level}
 use Rattle.spec_state.specs.Tasks.{child_domain, child_kinds}

@@ -1,9 +1,9 @@
 -- A commit of a finished least task is a turn of the serial machine, and leaves a sound view.
 use Rattle.std.proofs.Common.{ℕ, Option, None, refl, sym, ap, subst, ◌∙◌}
 use Rattle.guest_image.specs.ImageValue.{ImageValue}
-use Rattle.run_law.proofs.Proved.{Runs-more}
+use Rattle.spec_state.proofs.Below.run_law.Proved.{Runs-more}
 use Rattle.run_journal.specs.declared.journal.Entry.{Entry}
-use Rattle.serial_machine.specs.Run.{IsRun, opening}
+use Rattle.spec_state.specs.serial_machine.Run.{IsRun, opening}
 use Rattle.spec_state.specs.View.{View}
 use Rattle.spec_state.specs.Tasks.{depth_of}
 use Rattle.spec_state.specs.Least.{IsHeir}

@@ -4,8 +4,8 @@ use Rattle.std.proofs.Common.{inr, option_map, if◌then◌else◌}
 use Rattle.std.proofs.lemmas.Bool.{cases_eq}
 use Rattle.order_law.specs.Events.{without_creator}
 use Rattle.order_law.specs.Tasks.{Keyed}
-use Rattle.task_law.specs.Commit as turns
-use Rattle.task_law.specs.Tasks as bags
+use Rattle.spec_state.specs.task_law.Commit as turns
+use Rattle.spec_state.specs.task_law.Tasks as bags
 use Rattle.spec_state.specs.declared.task.Creator.{Creator}
 use Rattle.spec_state.specs.declared.task.Creator.TheVariants.{Committed, Live}
 use Rattle.spec_state.specs.declared.task.Task.{Task}

@@ -4,13 +4,13 @@ use Rattle.std.proofs.Common.{inr, arith, map, option_map, is_some, unwrap_or, s
 use Rattle.std.specs.Prelude.{Contains}
 use Rattle.fractal_vt.specs.declared.level.Level.{Level}
 use Rattle.guest_image.specs.ImageValue.{ImageValue}
-use Rattle.serial_machine.specs.BagValue.{BagValue}
+use Rattle.spec_state.specs.serial_machine.BagValue.{BagValue}
 use Rattle.spill_store.specs.SpilledTasks.{Spilled}
-use Rattle.task_law.specs.Commit.{Matches}
-use Rattle.task_law.specs.Domains.{FitsBags}
-use Rattle.task_law.specs.Sound.{AreSound}
-use Rattle.task_law.specs.Tasks.{IsSpilled}
-use Rattle.task_law.proofs.Proved.{commits_keep}
+use Rattle.spec_state.specs.task_law.Commit.{Matches}
+use Rattle.spec_state.specs.task_law.Domains.{FitsBags}
+use Rattle.spec_state.specs.task_law.Sound.{AreSound}
+use Rattle.spec_state.specs.task_law.Tasks.{IsSpilled}
+use Rattle.spec_state.proofs.Below.task_law.Proved.{commits_keep}
 use Rattle.spec_state.specs.declared.task.Creator.{Creator}
 use Rattle.spec_state.specs.declared.task.Creator.TheVariants.{Committed, Live}
 use Rattle.spec_state.specs.declared.task.Status.{Status}

@@ -7,20 +7,21 @@ use Rattle.fractal_vt.specs.Keys.{levels}
 use Rattle.fractal_vt.specs.Levels.{closed_level}
 use Rattle.guest_image.specs.ImageValue.{ImageValue}
 use Rattle.memory_law.specs.Accesses.{after_accesses, Replays}
-use Rattle.run_law.proofs.Proved.{count-run, done-placed}
+use Rattle.spec_state.proofs.Below.run_law.Proved.{count-run, done-placed}
 use Rattle.pending_list.specs.declared.task.PendingTask.{PendingTask}
-use Rattle.serial_machine.specs.State.{SerialState, IsStack}
-use Rattle.serial_machine.specs.TaskRun.{Done, task_at_start}
-use Rattle.serial_machine.specs.TaskState.{TaskState}
-use Rattle.serial_machine.specs.Turn.{turn, stack_after, context_in_bag, run_in_bag}
-use Rattle.serial_machine.proofs.Proved.{IsStack-inner}
-use Rattle.task_law.specs.Commit.{Matches, HasTurn, HaveDomains, IsLeastInBags, IsNextTurn}
-use Rattle.task_law.specs.Domains.{FitsBags, KeepsDomains}
-use Rattle.task_law.specs.Logged.{LoggedRun, FinishesWithLog}
-use Rattle.task_law.specs.Sound.{AreSound}
-use Rattle.task_law.specs.Tasks.{pending}
-use Rattle.task_law.proofs.Proved.{commit_is_turn, contexts_fit, end_on, finished, have_domains, least_has_turn}
-use Rattle.task_law.proofs.Proved.{logged_on, logged_run_is_turn, turns_keep_domains}
+use Rattle.spec_state.specs.serial_machine.State.{SerialState, IsStack}
+use Rattle.spec_state.specs.serial_machine.TaskRun.{Done, task_at_start}
+use Rattle.spec_state.specs.serial_machine.TaskState.{TaskState}
+use Rattle.spec_state.specs.serial_machine.Turn.{turn, stack_after, context_in_bag, run_in_bag}
+use Rattle.spec_state.proofs.Below.serial_machine.Proved.{IsStack-inner}
+use Rattle.spec_state.specs.task_law.Commit.{Matches, HasTurn, HaveDomains, IsLeastInBags, IsNextTurn}
+use Rattle.spec_state.specs.task_law.Domains.{FitsBags, KeepsDomains}
+use Rattle.spec_state.specs.task_law.Logged.{LoggedRun, FinishesWithLog}
+use Rattle.spec_state.specs.task_law.Sound.{AreSound}
+use Rattle.spec_state.specs.task_law.Tasks.{pending}
+use Rattle.spec_state.proofs.Below.task_law.Proved.{commit_is_turn, contexts_fit, end_on, finished, have_domains}
+use Rattle.spec_state.proofs.Below.task_law.Proved.{least_has_turn}
+use Rattle.spec_state.proofs.Below.task_law.Proved.{logged_on, logged_run_is_turn, turns_keep_domains}
 use Rattle.spec_state.specs.declared.task.Task.{Task}
 use Rattle.spec_state.specs.View.{View, queue_at}
 use Rattle.spec_state.specs.Tasks.{depth_of, start_context, is_dispatched}

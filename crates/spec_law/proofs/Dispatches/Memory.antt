@@ -9,7 +9,7 @@ use Rattle.fractal_vt.proofs.Proved.{equal_keys_tie, key_cmp_total, mapped_some}
 use Rattle.memory_law.specs.Events as memory
 use Rattle.memory_law.specs.Tasks.{Logged, Earlier}
 use Rattle.memory_law.proofs.Proved.{dispatch_keeps_chain}
-use Rattle.serial_machine.specs.State.{SerialState}
+use Rattle.spec_state.specs.serial_machine.State.{SerialState}
 use Rattle.spec_state.specs.declared.task.Task.{Task}
 use Rattle.spec_state.specs.View.{View, task_at}
 use Rattle.spec_state.specs.Filters.{HasNotes}

@@ -3,14 +3,14 @@ use Rattle.std.proofs.Common.{◌≡◌, ◌≢◌, ◌+◌, ◌≤◌, ℕ, tru
 use Rattle.std.proofs.Common.{inl, inr, arith, option_map, slice_get, is_some, unwrap_or}
 use Rattle.std.specs.Prelude.{Contains}
 use Rattle.guest_image.specs.ImageValue.{ImageValue}
-use Rattle.serial_machine.specs.State.{SerialState}
+use Rattle.spec_state.specs.serial_machine.State.{SerialState}
 use Rattle.spill_store.specs.SpilledTasks.{Spilled}
-use Rattle.task_law.specs.Domains.{FitsBags}
-use Rattle.task_law.specs.Grows.{DispatchesInBags}
-use Rattle.task_law.specs.Logged.{none}
-use Rattle.task_law.specs.Sound.{AreSound, SameFree}
-use Rattle.task_law.specs.Tasks as bags
-use Rattle.task_law.proofs.Proved.{dispatches_keep, idle_least}
+use Rattle.spec_state.specs.task_law.Domains.{FitsBags}
+use Rattle.spec_state.specs.task_law.Grows.{DispatchesInBags}
+use Rattle.spec_state.specs.task_law.Logged.{none}
+use Rattle.spec_state.specs.task_law.Sound.{AreSound, SameFree}
+use Rattle.spec_state.specs.task_law.Tasks as bags
+use Rattle.spec_state.proofs.Below.task_law.Proved.{dispatches_keep, idle_least}
 use Rattle.spec_state.specs.declared.task.Creator.{Creator}
 use Rattle.spec_state.specs.declared.task.Creator.TheVariants.{Committed, Live}
 use Rattle.spec_state.specs.declared.task.Status.TheVariants.{Running}

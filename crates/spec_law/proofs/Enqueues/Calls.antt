@@ -7,11 +7,11 @@ use Rattle.std.proofs.lemmas.List.{length_push}
 use Rattle.fractal_vt.specs.declared.level.Level.{Level}
 use Rattle.guest_image.specs.declared.image.Kind.{Kind}
 use Rattle.guest_image.specs.declared.image.Kind.TheVariants.{Unordered, Ordered}
-use Rattle.run_law.proofs.Proved.{HasDomain}
+use Rattle.spec_state.proofs.Below.run_law.Proved.{HasDomain}
 use Rattle.task_desc.specs.declared.desc.Place.{Place}
 use Rattle.task_desc.specs.declared.desc.Place.TheVariants.{Same, Sub, Super}
 use Rattle.task_desc.specs.declared.desc.Spawn.{Spawn}
-use Rattle.task_law.specs.Tasks.{IsChildDepth}
+use Rattle.spec_state.specs.task_law.Tasks.{IsChildDepth}
 use Rattle.spec_state.specs.declared.task.Task.{Task}
 use Rattle.rv_core.specs.LegValue.{LegValue}
 use Rattle.spec_state.specs.Changes.{task_past_leg}

@@ -9,14 +9,14 @@ use Rattle.fractal_vt.specs.Keys.{key_cmp}
 use Rattle.fractal_vt.proofs.Proved.{equal_keys_tie, key_cmp_total}
 use Rattle.guest_image.specs.ImageValue.{ImageValue}
 use Rattle.order_law.specs.Events.{IsPlaced}
-use Rattle.serial_machine.specs.Run.{IsRun}
-use Rattle.serial_machine.specs.State.{SerialState}
+use Rattle.spec_state.specs.serial_machine.Run.{IsRun}
+use Rattle.spec_state.specs.serial_machine.State.{SerialState}
 use Rattle.task_desc.specs.declared.desc.Spawn.{Spawn}
-use Rattle.task_law.specs.Commit.{Matches}
-use Rattle.task_law.specs.Domains.{FitsBags}
-use Rattle.task_law.specs.Grows as grows
-use Rattle.task_law.specs.Sound.{AreSound, SameFree}
-use Rattle.task_law.proofs.Proved.{enqueues_keep}
+use Rattle.spec_state.specs.task_law.Commit.{Matches}
+use Rattle.spec_state.specs.task_law.Domains.{FitsBags}
+use Rattle.spec_state.specs.task_law.Grows as grows
+use Rattle.spec_state.specs.task_law.Sound.{AreSound, SameFree}
+use Rattle.spec_state.proofs.Below.task_law.Proved.{enqueues_keep}
 use Rattle.spec_state.specs.declared.emitted.TheConstants.{MAX_EMITTED}
 use Rattle.spec_state.specs.declared.task.Creator.TheVariants.{Committed, Live}
 use Rattle.spec_state.specs.declared.task.Task.{Task}

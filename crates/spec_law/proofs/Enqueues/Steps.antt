@@ -5,11 +5,11 @@ use Rattle.std.proofs.lemmas.Bool.{cases_eq}
 use Rattle.std.proofs.lemmas.List.{get_or-set_same, get_or-set_other}
 use Rattle.guest_image.specs.ImageValue.{ImageValue}
 use Rattle.rv_core.specs.LegValue.{LegValue}
-use Rattle.run_law.proofs.Proved.{HasDomain, IsPlaced}
+use Rattle.spec_state.proofs.Below.run_law.Proved.{HasDomain, IsPlaced}
 use Rattle.task_request.specs.declared.request.Request.TheVariants.{Enqueue}
 use Rattle.task_request.specs.TaskState.{TaskState, task_at_start}
 use Rattle.task_desc.specs.declared.desc.Spawn.{Spawn}
-use Rattle.task_law.specs.Grows as grows
+use Rattle.spec_state.specs.task_law.Grows as grows
 use Rattle.spec_state.specs.declared.task.Task.{Task}
 use Rattle.spec_state.specs.View.{View, task_at}
 use Rattle.spec_state.specs.Tasks.{depth_of, progress_at, start_context}

@@ -8,11 +8,11 @@ use Rattle.std.proofs.lemmas.List.Elements.{recursion_from_All, Contains-get_or}
 use Rattle.std.proofs.lemmas.Option.{slice_get-get_or}
 use Rattle.spill_store.specs.SpilledTasks.{Spilled}
 use Rattle.task_desc.specs.declared.desc.Name.{Name}
-use Rattle.task_law.specs.Tasks as bags
-use Rattle.task_law.specs.Tasks.{Names, SpilledBagTask}
-use Rattle.task_law.specs.Sound.{AreSound, SameFree}
-use Rattle.task_law.specs.Moves as move
-use Rattle.task_law.proofs.Proved.{coalesces_keep}
+use Rattle.spec_state.specs.task_law.Tasks as bags
+use Rattle.spec_state.specs.task_law.Tasks.{Names, SpilledBagTask}
+use Rattle.spec_state.specs.task_law.Sound.{AreSound, SameFree}
+use Rattle.spec_state.specs.task_law.Moves as move
+use Rattle.spec_state.proofs.Below.task_law.Proved.{coalesces_keep}
 use Rattle.spec_state.specs.declared.task.Creator.{Creator}
 use Rattle.spec_state.specs.declared.task.Status.TheVariants.{Idle}
 use Rattle.spec_state.specs.declared.task.Task.{Task}

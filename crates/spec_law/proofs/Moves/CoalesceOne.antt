@@ -6,8 +6,8 @@ use Rattle.std.specs.List.{AllZip, AllByRecursion, AllPairs}
 use Rattle.std.proofs.lemmas.Bool.{cases_eq}
 use Rattle.std.proofs.lemmas.List.Elements.{recursion_from_All}
 use Rattle.task_desc.specs.declared.desc.Name.{Name}
-use Rattle.task_law.specs.Tasks.{BagTask, Live, Names, SpilledBagTask}
-use Rattle.task_law.specs.Moves.{CoalescesInBags, spilled_of}
+use Rattle.spec_state.specs.task_law.Tasks.{BagTask, Live, Names, SpilledBagTask}
+use Rattle.spec_state.specs.task_law.Moves.{CoalescesInBags, spilled_of}
 use Rattle.spec_law.proofs.Moves.Added.{AddsEach}
 use Rattle.spec_state.proofs.Proved.{head_or_tail}
 

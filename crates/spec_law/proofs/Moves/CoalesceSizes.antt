@@ -4,7 +4,7 @@ use Rattle.std.proofs.Common.{option_map, is_some, slice_index_or}
 use Rattle.std.specs.Prelude.{Contains, filter, All}
 use Rattle.std.proofs.lemmas.List.{length-map, length-set}
 use Rattle.guest_image.specs.ImageValue.{ImageValue}
-use Rattle.serial_machine.specs.State.{SerialState}
+use Rattle.spec_state.specs.serial_machine.State.{SerialState}
 use Rattle.tile_queues.specs.Queue.{AreDistinct}
 use Rattle.spec_state.specs.declared.task.Task.{Task}
 use Rattle.spec_state.specs.View.{View, task_at, queue_at}

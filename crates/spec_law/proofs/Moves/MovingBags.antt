@@ -1,11 +1,11 @@
 -- What the bags of pending tasks read of firm tasks' names, and that they still match.
 use Rattle.std.proofs.Common.{◌≡◌, ℕ, true, List, length, Option, sym, ap, is_some, unwrap_or}
-use Rattle.serial_machine.specs.BagValue.{BagValue}
+use Rattle.spec_state.specs.serial_machine.BagValue.{BagValue}
 use Rattle.task_desc.specs.declared.desc.Name.{Name}
-use Rattle.task_law.specs.Commit.{Matches}
-use Rattle.task_law.specs.Sound.{SameFree}
-use Rattle.task_law.specs.Tasks as bags
-use Rattle.task_law.specs.Tasks.{Names, SpilledBagTask}
+use Rattle.spec_state.specs.task_law.Commit.{Matches}
+use Rattle.spec_state.specs.task_law.Sound.{SameFree}
+use Rattle.spec_state.specs.task_law.Tasks as bags
+use Rattle.spec_state.specs.task_law.Tasks.{Names, SpilledBagTask}
 use Rattle.spec_state.specs.declared.task.Creator.{Creator}
 use Rattle.spec_state.specs.declared.task.Creator.TheVariants.{Committed, Live}
 use Rattle.spec_state.specs.View.{View}

@@ -4,7 +4,7 @@ use Rattle.guest_image.specs.ImageValue.{ImageValue}
 use Rattle.memory_law.specs.Events.{KeepsDispatched}
 use Rattle.memory_law.specs.Tasks.{Logged}
 use Rattle.memory_law.proofs.Proved.{idle_tasks_keep_chain}
-use Rattle.serial_machine.specs.State.{SerialState}
+use Rattle.spec_state.specs.serial_machine.State.{SerialState}
 use Rattle.spec_state.specs.declared.task.Status.{Status}
 use Rattle.spec_state.specs.declared.task.Status.TheVariants.{Idle, Running, Trapped, Finished}
 use Rattle.spec_state.specs.declared.task.Task.{Task}

@@ -1,7 +1,7 @@
 -- Tasks that move between queues and blocks keep a view sound.
 use Rattle.std.proofs.Common.{◌≡◌, length, refl, sym, subst, is_some, unwrap_or}
 use Rattle.guest_image.specs.ImageValue.{ImageValue}
-use Rattle.task_law.specs.Sound.{AreSound, SameFree}
+use Rattle.spec_state.specs.task_law.Sound.{AreSound, SameFree}
 use Rattle.spec_state.specs.View.{View}
 use Rattle.spec_state.specs.Groups.{bag_tasks, bags_spilled}
 use Rattle.spec_law.specs.Sound.{Sound, SoundSizes, StaysSound}

@@ -6,9 +6,9 @@ use Rattle.std.proofs.lemmas.Bool.{cases_eq}
 use Rattle.std.proofs.lemmas.List.{map-append}
 use Rattle.std.proofs.lemmas.List.Elements.{Contains-append_left, Contains-append_right, Contains-append_cases}
 use Rattle.spill_store.specs.SpilledTasks.{Spilled}
-use Rattle.task_law.specs.Moves.{SpillsOneInBags}
-use Rattle.task_law.specs.Sound.{AreSound, SameFree}
-use Rattle.task_law.proofs.Proved.{splits_keep}
+use Rattle.spec_state.specs.task_law.Moves.{SpillsOneInBags}
+use Rattle.spec_state.specs.task_law.Sound.{AreSound, SameFree}
+use Rattle.spec_state.proofs.Below.task_law.Proved.{splits_keep}
 use Rattle.spec_state.specs.declared.task.Task.{Task}
 use Rattle.spec_state.specs.View.{View, task_at}
 use Rattle.spec_state.specs.Tasks.{descriptor_of, idle_task, spilled_as, spilled_descriptor}

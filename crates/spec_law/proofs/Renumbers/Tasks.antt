@@ -7,7 +7,7 @@ use Rattle.std.proofs.lemmas.List.{length-map}
 use Rattle.fractal_vt.specs.declared.level.Level.{Level}
 use Rattle.fractal_vt.specs.Renumbered.{place_in, renumbered_levels, renumbered_level}
 use Rattle.guest_image.specs.ImageValue.{ImageValue}
-use Rattle.serial_machine.specs.State.{SerialState}
+use Rattle.spec_state.specs.serial_machine.State.{SerialState}
 use Rattle.task_request.specs.TaskState.{TaskState, task_at_start}
 use Rattle.task_request.specs.declared.request.Request.{Request}
 use Rattle.task_request.specs.declared.request.Request.TheVariants.{End, Trap}
@@ -15,10 +15,10 @@ use Rattle.spill_store.specs.SpilledTasks.{Spilled, renumbered_spilled}
 use Rattle.task_desc.specs.declared.desc.Place.{Place}
 use Rattle.task_desc.specs.declared.desc.Place.TheVariants.{Same, Sub, Super}
 use Rattle.task_desc.specs.declared.desc.Spawn.{Spawn}
-use Rattle.task_law.specs.Commit.{Matches}
-use Rattle.task_law.specs.Domains.{Domain, FitsBags}
-use Rattle.task_law.specs.Logged.{CoreAsks, LoggedRun}
-use Rattle.task_law.specs.Sound.{AreSound}
+use Rattle.spec_state.specs.task_law.Commit.{Matches}
+use Rattle.spec_state.specs.task_law.Domains.{Domain, FitsBags}
+use Rattle.spec_state.specs.task_law.Logged.{CoreAsks, LoggedRun}
+use Rattle.spec_state.specs.task_law.Sound.{AreSound}
 use Rattle.spec_state.specs.declared.task.Creator.TheVariants.{Committed, Live}
 use Rattle.spec_state.specs.declared.task.Status.{Status}
 use Rattle.spec_state.specs.declared.task.Status.TheVariants.{Idle, Running, Trapped, Finished}

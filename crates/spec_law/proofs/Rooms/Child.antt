@@ -16,14 +16,14 @@ use Rattle.order_law.specs.Events.{IsPlaced}
 use Rattle.order_law.specs.Tasks.{Keyed}
 use Rattle.order_law.proofs.Proved.{stands}
 use Rattle.rv_core.specs.LegValue.{LegValue}
-use Rattle.serial_machine.specs.Legs.{SubFits}
-use Rattle.serial_machine.proofs.Proved.{request-sub_fits}
+use Rattle.spec_state.specs.serial_machine.Legs.{SubFits}
+use Rattle.spec_state.proofs.Below.serial_machine.Proved.{request-sub_fits}
 use Rattle.task_desc.specs.declared.calls.TheConstants.{MAX_DEPTH}
 use Rattle.task_desc.specs.Calls.{allowed_at, allowed_sub, allowed_super}
 use Rattle.task_request.specs.declared.request.Request.TheVariants.{Enqueue}
 use Rattle.task_request.specs.TaskState.{TaskState, task_at_start, context}
 use Rattle.task_request.proofs.Proved.{AllowedBy, request_at-allowed_spawn}
-use Rattle.task_law.proofs.Proved.{logged-holds}
+use Rattle.spec_state.proofs.Below.task_law.Proved.{logged-holds}
 use Rattle.task_desc.specs.declared.desc.Place.{Place}
 use Rattle.task_desc.specs.declared.desc.Place.TheVariants.{Same, Sub, Super}
 use Rattle.task_desc.specs.declared.desc.Spawn.{Spawn}

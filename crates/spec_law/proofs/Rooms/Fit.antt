@@ -9,8 +9,8 @@ use Rattle.fractal_vt.proofs.Proved.{first_not_greater, key_cmp_total, mapped_so
 use Rattle.fractal_vt.specs.Keys.{levels, key_cmp}
 use Rattle.fractal_vt.specs.Levels.{levels_cmp}
 use Rattle.guest_image.specs.ImageValue.{ImageValue}
-use Rattle.task_law.specs.Room as room
-use Rattle.task_law.specs.Tasks.{In}
+use Rattle.spec_state.specs.task_law.Room as room
+use Rattle.spec_state.specs.task_law.Tasks.{In}
 use Rattle.spec_state.specs.declared.task.Creator.{Creator}
 use Rattle.spec_state.specs.declared.task.Creator.TheVariants.{Committed, Live}
 use Rattle.spec_state.specs.declared.task.Status.{Status}

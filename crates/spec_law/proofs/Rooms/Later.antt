@@ -10,8 +10,8 @@ use Rattle.order_law.specs.Tasks.{Keyed}
 use Rattle.order_law.specs.Tasks as order
 use Rattle.order_law.specs.Events as events
 use Rattle.order_law.proofs.Proved.{below_dispatched}
-use Rattle.task_law.specs.Room as room
-use Rattle.task_law.proofs.Proved.{victims_are_legal}
+use Rattle.spec_state.specs.task_law.Room as room
+use Rattle.spec_state.proofs.Below.task_law.Proved.{victims_are_legal}
 use Rattle.spec_state.specs.declared.task.Task.{Task}
 use Rattle.spec_state.specs.View.{View, task_at, queue_at}
 use Rattle.spec_state.specs.Tasks.{is_dispatched}

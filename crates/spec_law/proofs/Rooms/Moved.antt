@@ -10,8 +10,8 @@ use Rattle.std.specs.declared.cmp.Ordering.TheVariants.{Less, Equal, Greater}
 use Rattle.fractal_vt.proofs.Proved.{all_get, first_not_greater, greater_number, key_cmp_total}
 use Rattle.fractal_vt.specs.Keys.{key_cmp}
 use Rattle.spill_store.specs.SpilledTasks.{Spilled, open_key, IsLeastInBlock}
-use Rattle.task_law.specs.Room.{RoomTask, queue_after}
-use Rattle.task_law.proofs.Proved.{shorter, shorter_or_same}
+use Rattle.spec_state.specs.task_law.Room.{RoomTask, queue_after}
+use Rattle.spec_state.proofs.Below.task_law.Proved.{shorter, shorter_or_same}
 use Rattle.spec_state.specs.View.{View, queue_at, block_at}
 use Rattle.spec_state.specs.Tasks.{idle_task, spilled_descriptor}
 use Rattle.spec_state.specs.Groups.{room_task, room_tasks}

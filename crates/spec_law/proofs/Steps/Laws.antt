@@ -5,7 +5,7 @@ use Rattle.guest_image.specs.declared.image.Kind.{Kind}
 use Rattle.guest_image.specs.ImageValue.{ImageValue}
 use Rattle.rv_core.specs.Legs.{after_other_of}
 use Rattle.rv_core.specs.LegValue.{LegValue}
-use Rattle.run_law.proofs.Proved.{HasDomain, IsPlaced}
+use Rattle.spec_state.proofs.Below.run_law.Proved.{HasDomain, IsPlaced}
 use Rattle.task_desc.specs.declared.calls.TheConstants.{MAX_BYTES}
 use Rattle.task_desc.specs.declared.desc.Place.{Place}
 use Rattle.task_desc.specs.declared.desc.Place.TheVariants.{Same, Sub, Super}
@@ -15,8 +15,8 @@ use Rattle.task_request.specs.Conditions.{IsCall}
 use Rattle.task_request.specs.Effects.{Continues, after_request}
 use Rattle.task_request.specs.TaskState.{TaskState, task_at_start}
 use Rattle.task_request.proofs.Proved.{allowed_by-limits, AllowedBy, request_at-allowed_spawn}
-use Rattle.task_law.specs.Logged.{call}
-use Rattle.task_law.proofs.Proved.{on_memory}
+use Rattle.spec_state.specs.task_law.Logged.{call}
+use Rattle.spec_state.proofs.Below.task_law.Proved.{on_memory}
 use Rattle.spec_state.specs.declared.task.Status.TheVariants.{Trapped, Finished}
 use Rattle.spec_state.specs.declared.task.Task.{Task}
 use Rattle.spec_state.specs.View.{View}

@@ -9,7 +9,7 @@ use Rattle.order_law.specs.Tasks.{Keyed}
 use Rattle.order_law.specs.Events.{beside}
 use Rattle.order_law.specs.Ordered.{IsOrdered}
 use Rattle.order_law.proofs.Proved.{rename_keeps_order, Renames}
-use Rattle.serial_machine.specs.State.{SerialState}
+use Rattle.spec_state.specs.serial_machine.State.{SerialState}
 use Rattle.spec_state.specs.declared.task.Task.{Task}
 use Rattle.spec_state.specs.View.{View, task_at, ChangesTask}
 use Rattle.spec_state.specs.Filters.{HasNotes}

@@ -7,7 +7,7 @@ use Rattle.guest_image.specs.declared.image.Kind.{Kind}
 use Rattle.guest_image.specs.ImageValue.{ImageValue}
 use Rattle.rv_core.specs.declared.state.Core.{Core}
 use Rattle.rv_core.specs.Legs.{PlainInstructions}
-use Rattle.run_law.proofs.Proved.{HasDomain, HaveDomains, IsPlaced, request-placed}
+use Rattle.spec_state.proofs.Below.run_law.Proved.{HasDomain, HaveDomains, IsPlaced, request-placed}
 use Rattle.task_desc.specs.declared.calls.TheConstants.{MAX_BYTES}
 use Rattle.task_desc.specs.declared.desc.Ctx.{Ctx}
 use Rattle.task_desc.specs.declared.desc.Spawn.{Spawn}
@@ -16,8 +16,8 @@ use Rattle.task_request.specs.declared.request.Request.TheVariants as request
 use Rattle.task_request.specs.Conditions.{KeepsLimits}
 use Rattle.task_request.specs.Effects.{Continuation, Continues, Ends, Traps, after_request}
 use Rattle.task_request.specs.TaskState.{TaskState, context}
-use Rattle.task_law.specs.Logged.{LoggedRun, plain}
-use Rattle.task_law.proofs.Proved.{logged-holds}
+use Rattle.spec_state.specs.task_law.Logged.{LoggedRun, plain}
+use Rattle.spec_state.proofs.Below.task_law.Proved.{logged-holds}
 use Rattle.undo_log.specs.declared.access.Access.{Access}
 
 module _ (image : ImageValue) (budget size : ℕ) (ctx : Ctx) (start : TaskState) where

@@ -4,7 +4,7 @@ use Rattle.std.specs.Prelude.{◌↔◌}
 use Rattle.guest_image.specs.ImageValue.{ImageValue}
 use Rattle.rv_core.specs.LegValue.{LegValue}
 use Rattle.rv_core.specs.Legs.{PlainInstructions}
-use Rattle.serial_machine.specs.Run.{IsRun}
+use Rattle.spec_state.specs.serial_machine.Run.{IsRun}
 use Rattle.task_request.specs.declared.request.Request.{Request}
 use Rattle.task_request.specs.declared.request.Request.TheVariants.{Continue}
 use Rattle.task_request.specs.Requests.{request_at}

@@ -3,11 +3,11 @@ use Rattle.std.proofs.Common.{◌≡◌, ℕ, length, Option, Some, sym, ap, sub
 use Rattle.std.proofs.Common.{unwrap_or}
 use Rattle.std.proofs.lemmas.Bool.{cases_eq}
 use Rattle.guest_image.specs.ImageValue.{ImageValue}
-use Rattle.serial_machine.specs.State.{SerialState}
+use Rattle.spec_state.specs.serial_machine.State.{SerialState}
 use Rattle.task_desc.specs.declared.desc.Spawn.{Spawn}
-use Rattle.task_law.specs.Commit.{Matches}
-use Rattle.task_law.specs.Domains.{FitsBags}
-use Rattle.task_law.specs.Sound.{AreSound}
+use Rattle.spec_state.specs.task_law.Commit.{Matches}
+use Rattle.spec_state.specs.task_law.Domains.{FitsBags}
+use Rattle.spec_state.specs.task_law.Sound.{AreSound}
 use Rattle.spec_state.specs.declared.task.Creator.TheVariants.{Committed, Live}
 use Rattle.spec_state.specs.declared.task.Task.{Task}
 use Rattle.spec_state.specs.declared.task.TaskId.{TaskId}

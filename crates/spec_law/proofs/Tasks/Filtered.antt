@@ -4,7 +4,7 @@ use Rattle.std.proofs.Common.{sym, ap, subst, ◌∙◌, arith, cond, map, slice
 use Rattle.std.specs.Prelude.{Contains, filter}
 use Rattle.std.proofs.lemmas.List.Elements.{All-contains, All-contains_itself, All-filter, filter_passes}
 use Rattle.std.proofs.lemmas.List.Filters.{length-filter_both}
-use Rattle.task_law.specs.Room.{RoomTask, kept_by, queue_after}
+use Rattle.spec_state.specs.task_law.Room.{RoomTask, kept_by, queue_after}
 use Rattle.spec_state.proofs.Proved.{in_tail}
 
 -- no more is left than was there

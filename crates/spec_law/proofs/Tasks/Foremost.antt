@@ -6,8 +6,8 @@ use Rattle.fractal_vt.specs.Levels.{closed_level}
 use Rattle.order_law.specs.Innermost.{IsInnermost}
 use Rattle.order_law.specs.Tasks.{Keyed}
 use Rattle.pending_list.specs.declared.task.PendingTask.{PendingTask}
-use Rattle.task_law.specs.Tasks as bags
-use Rattle.task_law.specs.Tasks.{IsFree, IsSpilled}
+use Rattle.spec_state.specs.task_law.Tasks as bags
+use Rattle.spec_state.specs.task_law.Tasks.{IsFree, IsSpilled}
 use Rattle.spec_state.specs.declared.task.Creator.{Creator}
 use Rattle.spec_state.specs.declared.task.Creator.TheVariants.{Committed, Live}
 use Rattle.spec_state.specs.View.{View, task_at}

@@ -14,9 +14,9 @@ use Rattle.order_law.specs.Tasks.{Keyed}
 use Rattle.order_law.specs.Tasks as order
 use Rattle.order_law.proofs.Proved.{innermost}
 use Rattle.spill_store.specs.SpilledTasks.{Spilled, open_key}
-use Rattle.task_law.specs.Tasks.{IsSpilled}
-use Rattle.task_law.specs.Commit.{HasTurn}
-use Rattle.task_law.proofs.Proved.{least_has_turn}
+use Rattle.spec_state.specs.task_law.Tasks.{IsSpilled}
+use Rattle.spec_state.specs.task_law.Commit.{HasTurn}
+use Rattle.spec_state.proofs.Below.task_law.Proved.{least_has_turn}
 use Rattle.spec_state.specs.declared.task.Creator.{Creator}
 use Rattle.spec_state.specs.declared.task.Creator.TheVariants.{Committed, Live}
 use Rattle.spec_state.specs.declared.task.Task.{Task}

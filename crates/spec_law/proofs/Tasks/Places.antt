@@ -2,7 +2,7 @@
 use Rattle.std.proofs.Common.{◌≡◌, ◌⊎◌, ℕ, zero, suc, List, [], ◌∷◌, ◌++◌, map, flat_map, Contains, Some, refl, sym, ap}
 use Rattle.std.proofs.Common.{inl, inr, arith, slice_get, slice_index_or}
 use Rattle.std.proofs.lemmas.Option.{slice_get_within, get_or_from_slice_get}
-use Rattle.task_law.specs.Tasks.{In}
+use Rattle.spec_state.specs.task_law.Tasks.{In}
 use Rattle.fractal_vt.proofs.Proved.{get_front}
 
 -- an element of the second list is one of both

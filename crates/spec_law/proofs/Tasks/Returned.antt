@@ -3,13 +3,13 @@
 use Rattle.std.proofs.Common.{◌≡◌, ◌==◌, ℕ, ◌≤◌, Bool, false, List, [], ◌∷◌, ◌++◌, Option, Some, None, refl, sym, ap}
 use Rattle.std.proofs.Common.{if◌then◌else◌}
 use Rattle.pending_list.specs.declared.task.PendingTask.{PendingTask}
-use Rattle.serial_machine.specs.BagValue.{BagValue}
-use Rattle.serial_machine.specs.State.{IsStack}
-use Rattle.task_law.specs.Commit.{Matches, HasTurn}
-use Rattle.task_law.specs.Moves.{SpillsOneInBags}
-use Rattle.task_law.specs.Sound.{AreSound, SameFree}
-use Rattle.task_law.specs.Tasks.{BagTask, Committed, IsFree, IsSpilled, SpilledBagTask}
-use Rattle.task_law.proofs.Proved.{least_has_turn, splits_keep}
+use Rattle.spec_state.specs.serial_machine.BagValue.{BagValue}
+use Rattle.spec_state.specs.serial_machine.State.{IsStack}
+use Rattle.spec_state.specs.task_law.Commit.{Matches, HasTurn}
+use Rattle.spec_state.specs.task_law.Moves.{SpillsOneInBags}
+use Rattle.spec_state.specs.task_law.Sound.{AreSound, SameFree}
+use Rattle.spec_state.specs.task_law.Tasks.{BagTask, Committed, IsFree, IsSpilled, SpilledBagTask}
+use Rattle.spec_state.proofs.Below.task_law.Proved.{least_has_turn, splits_keep}
 use Rattle.spec_state.proofs.Proved.{same_test, other_test}
 
 -- the spilled task as a queued one, idle

@@ -1,12 +1,12 @@
 -- The depths of the bags after any run of the serial machine fall by one down to 1.
 use Rattle.std.proofs.Common.{ℕ, ◌+◌, List, [], ◌∷◌, refl, sym, subst, arith}
 use Rattle.guest_image.specs.ImageValue.{ImageValue}
-use Rattle.run_law.proofs.Proved.{turn-did, Turned}
+use Rattle.spec_state.proofs.Below.run_law.Proved.{turn-did, Turned}
 use Rattle.run_journal.specs.declared.journal.Entry.{Entry}
-use Rattle.serial_machine.specs.Run.{Runs, IsRun, opening}
-use Rattle.serial_machine.specs.State.{SerialState, IsStack}
-use Rattle.serial_machine.proofs.Proved.{IsStack-after, IsStack-inner}
-use Rattle.task_law.proofs.Proved.{done-fits}
+use Rattle.spec_state.specs.serial_machine.Run.{Runs, IsRun, opening}
+use Rattle.spec_state.specs.serial_machine.State.{SerialState, IsStack}
+use Rattle.spec_state.proofs.Below.serial_machine.Proved.{IsStack-after, IsStack-inner}
+use Rattle.spec_state.proofs.Below.task_law.Proved.{done-fits}
 
 -- a turn keeps them so
 turn_keeps_stack : (image : ImageValue) (budget : ℕ) (s mid : SerialState) (e : Entry) → IsStack s.stack

@@ -1,10 +1,10 @@
 use Rattle.std.proofs.Common.{arith, subst}
 use Rattle.std.proofs.lemmas.List.{with_items_is}
-use Rattle.spec_state.specs.Least.{IsLeast}
-use Rattle.event_basis.proofs.Proved.{trapped_is_over}
+use Rattle.event_step.specs.spec_state.Least.{IsLeast}
+use Rattle.event_step.proofs.Below.event_basis.Proved.{trapped_is_over}
 use Rattle.conflict_book.specs.Halting.{NextComes}
 use Rattle.conflict_book.proofs.Slices.{as_slice}
-use Rattle.event_def.specs.Book.{book_of}
+use Rattle.event_step.specs.event_def.Book.{book_of}
 use Rattle.conflict_book.proofs.advancing.come_least.Goals as goal
 
 pub unreachable-requires : goal.unreachable-requires

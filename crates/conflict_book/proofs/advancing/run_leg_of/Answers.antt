@@ -1,5 +1,5 @@
 use Rattle.std.proofs.Common.{ap, subst, sym, ◌∙◌, ◌≤◌}
-use Rattle.spec_state.specs.declared.settings.Settings.{Settings}
+use Rattle.event_step.specs.spec_state.declared.settings.Settings.{Settings}
 use Rattle.conflict_book.proofs.Leading.{runs_within}
 use Rattle.conflict_book.proofs.advancing.run_leg_of.Goals as goal
 

@@ -1,4 +1,4 @@
-use Rattle.event_def.specs.declared.event.Event.TheVariants as event
+use Rattle.event_step.specs.event_def.declared.event.Event.TheVariants as event
 use Rattle.conflict_book.proofs.Leading.{next_split}
 use Rattle.conflict_book.proofs.advancing.split_least.Goals as goal
 

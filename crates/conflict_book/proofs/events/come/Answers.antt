@@ -1,6 +1,6 @@
 use Rattle.std.proofs.Common.{map, subst, sym}
-use Rattle.event_def.specs.Book.{book_of}
-use Rattle.event_def.specs.Telling.{ComesTelling}
+use Rattle.event_step.specs.event_def.Book.{book_of}
+use Rattle.event_step.specs.event_def.Telling.{ComesTelling}
 use Rattle.conflict_book.specs.declared.legless.Legless.{Legless}
 use Rattle.conflict_book.specs.Legless.{event_of}
 use Rattle.conflict_book.proofs.events.come.Goals as goal

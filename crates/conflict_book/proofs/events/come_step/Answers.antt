@@ -1,8 +1,8 @@
 use Rattle.std.proofs.Common.{arith}
 use Rattle.std.proofs.lemmas.List.{with_items_is}
-use Rattle.event_def.specs.declared.event.Event.TheVariants as event
-use Rattle.event_def.specs.Telling.{ComesTelling}
-use Rattle.event_def.specs.Book.{book_of}
+use Rattle.event_step.specs.event_def.declared.event.Event.TheVariants as event
+use Rattle.event_step.specs.event_def.Telling.{ComesTelling}
+use Rattle.event_step.specs.event_def.Book.{book_of}
 use Rattle.conflict_book.proofs.Slices.{as_slice}
 use Rattle.conflict_book.proofs.events.come_step.Goals as goal
 

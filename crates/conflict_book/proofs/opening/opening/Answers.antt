@@ -1,6 +1,6 @@
 use Rattle.std.proofs.Common.{map, ap, subst, ◌∙◌}
 use Rattle.std.specs.List.{enumerate_from}
-use Rattle.event_def.specs.Opening.{PlacesAll, opening_book}
+use Rattle.event_step.specs.event_def.Opening.{PlacesAll, opening_book}
 use Rattle.conflict_book.proofs.opening.opening.Goals as goal
 
 pub returns-clause-opening : goal.returns-clause-opening

@@ -1,5 +1,5 @@
 use Rattle.std.proofs.Common.{ap, refl}
-use Rattle.spec_state.specs.declared.task.Creator.TheVariants.{Committed}
+use Rattle.event_step.specs.spec_state.declared.task.Creator.TheVariants.{Committed}
 use Rattle.task_desc.specs.declared.desc.Name.{Name}
 use Rattle.conflict_book.proofs.Fresh.{fresh_added}
 use Rattle.conflict_book.proofs.opening.place.Goals as goal

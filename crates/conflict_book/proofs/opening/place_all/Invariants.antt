@@ -1,6 +1,6 @@
 use Rattle.std.proofs.Common.{List, map}
 use Rattle.trace_tap.specs.TapValue.{TapValue}
-use Rattle.event_def.specs.Opening.{opening_book}
+use Rattle.event_step.specs.event_def.Opening.{opening_book}
 use Rattle.conflict_book.specs.Fresh.{AreFresh}
 use Rattle.conflict_book.proofs.Placing.{LeadsOn}
 use Rattle.conflict_book.proofs.opening.place_all.Given as goal

@@ -1,7 +1,7 @@
 use Rattle.std.proofs.Common.{[], List, arith, map, subst, sym}
 use Rattle.std.proofs.lemmas.List.{with_items_is}
-use Rattle.event_def.specs.Opening.{opening_book, IsOpening}
-use Rattle.event_law.proofs.Proved.{opening_is_sound}
+use Rattle.event_step.specs.event_def.Opening.{opening_book, IsOpening}
+use Rattle.event_step.proofs.Below.event_law.Proved.{opening_is_sound}
 use Rattle.conflict_book.proofs.opening.sound_opening.Goals as goal
 
 pub invariant_of-result : goal.invariant_of-result

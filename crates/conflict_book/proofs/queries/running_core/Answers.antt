@@ -1,6 +1,6 @@
 use Rattle.std.proofs.Common.{refl, rules}
 use Rattle.conflict_book.proofs.Cores.{held_is_there, held_runs}
-use Rattle.event_law.proofs.Proved.{running_within}
+use Rattle.event_step.proofs.Below.event_law.Proved.{running_within}
 use Rattle.conflict_book.proofs.queries.running_core.Goals as goal
 
 pub task-task-requires : goal.task-task-requires

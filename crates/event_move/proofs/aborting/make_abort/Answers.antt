@@ -1,4 +1,4 @@
-use Rattle.event_basis.proofs.Proved.{sound_by_key}
+use Rattle.event_prelude.proofs.Below.event_basis.Proved.{sound_by_key}
 use Rattle.event_move.proofs.Aborted.{aborted_latest}
 use Rattle.event_move.proofs.aborting.make_abort.Goals as goal
 

@@ -1,7 +1,7 @@
 use Rattle.std.proofs.Common.{ap, subst}
 use Rattle.std.specs.Prelude.{is_some}
-use Rattle.spec_state.specs.Least.{IsLeast}
-use Rattle.event_basis.proofs.Proved.{none_commits}
+use Rattle.event_prelude.specs.spec_state.Least.{IsLeast}
+use Rattle.event_prelude.proofs.Below.event_basis.Proved.{none_commits}
 use Rattle.event_move.proofs.Committed.{none_finished}
 use Rattle.event_move.proofs.committing.commit.Goals as goal
 

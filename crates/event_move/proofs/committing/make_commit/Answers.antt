@@ -1,7 +1,7 @@
 use Rattle.std.proofs.Common.{◌≡◌, ap, subst, ◌∙◌}
 use Rattle.std.specs.Prelude.{IfSome}
-use Rattle.spec_state.specs.StateValue.{StateValue}
-use Rattle.event_basis.proofs.Proved.{below_limit, least_is_committed}
+use Rattle.event_prelude.specs.spec_state.StateValue.{StateValue}
+use Rattle.event_prelude.proofs.Below.event_basis.Proved.{below_limit, least_is_committed}
 use Rattle.event_move.proofs.Committed.{commit_runs_out, committed}
 use Rattle.event_move.proofs.committing.make_commit.Goals as goal
 

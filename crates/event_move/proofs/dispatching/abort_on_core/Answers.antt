@@ -1,8 +1,8 @@
 use Rattle.std.proofs.Common.{ap}
 use Rattle.std.specs.Prelude.{is_some}
-use Rattle.spec_state.specs.Effects.{EffectValue}
-use Rattle.event_def.specs.Events.{aborts_latest}
-use Rattle.event_basis.proofs.Proved.{held_has_task, sound_by_key}
+use Rattle.event_prelude.specs.spec_state.Effects.{EffectValue}
+use Rattle.event_prelude.specs.event_def.Events.{aborts_latest}
+use Rattle.event_prelude.proofs.Below.event_basis.Proved.{held_has_task, sound_by_key}
 use Rattle.event_move.proofs.dispatching.abort_on_core.Goals as goal
 
 pub unreachable-requires : goal.unreachable-requires

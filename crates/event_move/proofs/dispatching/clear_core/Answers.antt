@@ -1,6 +1,6 @@
 use Rattle.std.proofs.Common.{ap}
-use Rattle.spec_state.specs.Effects.{EffectValue}
-use Rattle.event_def.specs.Events.{has_free}
+use Rattle.event_prelude.specs.spec_state.Effects.{EffectValue}
+use Rattle.event_prelude.specs.event_def.Events.{has_free}
 use Rattle.event_move.proofs.dispatching.clear_core.Goals as goal
 
 pub returns-in-Some-clause-frees : goal.returns-in-Some-clause-frees

@@ -1,5 +1,5 @@
 use Rattle.std.proofs.Common.{rules, refl}
-use Rattle.event_def.specs.Causes.{AllCoresHeld}
+use Rattle.event_prelude.specs.event_def.Causes.{AllCoresHeld}
 use Rattle.event_move.specs.Idling.{NoIdleIsLeast}
 use Rattle.event_move.proofs.Idled.{busy_is_refused, is_busy}
 use Rattle.event_move.proofs.dispatching.dispatch.Goals as goal

@@ -1,4 +1,4 @@
-use Rattle.spec_state.proofs.Idles.{queued_live}
+use Rattle.event_prelude.proofs.Below.spec_state.Idles.{queued_live}
 use Rattle.event_move.proofs.Idled.{idle_found, none_found}
 use Rattle.event_move.proofs.dispatching.has_idle.Goals as goal
 

@@ -1,5 +1,5 @@
 use Rattle.std.proofs.Common.{◌∙◌, inl, inr, subst, sym}
-use Rattle.spec_state.specs.Least.{IsLeast}
+use Rattle.event_prelude.specs.spec_state.Least.{IsLeast}
 use Rattle.event_move.proofs.Idled.{ReadsTile, idle_elsewhere, idle_here, none_is_idle}
 use Rattle.event_move.proofs.dispatching.least_in.Goals as goal
 

@@ -1,6 +1,6 @@
 use Rattle.std.proofs.Common.{◌<◌, sym, subst}
-use Rattle.spec_state.specs.declared.settings.Settings.{Settings}
-use Rattle.event_basis.proofs.Proved.{core_leaves_idle, sound_numbers}
+use Rattle.event_prelude.specs.spec_state.declared.settings.Settings.{Settings}
+use Rattle.event_prelude.proofs.Below.event_basis.Proved.{core_leaves_idle, sound_numbers}
 use Rattle.event_move.proofs.Dispatched.{dispatched}
 use Rattle.event_move.proofs.dispatching.make_dispatch.Goals as goal
 

@@ -1,7 +1,7 @@
 use Rattle.std.proofs.Common.{ap, map, ◌∙◌}
-use Rattle.spec_state.specs.Effects.{EffectValue}
-use Rattle.spec_state.specs.StateValue.{StateValue}
-use Rattle.spec_state.specs.Told.{told_spilled}
+use Rattle.event_prelude.specs.spec_state.Effects.{EffectValue}
+use Rattle.event_prelude.specs.spec_state.StateValue.{StateValue}
+use Rattle.event_prelude.specs.spec_state.Told.{told_spilled}
 use Rattle.event_move.proofs.Moved.{coalesce_runs_out, coalesced}
 use Rattle.event_move.proofs.spilling.make_coalesce.Goals as goal
 

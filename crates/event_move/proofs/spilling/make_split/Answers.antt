@@ -1,6 +1,6 @@
 use Rattle.std.proofs.Common.{subst}
-use Rattle.event_def.specs.declared.event.Came.TheVariants.{Made}
-use Rattle.event_def.specs.declared.event.Event.TheVariants as event
+use Rattle.event_prelude.specs.event_def.declared.event.Came.TheVariants.{Made}
+use Rattle.event_prelude.specs.event_def.declared.event.Event.TheVariants as event
 use Rattle.event_move.specs.Moving.{ComesSo}
 use Rattle.event_move.proofs.spilling.make_split.Goals as goal
 

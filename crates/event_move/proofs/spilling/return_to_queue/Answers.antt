@@ -1,7 +1,7 @@
 use Rattle.std.proofs.Common.{◌<◌, sym, subst}
-use Rattle.spec_state.specs.declared.settings.Settings.{Settings}
-use Rattle.spec_state.specs.Room.{Splitter}
-use Rattle.event_basis.proofs.Proved.{room_leaves, room_leaves_block, sound_named}
+use Rattle.event_prelude.specs.spec_state.declared.settings.Settings.{Settings}
+use Rattle.event_prelude.specs.spec_state.Room.{Splitter}
+use Rattle.event_prelude.proofs.Below.event_basis.Proved.{room_leaves, room_leaves_block, sound_named}
 use Rattle.event_move.proofs.Moved.{came_back, of_ok}
 use Rattle.event_move.proofs.spilling.return_to_queue.Goals as goal
 

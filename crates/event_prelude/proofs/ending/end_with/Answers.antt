@@ -1,6 +1,6 @@
 use Rattle.std.proofs.Common.{ap, sym, subst, ◌∙◌}
 use Rattle.std.specs.Prelude.{IfSome, is_some}
-use Rattle.spec_state.specs.Least.{IsLeast}
+use Rattle.event_basis.specs.spec_state.Least.{IsLeast}
 use Rattle.event_basis.proofs.Proved.{limit_ends, untrapped_goes_on}
 use Rattle.event_prelude.proofs.ending.end_with.Goals as goal
 

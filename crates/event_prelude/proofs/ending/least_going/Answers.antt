@@ -1,10 +1,10 @@
 use Rattle.std.proofs.Common.{Some, None, ap}
 use Rattle.std.specs.declared.option.Option.{Option}
 use Rattle.std.specs.Prelude.{IfSome, is_some}
-use Rattle.spec_state.specs.declared.task.Where.{Where}
-use Rattle.spec_state.specs.View.{View}
-use Rattle.spec_state.specs.Least.{IsLeast}
-use Rattle.event_def.specs.End.{IsOver}
+use Rattle.event_basis.specs.spec_state.declared.task.Where.{Where}
+use Rattle.event_basis.specs.spec_state.View.{View}
+use Rattle.event_basis.specs.spec_state.Least.{IsLeast}
+use Rattle.event_basis.specs.event_def.End.{IsOver}
 use Rattle.event_prelude.proofs.ending.least_going.Goals as goal
 
 -- what is read is the least task of a run that goes on

@@ -1,6 +1,6 @@
 use Rattle.std.proofs.Common.{ap, sym, subst, ◌∙◌}
 use Rattle.std.specs.Prelude.{◌↔◌, IfSome, IsSome, is_some}
-use Rattle.spec_state.specs.Least.{IsFirm}
+use Rattle.event_basis.specs.spec_state.Least.{IsFirm}
 use Rattle.event_basis.proofs.Proved.{least_is_firm}
 use Rattle.event_prelude.proofs.ending.least_name.Goals as goal
 

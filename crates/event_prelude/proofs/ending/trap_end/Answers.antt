@@ -2,9 +2,9 @@ use Rattle.std.proofs.Common.{ap, sym, subst}
 use Rattle.std.specs.Prelude.{IfSome}
 use Rattle.rv_core.specs.declared.state.Core.{Core}
 use Rattle.run_journal.specs.declared.end.End.TheVariants as ends
-use Rattle.event_def.specs.End.{HasEnd}
-use Rattle.spec_state.specs.Least.{HasName}
-use Rattle.spec_state.specs.Tasks.{trap_cause}
+use Rattle.event_basis.specs.event_def.End.{HasEnd}
+use Rattle.event_basis.specs.spec_state.Least.{HasName}
+use Rattle.event_basis.specs.spec_state.Tasks.{trap_cause}
 use Rattle.event_basis.proofs.Proved.{read_trap_ends}
 use Rattle.event_prelude.proofs.ending.trap_end.Goals as goal
 

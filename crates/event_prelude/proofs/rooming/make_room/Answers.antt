@@ -1,6 +1,6 @@
 use Rattle.std.proofs.Common.{ap, ◌∙◌}
-use Rattle.spec_state.specs.Effects.{EffectValue}
-use Rattle.spec_state.specs.Room.{queue_has_room, coalesces}
+use Rattle.event_basis.specs.spec_state.Effects.{EffectValue}
+use Rattle.event_basis.specs.spec_state.Room.{queue_has_room, coalesces}
 use Rattle.event_prelude.proofs.Victims.{asks_as_least, full_if_not, none_if_not}
 use Rattle.event_prelude.proofs.rooming.make_room.Goals as goal
 

@@ -1,5 +1,5 @@
 use Rattle.std.proofs.Common.{ap}
-use Rattle.spec_state.specs.Effects.{EffectValue}
+use Rattle.event_basis.specs.spec_state.Effects.{EffectValue}
 use Rattle.event_prelude.proofs.rooming.spill.Goals as goal
 
 pub returns-clause-moves : goal.returns-clause-moves

@@ -1,4 +1,4 @@
-use Rattle.event_basis.proofs.Proved.{conflicts_leave_taker}
+use Rattle.event_prelude.proofs.Below.event_basis.Proved.{conflicts_leave_taker}
 use Rattle.event_step.proofs.Accessing.{conflicts_taken}
 use Rattle.event_step.proofs.accesses.clear.Goals as goal
 

@@ -1,8 +1,8 @@
 use Rattle.std.proofs.Common.{Some, refl, sym, ap, subst, ◌∙◌}
 use Rattle.trace_tap.specs.declared.record.Deed.TheVariants.{Access}
-use Rattle.spec_state.specs.View.{View}
-use Rattle.spec_state.specs.Changes.{TakesLeg}
-use Rattle.event_def.specs.Trace.{record_of}
+use Rattle.event_prelude.specs.spec_state.View.{View}
+use Rattle.event_prelude.specs.spec_state.Changes.{TakesLeg}
+use Rattle.event_prelude.specs.event_def.Trace.{record_of}
 use Rattle.event_step.proofs.Stepping.{made_quietly, wants_quietly}
 use Rattle.event_step.proofs.accesses.load.Goals as goal
 

@@ -1,5 +1,5 @@
 use Rattle.std.proofs.Common.{ap}
-use Rattle.spec_state.specs.StateValue.{Spare}
+use Rattle.event_prelude.specs.spec_state.StateValue.{Spare}
 use Rattle.event_step.proofs.Accessing.{asks_on, same_task, log_still, stores_telling}
 use Rattle.event_step.proofs.accesses.store_covered.Goals as goal
 

@@ -1,8 +1,8 @@
 use Rattle.std.proofs.Common.{refl, arith, ◌<◌, ◌∙◌, length}
-use Rattle.spec_state.specs.View.{finished_at}
-use Rattle.event_def.specs.Causes.{IsCommitFull}
-use Rattle.event_def.specs.Book.{book_of}
-use Rattle.event_basis.proofs.Proved.{free_no_stall, later_no_stall}
+use Rattle.event_prelude.specs.spec_state.View.{finished_at}
+use Rattle.event_prelude.specs.event_def.Causes.{IsCommitFull}
+use Rattle.event_prelude.specs.event_def.Book.{book_of}
+use Rattle.event_prelude.proofs.Below.event_basis.Proved.{free_no_stall, later_no_stall}
 use Rattle.event_step.proofs.Ending.{of_there, ends_freely, made_end, stalls_end}
 use Rattle.event_step.proofs.ends.end.Goals as goal
 

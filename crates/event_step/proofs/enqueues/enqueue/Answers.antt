@@ -1,7 +1,7 @@
 use Rattle.std.proofs.Common.{sym, subst, ◌∙◌}
-use Rattle.spec_state.specs.Changes.{TakesLeg}
-use Rattle.spec_state.specs.Room.{Enqueuer}
-use Rattle.spec_state.specs.View.{View}
+use Rattle.event_prelude.specs.spec_state.Changes.{TakesLeg}
+use Rattle.event_prelude.specs.spec_state.Room.{Enqueuer}
+use Rattle.event_prelude.specs.spec_state.View.{View}
 use Rattle.event_prelude.specs.Entering.{MayEnter}
 use Rattle.event_step.proofs.Placing.{stalls_enqueue, wants_child, made_enqueue}
 use Rattle.event_step.proofs.enqueues.enqueue.Goals as goal

@@ -1,4 +1,4 @@
-use Rattle.spec_state.specs.StateValue.{Spare}
+use Rattle.event_prelude.specs.spec_state.StateValue.{Spare}
 use Rattle.event_step.proofs.Accessing.{of_ok, child_still}
 use Rattle.event_step.proofs.Stepping.{asks_still}
 use Rattle.event_step.proofs.Placing.{stays_asking, free_place, places_telling, still_inside}

@@ -1,7 +1,7 @@
 use Rattle.std.proofs.Common.{◌≡◌, rules, Ok, Err}
-use Rattle.report_text.specs.Grammar.{report_of}
-use Rattle.report_text.specs.Check.{IsVerdict}
-use Rattle.report_text.specs.declared.verdict.Verdict.TheVariants as verdicts
+use Rattle.script_text.specs.report_text.Grammar.{report_of}
+use Rattle.script_text.specs.report_text.Check.{IsVerdict}
+use Rattle.script_text.specs.report_text.declared.verdict.Verdict.TheVariants as verdicts
 use Rattle.fractal_sim.specs.Checks.{IsWrongLine, Outside, Illegal}
 use Rattle.fractal_sim.proofs.checking.check_report.Goals as goal
 

@@ -1,5 +1,5 @@
 use Rattle.program_call.specs.Call.{call_on, input_of}
-use Rattle.program_call.proofs.Proved.{fault_answers, fault_is_empty}
+use Rattle.program_call.proofs.Proved.{fault_answers, fault_is_empty, no_image}
 use Rattle.fractal_sim.specs.Given.{front}
 use Rattle.fractal_sim.specs.Program.{program}
 use Rattle.fractal_sim.proofs.Answering.{finding_answers}
@@ -21,9 +21,11 @@ returns-in-Err g c =
     let after = g.K.Sink.state c.tell_fault.new.sink in
     let fault = c.in-Err.fault in
     let o = c.tell_fault.result in
+    let answers =
+    fault_answers program no_image input before after o fault c.in-Err.ensures.found c.tell_fault.ensures in
     record {
       answers = record {
-        answers = fault_answers program input before after o fault c.in-Err.ensures.found c.tell_fault.ensures;
-        steps = none_told input o (fault_is_empty front fault before after o c.tell_fault.ensures);
+        answers = answers;
+        steps = none_told answers.image input o (fault_is_empty front fault before after o c.tell_fault.ensures);
       };
     }

@@ -1,6 +1,6 @@
 use Rattle.std.proofs.Common.{refl, length, ◌++◌, Ok}
 use Rattle.sim_io.proofs.Proved.{writes_front, writes_then}
-use Rattle.report_text.specs.Report.{body_lines, end_line}
+use Rattle.script_text.specs.report_text.Report.{body_lines, end_line}
 use Rattle.fractal_sim.specs.Texts.{commits_line, load_line}
 use Rattle.fractal_sim.proofs.publishing.write_load.Goals as goal
 

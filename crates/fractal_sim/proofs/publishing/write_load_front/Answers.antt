@@ -1,7 +1,7 @@
 use Rattle.std.proofs.Common.{refl, rules, length, ◌++◌, Err}
 use Rattle.sim_io.specs.Parts.{Writes}
 use Rattle.sim_io.proofs.Proved.{writes_front, writes_then}
-use Rattle.report_text.specs.Report.{body_lines}
+use Rattle.script_text.specs.report_text.Report.{body_lines}
 use Rattle.fractal_sim.specs.Texts.{commits_line, load_line}
 use Rattle.fractal_sim.proofs.publishing.write_load_front.Goals as goal
 

@@ -1,5 +1,5 @@
 use Rattle.std.proofs.Common.{subst, None}
-use Rattle.conflict_book.specs.BookViews.{view_of}
+use Rattle.watch_play.specs.conflict_book.BookViews.{view_of}
 use Rattle.fractal_watch.specs.Closing.{HoldsClosed, stop_status}
 use Rattle.fractal_watch.proofs.Ended.{closed_so}
 use Rattle.fractal_watch.proofs.closing.break_off.Goals as goal

@@ -1,6 +1,6 @@
 use Rattle.std.proofs.Common.{None}
-use Rattle.conflict_book.specs.BookViews.{view_of}
-use Rattle.machine_run.proofs.Proved.{left_is_run_of, left_is_sized}
+use Rattle.watch_play.specs.conflict_book.BookViews.{view_of}
+use Rattle.watch_play.proofs.Below.machine_run.Proved.{left_is_run_of, left_is_sized}
 use Rattle.fractal_watch.proofs.closing.close_book.Goals as goal
 
 pub returns-clause-run : goal.returns-clause-run

@@ -1,7 +1,7 @@
 use Rattle.std.proofs.Common.{◌≡◌, length, sym, subst, Some, None, Err}
 use Rattle.guest_image.specs.ImageValue.{ImageValue}
 use Rattle.sim_io.specs.Parts.{SinkTakes}
-use Rattle.conflict_book.specs.BookViews.{view_of}
+use Rattle.watch_play.specs.conflict_book.BookViews.{view_of}
 use Rattle.watch_play.specs.Telling.{TellsText}
 use Rattle.fractal_watch.specs.Closing.{HoldsClosed, text_of_closed}
 use Rattle.fractal_watch.proofs.Ended.{end_stopped, end_told}

@@ -1,10 +1,9 @@
 use Rattle.std.proofs.Common.{[], refl, sym, subst}
 use Rattle.std.specs.declared.marker.Brand.{Brand}
 use Rattle.program_call.specs.Call.{input_of}
-use Rattle.program_call.proofs.Proved.{fault_answers}
+use Rattle.program_call.proofs.Proved.{fault_answers, no_image}
 use Rattle.fractal_watch.specs.Finding.{IsWatchFound}
 use Rattle.fractal_watch.specs.Program.{program}
-use Rattle.fractal_watch.specs.Watched.{HasActs}
 use Rattle.fractal_watch.proofs.Answering.{no_script_answers}
 use Rattle.fractal_watch.proofs.program.top.Goals as goal
 
@@ -29,7 +28,7 @@ returns-in-Err g c =
     let input = input_of c.args.words.now _ [] (g.S.Source.state c.args.source.now)
     (g.S.Source.state c.find.new.source) in
     record {
-      answers = fault_answers (program Brand) input (g.K.Sink.state c.args.sink.now)
+      answers = fault_answers (program Brand) no_image input (g.K.Sink.state c.args.sink.now)
           (g.K.Sink.state c.tell_fault.new.sink) c.tell_fault.result c.in-Err.fault (c.in-Err.ensures.found _)
           c.tell_fault.ensures;
     }
@@ -52,5 +51,4 @@ returns-in-Ok-Ready g c =
     (g.S.Source.state c.find.new.source) in
     let ready = c.in-Ok-Ready in
     let found = subst (IsWatchFound input) ready.field-0-is (ready.ensures.found _) in
-    let acts = subst (HasActs ready.asking.course ready.asking found.0) (sym c.deref.ensures.value) found.2 in
-    record { answers = c.watch_image.ensures input found.0 refl found.1 acts }
+    record { answers = c.watch_image.ensures input found.0 refl found.1 found.2 }

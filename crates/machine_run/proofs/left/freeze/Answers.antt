@@ -1,8 +1,8 @@
 use Rattle.std.proofs.Common.{refl, subst, Some, true}
 use Rattle.run_journal.specs.declared.end.End.TheVariants.{Limit}
-use Rattle.event_def.specs.Closing.{Closes}
-use Rattle.conflict_book.specs.BookViews.{view_of}
-use Rattle.spec_state.specs.Pendings.{RunLeaves}
+use Rattle.outcome_law.specs.event_def.Closing.{Closes}
+use Rattle.outcome_law.specs.conflict_book.BookViews.{view_of}
+use Rattle.outcome_law.specs.spec_state.Pendings.{RunLeaves}
 use Rattle.machine_run.proofs.Leaving.{left_of}
 use Rattle.machine_run.proofs.AtLimit.{keeps_all}
 use Rattle.machine_run.proofs.left.freeze.Goals as goal

@@ -1,4 +1,4 @@
-use Rattle.conflict_book.specs.BookViews.{view_of}
+use Rattle.outcome_law.specs.conflict_book.BookViews.{view_of}
 use Rattle.machine_run.proofs.Leaving.{left_of}
 use Rattle.machine_run.proofs.left.leave.Goals as goal
 

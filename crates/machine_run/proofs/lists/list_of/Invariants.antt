@@ -1,5 +1,5 @@
 use Rattle.std.proofs.Common.{◌≡◌, List, ℕ, Some, slice_get, take}
-use Rattle.conflict_book.specs.BookViews.{view_of}
+use Rattle.outcome_law.specs.conflict_book.BookViews.{view_of}
 use Rattle.machine_run.specs.Played.{tap_lists}
 use Rattle.machine_run.proofs.lists.list_of.Given as goal
 

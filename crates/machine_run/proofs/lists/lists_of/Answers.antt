@@ -1,5 +1,5 @@
 use Rattle.std.proofs.Common.{ℕ, Vec, Global}
-use Rattle.conflict_book.specs.BookViews.{view_of}
+use Rattle.outcome_law.specs.conflict_book.BookViews.{view_of}
 use Rattle.machine_run.specs.Played.{tap_lists}
 use Rattle.machine_run.proofs.TapLists.{next_told}
 use Rattle.machine_run.proofs.lists.lists_of.Goals as goal

@@ -1,4 +1,4 @@
-use Rattle.conflict_book.specs.BookViews.{view_of}
+use Rattle.outcome_law.specs.conflict_book.BookViews.{view_of}
 use Rattle.machine_run.proofs.Scripts.{left_cut, left_whole}
 use Rattle.machine_run.proofs.playing.play_begun.Goals as goal
 

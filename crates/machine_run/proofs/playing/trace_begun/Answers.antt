@@ -1,4 +1,4 @@
-use Rattle.conflict_book.specs.BookViews.{view_of}
+use Rattle.outcome_law.specs.conflict_book.BookViews.{view_of}
 use Rattle.machine_run.proofs.Scripts.{traced_cut, traced_whole}
 use Rattle.machine_run.proofs.playing.trace_begun.Goals as goal
 

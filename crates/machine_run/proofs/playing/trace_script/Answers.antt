@@ -1,5 +1,5 @@
 use Rattle.std.proofs.Common.{map, sym, subst}
-use Rattle.conflict_book.specs.BookViews.{view_of}
+use Rattle.outcome_law.specs.conflict_book.BookViews.{view_of}
 use Rattle.machine_run.specs.Played.{IsTracedOrPart}
 use Rattle.machine_run.proofs.Named.{left_named}
 use Rattle.machine_run.proofs.Scripts.{stays_within}

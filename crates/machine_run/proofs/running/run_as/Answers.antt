@@ -1,5 +1,5 @@
 use Rattle.std.proofs.Common.{map, sym, subst, arith}
-use Rattle.conflict_book.specs.BookViews.{view_of}
+use Rattle.outcome_law.specs.conflict_book.BookViews.{view_of}
 use Rattle.machine_run.specs.Least.{IsLeastRun, run_of_closed}
 use Rattle.machine_run.proofs.Least.{opening_steps}
 use Rattle.machine_run.proofs.Named.{halted_named, pending_named}

@@ -1,7 +1,7 @@
 use Rattle.std.proofs.Common.{sym, subst}
 use Rattle.std.specs.Prelude.{IfSome}
-use Rattle.event_def.specs.End.{HasEnd}
-use Rattle.conflict_book.specs.BookViews.{view_of}
+use Rattle.outcome_law.specs.event_def.End.{HasEnd}
+use Rattle.outcome_law.specs.conflict_book.BookViews.{view_of}
 use Rattle.machine_run.proofs.Least.{halted_there}
 use Rattle.machine_run.proofs.Standing.{over_stands_if}
 use Rattle.machine_run.proofs.AtLimit.{halts_so}

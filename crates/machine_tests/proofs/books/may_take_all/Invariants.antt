@@ -1,6 +1,6 @@
 use Rattle.std.proofs.Common.{ℕ, ◌<◌, slice_index_or}
-use Rattle.event_def.specs.declared.event.Event.{Event}
-use Rattle.conflict_book.specs.Ranges.{IsInRange}
+use Rattle.machine_run.specs.event_def.declared.event.Event.{Event}
+use Rattle.machine_run.specs.conflict_book.Ranges.{IsInRange}
 use Rattle.machine_tests.proofs.books.may_take_all.Given as goal
 
 abbrev pub invariant-loop-event : goal.invariant-loop-event

@@ -1,6 +1,6 @@
 use Rattle.std.proofs.Common.{◌<◌, ◌∙◌, sym, subst, rules, length}
-use Rattle.serial_machine.specs.Turn.{RefusesTurn}
-use Rattle.serial_machine.specs.Run.{IsEnd}
+use Rattle.run_law.specs.serial_machine.Turn.{RefusesTurn}
+use Rattle.run_law.specs.serial_machine.Run.{IsEnd}
 use Rattle.report_text.proofs.Replays.{trap-none, trap-why, match-both, none-other}
 use Rattle.report_text.proofs.checking.ends.Goals as goal
 

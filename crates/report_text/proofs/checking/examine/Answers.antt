@@ -1,5 +1,5 @@
 use Rattle.std.proofs.Common.{◌≡◌, ◌+◌, refl, sym, subst, inr, rules, length, None}
-use Rattle.serial_machine.specs.Run.{IsEnd}
+use Rattle.run_law.specs.serial_machine.Run.{IsEnd}
 use Rattle.report_text.specs.Check.{IsExamined, IsWrongEnd, IsReplayed}
 use Rattle.report_text.specs.Report.{window_of}
 use Rattle.report_text.proofs.Written.{length_window}

@@ -1,6 +1,6 @@
 use Rattle.std.proofs.Common.{◌≡◌, ◌+◌, ◌∙◌, Some, refl, sym, ap, subst, inr, rules, take, length}
-use Rattle.serial_machine.specs.Turn.{turn}
-use Rattle.serial_machine.specs.Run.{IsRun, opening}
+use Rattle.run_law.specs.serial_machine.Turn.{turn}
+use Rattle.run_law.specs.serial_machine.Run.{IsRun, opening}
 use Rattle.run_law.proofs.Proved.{length-opening, Runs-more}
 use Rattle.report_text.proofs.Sizes.{turn-keeps}
 use Rattle.report_text.proofs.checking.replay.Goals as goal

@@ -1,5 +1,5 @@
 use Rattle.std.proofs.Common.{◌≡◌, ◌≤◌, take, length}
-use Rattle.serial_machine.specs.Run.{IsRun}
+use Rattle.run_law.specs.serial_machine.Run.{IsRun}
 use Rattle.report_text.proofs.checking.replay.Given as goal
 
 abbrev pub invariant-loop-index : goal.invariant-loop-index

@@ -1,6 +1,6 @@
 use Rattle.std.proofs.Common.{subst}
 use Rattle.guest_image.specs.ImageValue.{ImageValue}
-use Rattle.serial_machine.specs.Run.{IsRun}
+use Rattle.conflict_book.specs.serial_machine.Run.{IsRun}
 use Rattle.resume_image.proofs.Joined.{runs_join}
 use Rattle.resume_image.proofs.joining.joined_is_run.Goals as goal
 

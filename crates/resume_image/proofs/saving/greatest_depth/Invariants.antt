@@ -1,5 +1,5 @@
 use Rattle.std.proofs.Common.{◌≡◌, ◌≤◌, ◌<◌, ℕ, Any, slice_index_or}
-use Rattle.spec_state.specs.declared.pending.Pending.{Pending}
+use Rattle.conflict_book.specs.spec_state.declared.pending.Pending.{Pending}
 use Rattle.resume_image.proofs.saving.greatest_depth.Given as goal
 
 abbrev pub invariant-loop-task : goal.invariant-loop-task

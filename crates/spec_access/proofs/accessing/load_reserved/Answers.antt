@@ -3,8 +3,9 @@ use Rattle.rv_core.specs.Legs.{after_load_of}
 use Rattle.rv_core.specs.Memory.{load_width}
 use Rattle.undo_log.specs.Number.{number_at, IsAccessible}
 use Rattle.undo_log.specs.Undo.{Load, access_of}
-use Rattle.spec_state.specs.StateValue.{StateValue}
-use Rattle.spec_state.proofs.Proved.{formed_kept, indexed_set, keeps_some, noted_set, same_place, slots_set, stored_set}
+use Rattle.spec_dispatch.specs.spec_state.StateValue.{StateValue}
+use Rattle.spec_dispatch.proofs.Below.spec_state.Proved.{formed_kept, indexed_set, keeps_some, noted_set, same_place}
+use Rattle.spec_dispatch.proofs.Below.spec_state.Proved.{slots_set, stored_set}
 use Rattle.spec_access.proofs.Accessed.{asks_inside, log_accessible, accessed}
 use Rattle.spec_access.proofs.accessing.load_reserved.Goals as goal
 

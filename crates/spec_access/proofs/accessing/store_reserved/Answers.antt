@@ -2,8 +2,9 @@ use Rattle.std.proofs.Common.{refl, ap, subst, ◌∙◌, sym}
 use Rattle.rv_core.specs.Legs.{after_other_of}
 use Rattle.undo_log.specs.Number.{IsAccessible}
 use Rattle.undo_log.specs.Undo.{Store}
-use Rattle.spec_state.specs.StateValue.{StateValue}
-use Rattle.spec_state.proofs.Proved.{formed_kept, indexed_set, keeps_some, noted_set, same_place, slots_set, stored_set}
+use Rattle.spec_dispatch.specs.spec_state.StateValue.{StateValue}
+use Rattle.spec_dispatch.proofs.Below.spec_state.Proved.{formed_kept, indexed_set, keeps_some, noted_set, same_place}
+use Rattle.spec_dispatch.proofs.Below.spec_state.Proved.{slots_set, stored_set}
 use Rattle.spec_access.proofs.Accessed.{asks_inside, log_accessible, accessed}
 use Rattle.spec_access.proofs.accessing.store_reserved.Goals as goal
 

@@ -1,5 +1,6 @@
 use Rattle.std.proofs.Common.{refl}
-use Rattle.spec_state.proofs.Proved.{formed_kept, indexed_set, keeps_some, noted_set, same_place, slots_set, stored_set}
+use Rattle.spec_dispatch.proofs.Below.spec_state.Proved.{formed_kept, indexed_set, keeps_some, noted_set, same_place}
+use Rattle.spec_dispatch.proofs.Below.spec_state.Proved.{slots_set, stored_set}
 use Rattle.spec_access.proofs.calling.end_quantum.Goals as goal
 
 pub invariant_of-state : goal.invariant_of-state

@@ -1,6 +1,6 @@
 use Rattle.std.proofs.Common.{rules, ap}
 use Rattle.tile_queues.specs.Queue.{QueueValue}
-use Rattle.spec_state.proofs.Proved.{queued}
+use Rattle.spec_dispatch.proofs.Below.spec_state.Proved.{queued}
 use Rattle.spec_access.proofs.finishing.put_finished.Goals as goal
 
 pub returns-clause-ids : goal.returns-clause-ids

@@ -1,6 +1,7 @@
 use Rattle.std.proofs.Common.{refl, ap}
-use Rattle.spec_state.specs.StateValue.{StateValue}
-use Rattle.spec_state.proofs.Proved.{formed_kept, indexed_set, keeps_some, noted_set, same_place, slots_set, stored_set}
+use Rattle.spec_dispatch.specs.spec_state.StateValue.{StateValue}
+use Rattle.spec_dispatch.proofs.Below.spec_state.Proved.{formed_kept, indexed_set, keeps_some, noted_set, same_place}
+use Rattle.spec_dispatch.proofs.Below.spec_state.Proved.{slots_set, stored_set}
 use Rattle.spec_access.proofs.Asking.{asks_limits}
 use Rattle.spec_access.proofs.Enqueued.{one_more}
 use Rattle.spec_access.proofs.spawning.add_spawn.Goals as goal

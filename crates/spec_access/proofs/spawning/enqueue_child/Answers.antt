@@ -1,5 +1,5 @@
 use Rattle.std.proofs.Common.{subst}
-use Rattle.spec_state.specs.View.{View}
+use Rattle.spec_dispatch.specs.spec_state.View.{View}
 use Rattle.spec_access.specs.Asking.{OfTaker}
 use Rattle.spec_access.specs.Telling.{EnqueuesTold}
 use Rattle.spec_access.proofs.spawning.enqueue_child.Goals as goal

@@ -1,11 +1,11 @@
 use Rattle.std.proofs.Common.{◌<◌, ap, subst, sym, ◌∙◌, length}
 use Rattle.std.proofs.lemmas.Option.{same_Some}
-use Rattle.spec_state.specs.declared.task.Task.{Task}
-use Rattle.spec_state.specs.Effects.{EffectValue}
-use Rattle.spec_state.specs.StateValue.{StateValue}
-use Rattle.spec_state.specs.View.{View, task_at}
-use Rattle.spec_state.specs.Room.{QueueHasRoom}
-use Rattle.spec_state.specs.Stored.{IsWellFormed}
+use Rattle.spec_dispatch.specs.spec_state.declared.task.Task.{Task}
+use Rattle.spec_dispatch.specs.spec_state.Effects.{EffectValue}
+use Rattle.spec_dispatch.specs.spec_state.StateValue.{StateValue}
+use Rattle.spec_dispatch.specs.spec_state.View.{View, task_at}
+use Rattle.spec_dispatch.specs.spec_state.Room.{QueueHasRoom}
+use Rattle.spec_dispatch.specs.spec_state.Stored.{IsWellFormed}
 use Rattle.spec_access.proofs.Enqueued.{asks_made, child_formed, enqueued, child_of_same}
 use Rattle.spec_access.proofs.spawning.spawn_reserved.Goals as goal
 

@@ -1,4 +1,4 @@
-use Rattle.event_def.specs.declared.event.Event.TheVariants as event
+use Rattle.conflict_book.specs.event_def.declared.event.Event.TheVariants as event
 use Rattle.step_script.proofs.Attempts.{advance_asks, least_commit, least_dispatch, least_split, none_trapped}
 use Rattle.step_script.proofs.asking.ask_advance.Goals as goal
 

@@ -1,4 +1,4 @@
-use Rattle.event_def.specs.declared.event.Event.TheVariants as event
+use Rattle.conflict_book.specs.event_def.declared.event.Event.TheVariants as event
 use Rattle.step_script.proofs.Attempts.{advance_asks, seen_in_tile, seen_leg, seen_on_core, seen_running}
 use Rattle.step_script.proofs.asking.ask_running.Goals as goal
 

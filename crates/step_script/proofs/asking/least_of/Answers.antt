@@ -1,7 +1,7 @@
 use Rattle.std.proofs.Common.{subst}
 use Rattle.std.specs.Prelude.{IfSome, IsNone}
-use Rattle.spec_state.specs.Least.{IsLeast}
-use Rattle.event_def.specs.End.{IsOver}
+use Rattle.conflict_book.specs.spec_state.Least.{IsLeast}
+use Rattle.conflict_book.specs.event_def.End.{IsOver}
 use Rattle.step_script.proofs.asking.least_of.Goals as goal
 
 pub returns-clause-some : goal.returns-clause-some

@@ -1,5 +1,5 @@
 use Rattle.std.proofs.Common.{arith, ◌∙◌, ap}
-use Rattle.event_def.specs.Book.{BookView}
+use Rattle.conflict_book.specs.event_def.Book.{BookView}
 use Rattle.conflict_book.specs.BookViews.{view_of}
 use Rattle.tile_worker.proofs.Begins.{begins_with_all, goes_on_from}
 use Rattle.tile_worker.proofs.running.work_all.Goals as goal

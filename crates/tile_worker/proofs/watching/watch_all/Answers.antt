@@ -1,7 +1,7 @@
 use Rattle.std.proofs.Common.{arith, ◌≡◌, ◌∙◌, ap, le_refl, length, subst, sym, take, List}
 use Rattle.std.proofs.lemmas.List.{take_all}
 use Rattle.progress_cell.specs.declared.reading.Reading.{Reading}
-use Rattle.event_def.specs.Book.{BookView}
+use Rattle.conflict_book.specs.event_def.Book.{BookView}
 use Rattle.conflict_book.specs.Counts.{counts_of}
 use Rattle.conflict_book.specs.BookViews.{view_of}
 use Rattle.tile_worker.specs.Readings.{AreReadings}

@@ -1,6 +1,6 @@
 use Rattle.std.proofs.Common.{◌∙◌, ◌+◌, ap}
 use Rattle.std.specs.Prelude.{sum_by}
-use Rattle.spec_state.specs.View.{queue_at}
+use Rattle.watch_text.specs.spec_state.View.{queue_at}
 use Rattle.watch_counts.specs.Capped.{capped}
 use Rattle.watch_counts.specs.Work.{used_by}
 use Rattle.watch_counts.proofs.Sums.{capped_none, capped_sum_more}

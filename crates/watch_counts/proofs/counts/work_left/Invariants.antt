@@ -1,7 +1,7 @@
 use Rattle.std.proofs.Common.{◌≡◌}
 use Rattle.std.specs.Prelude.{sum_by}
 use Rattle.std.specs.List.{range_with_len}
-use Rattle.spec_state.specs.View.{queue_at}
+use Rattle.watch_text.specs.spec_state.View.{queue_at}
 use Rattle.watch_counts.specs.Capped.{capped}
 use Rattle.watch_counts.specs.Work.{used_by}
 use Rattle.watch_counts.proofs.counts.work_left.Given as goal

@@ -1,5 +1,5 @@
 use Rattle.std.proofs.Common.{◌≡◌, ◌≤◌, count_by, take}
-use Rattle.spec_state.specs.Told.{is_store}
+use Rattle.watch_text.specs.spec_state.Told.{is_store}
 use Rattle.watch_counts.proofs.done.stores_among.Given as goal
 
 abbrev pub invariant-loop-place : goal.invariant-loop-place

@@ -1,7 +1,7 @@
 use Rattle.std.proofs.Common.{◌∙◌, ◌+◌, ◌*◌, ap, arith}
 use Rattle.std.specs.Prelude.{cond, false, slice_index_or, sum_by}
 use Rattle.std.specs.List.{range_with_len}
-use Rattle.spec_state.specs.declared.settings.Settings.{Settings}
+use Rattle.watch_text.specs.spec_state.declared.settings.Settings.{Settings}
 use Rattle.watch_counts.specs.Counts.{cores_in, is_trapped, on_core, runs, stalls}
 use Rattle.watch_counts.proofs.Ranged.{to_last}
 use Rattle.watch_counts.proofs.Sums.{few_more, sum_count_more, sum_more}

@@ -1,5 +1,5 @@
 use Rattle.std.proofs.Common.{◌∙◌, ◌+◌, ap, length}
-use Rattle.spec_state.specs.View.{queue_at}
+use Rattle.watch_text.specs.spec_state.View.{queue_at}
 use Rattle.watch_counts.specs.Capped.{capped}
 use Rattle.watch_counts.proofs.Sums.{capped_none, capped_sum_more}
 use Rattle.watch_counts.proofs.places.queued_of.Goals as goal

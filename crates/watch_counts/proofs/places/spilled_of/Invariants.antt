@@ -1,7 +1,7 @@
 use Rattle.std.proofs.Common.{◌≡◌, length}
 use Rattle.std.specs.Prelude.{sum_by}
 use Rattle.std.specs.List.{range_with_len}
-use Rattle.spec_state.specs.View.{block_at}
+use Rattle.watch_text.specs.spec_state.View.{block_at}
 use Rattle.watch_counts.specs.Capped.{capped}
 use Rattle.watch_counts.proofs.places.spilled_of.Given as goal
 

@@ -8,5 +8,5 @@ pub returns : goal.returns
 returns c =
     subst (λ (group : List Named). OnOk c.put_group.result (string_bytes c.put_group.new.line
     ≡ string_bytes c.args.line.now ++ group_text c.args.name.now group))
-    (λ i. c.named.ensures i ∷ c.named-2.ensures i ∷ c.named-3.ensures i ∷ c.named-4.ensures i ∷ [])
+    (λ i. c.named.ensures i ∷ c.named-2.ensures i ∷ c.named-3.ensures i ∷ c.named-4.ensures i ∷ c.named-5.ensures i ∷ [])
     c.put_group.ensures

@@ -1,19 +1,11 @@
-use Rattle.std.proofs.Common.{rules, sym, ◌∙◌}
-use Rattle.conflict_book.specs.BookViews.{machine_view}
+use Rattle.std.proofs.Common.{[], sym, subst, ◌∙◌}
+use Rattle.std.specs.Prelude.{if◌then◌else◌}
 use Rattle.watch_counts.specs.Texts.{counts_line}
-use Rattle.watch_play.specs.Texts.{has_counts}
-use Rattle.watch_play.proofs.Due.{told_where, untold_where}
+use Rattle.watch_play.specs.Telling.{TellsText}
 use Rattle.watch_play.proofs.counting.tell_last_counts.Goals as goal
 
-pub returns-then-has_counts-clause-tells : goal.returns-then-has_counts-clause-tells
-returns-then-has_counts-clause-tells g c counts are =
-    told_where c.has_counts.result (has_counts c.args.watch.now.telling)
-    (counts_line counts (machine_view c.args.watch.now.book)) (g.K.Sink.state c.args.sink.now)
-    (g.K.Sink.state c.tell_line.new.sink) c.tell_line.result c.has_counts.ensures c.if-has_counts.true
-    (c.tell_line.ensures.tells counts (are (sym c.has_counts.ensures ∙ c.if-has_counts.true)))
-
-pub returns-else-has_counts-clause-tells : goal.returns-else-has_counts-clause-tells
-returns-else-has_counts-clause-tells g c counts are =
-    untold_where c.has_counts.result (has_counts c.args.watch.now.telling)
-    (counts_line counts (machine_view c.args.watch.now.book)) (g.K.Sink.state c.args.sink.now)
-    c.has_counts.ensures c.if-has_counts.false
+pub returns : goal.returns
+returns g c counts are =
+    subst (λ due. TellsText (if due then counts_line counts c.args.state.now.view else [])
+    (g.K.Sink.state c.args.sink.now) (g.K.Sink.state c.tell_counts_if.new.sink) c.tell_counts_if.result)
+    c.has_counts.ensures (c.tell_counts_if.ensures counts (λ due. are (sym c.has_counts.ensures ∙ due)))

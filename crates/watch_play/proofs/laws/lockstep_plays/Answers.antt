@@ -1,4 +1,4 @@
-use Rattle.watch_play.proofs.GetsOn.{lockstep_plays}
+use Rattle.watch_play.proofs.Plays.{lockstep_plays}
 use Rattle.watch_play.proofs.laws.lockstep_plays.Goals as goal
 
 pub returns : goal.returns

@@ -1,6 +1,6 @@
 use Rattle.std.proofs.Common.{sym, subst}
 use Rattle.std.specs.Prelude.{◌↔◌, IsTrue}
-use Rattle.conflict_book.specs.BookViews.{machine_view}
+use Rattle.watch_counts.specs.conflict_book.BookViews.{machine_view}
 use Rattle.watch_play.specs.Courses.{IsAskedInRound}
 use Rattle.watch_play.proofs.lockstep.is_asked_in_round.Goals as goal
 

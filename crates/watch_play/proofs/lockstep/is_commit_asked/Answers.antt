@@ -1,4 +1,4 @@
-use Rattle.spec_state.specs.declared.task.Where.TheVariants as where_
+use Rattle.watch_counts.specs.spec_state.declared.task.Where.TheVariants as where_
 use Rattle.watch_play.proofs.Chosen.{commit_asked, no_commit_asked}
 use Rattle.watch_play.proofs.lockstep.is_commit_asked.Goals as goal
 

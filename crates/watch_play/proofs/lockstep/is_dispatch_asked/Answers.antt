@@ -1,7 +1,7 @@
 use Rattle.std.proofs.Common.{ap, subst, sym}
 use Rattle.std.specs.Prelude.{◌↔◌, IsTrue, is_some}
-use Rattle.spec_state.specs.View.{View}
-use Rattle.step_script.specs.declared.act.Act.TheVariants as acts
+use Rattle.watch_counts.specs.spec_state.View.{View}
+use Rattle.watch_counts.specs.step_script.declared.act.Act.TheVariants as acts
 use Rattle.watch_play.specs.Courses.{IsAskedInRound}
 use Rattle.watch_play.proofs.Chosen.{core_asked, least_asked}
 use Rattle.watch_play.proofs.lockstep.is_dispatch_asked.Goals as goal

@@ -1,18 +1,18 @@
-use Rattle.std.proofs.Common.{rules, ◌≢◌, ◌+◌}
+use Rattle.std.proofs.Common.{rules, ◌≢◌, ◌+◌, refl}
 use Rattle.std.specs.String.{string_bytes}
-use Rattle.event_def.specs.declared.event.Reply.TheVariants as reply
-use Rattle.conflict_book.specs.BookViews.{effect_of, view_of}
-use Rattle.step_script.specs.Playing.{PlayState}
-use Rattle.step_script.specs.Asking.{asks_of}
-use Rattle.watch_text.specs.Moments.{task_of}
+use Rattle.watch_counts.specs.event_def.declared.event.Reply.TheVariants as reply
+use Rattle.watch_counts.specs.conflict_book.BookViews.{effect_of, view_of}
+use Rattle.watch_counts.specs.step_script.Playing.{PlayState}
+use Rattle.watch_counts.specs.step_script.Asking.{asks_of}
+use Rattle.watch_counts.specs.watch_text.Moments.{task_of}
 use Rattle.watch_play.specs.Made.{play_of}
 use Rattle.watch_play.proofs.Lined.{is_told, line_is, told_by}
 use Rattle.watch_play.proofs.playing.play_act.Goals as goal
 
 pub returns-in-Ok-tell_rest-clause-comes : goal.returns-in-Ok-tell_rest-clause-comes
 returns-in-Ok-tell_rest-clause-comes g c =
-    let number = c.args.watch.now.count + 1 in
-    let old = play_of g.P.Placer.policy g.T.Tap.notes c.args.watch.now in
+    let number = c.args.printer.now.told.moments + 1 in
+    let old = play_of g.P.Placer.policy g.T.Tap.notes c.args.play.now in
     let new : PlayState = record {
       book = view_of g.P.Placer.policy g.T.Tap.notes c.make-applied.new.book;
       held = c.ask.new.self.held;
@@ -30,20 +30,20 @@ returns-in-Ok-tell_rest-clause-comes g c =
           c.ask.new.self.leg task
           about.result.request applied.result.reply applied.result.aborted effect c.leg-leg.ensures
           c.state.result.now.view
-          (play_of g.P.Placer.policy g.T.Tap.notes c.tell_rest.new.watch) c.state.ensures.view c.tell_rest.ensures.play
+          new c.state.ensures.view refl
           c.in-Ok.ensures.asks about.ensures.task about.ensures.request there applied.ensures.comes
           applied.ensures.told,
       line_is g.row.N.Denot g.N.Naming.image c.args.at number c.args.act old new
           (asks_of {N = g.row.N.Denot} c.in-Ok.asked leg) task about.result.request applied.result.reply
-          applied.result.aborted effect c.args.watch.now.telling (string_bytes c.clear.new.self)
-          (string_bytes c.put_front.new.line) (string_bytes c.tell_rest.new.watch.line) _ c.requires.lines
-          (search rules) (search rules) (search rules) (c.in-Ok-tell_rest.ensures.line leg),
+          applied.result.aborted effect c.args.telling (string_bytes c.clear.new.self)
+          (string_bytes c.put_front.new.line) (string_bytes c.tell_rest.new.line) _ c.requires.lines
+          (search rules) (search rules) (search rules) (c.in-Ok-tell_rest.ensures leg),
     )
 
 pub returns-in-Err-clause-comes : goal.returns-in-Err-clause-comes
 returns-in-Err-clause-comes g c =
-    let number = c.args.watch.now.count + 1 in
-    let old = play_of g.P.Placer.policy g.T.Tap.notes c.args.watch.now in
+    let number = c.args.printer.now.told.moments + 1 in
+    let old = play_of g.P.Placer.policy g.T.Tap.notes c.args.play.now in
     let new : PlayState = record {
       book = view_of g.P.Placer.policy g.T.Tap.notes c.make-applied.new.book;
       held = c.ask.new.self.held;
@@ -61,7 +61,7 @@ returns-in-Err-clause-comes g c =
           c.ask.new.self.leg task
           about.result.request applied.result.reply applied.result.aborted effect c.leg-leg.ensures
           c.state.result.now.view
-          (play_of g.P.Placer.policy g.T.Tap.notes c.tell_rest.new.watch) c.state.ensures.view c.tell_rest.ensures.play
+          new c.state.ensures.view refl
           c.in-Ok.ensures.asks about.ensures.task about.ensures.request there applied.ensures.comes
           applied.ensures.told,
     )

@@ -1,13 +1,13 @@
 use Rattle.std.proofs.Common.{ℕ, refl, subst, sym}
 use Rattle.std.specs.Prelude.{IfSome, IsNone, None, Some, option_map}
 use Rattle.std.specs.declared.option.Option.{Option}
-use Rattle.spec_state.specs.declared.task.TaskId.{TaskId}
-use Rattle.spec_state.specs.Least.{IsTheLeast}
-use Rattle.spec_state.specs.View.{View}
-use Rattle.conflict_book.specs.declared.legless.Legless.{Legless}
-use Rattle.conflict_book.specs.Legless.{event_of}
-use Rattle.event_def.specs.declared.event.Event.TheVariants as event
-use Rattle.step_script.specs.Asking.{Hands}
+use Rattle.script_text.specs.spec_state.declared.task.TaskId.{TaskId}
+use Rattle.script_text.specs.spec_state.Least.{IsTheLeast}
+use Rattle.script_text.specs.spec_state.View.{View}
+use Rattle.script_text.specs.conflict_book.declared.legless.Legless.{Legless}
+use Rattle.script_text.specs.conflict_book.Legless.{event_of}
+use Rattle.script_text.specs.event_def.declared.event.Event.TheVariants as event
+use Rattle.script_text.specs.step_script.Asking.{Hands}
 use Rattle.watch_text.specs.Moments.{IsAbout}
 use Rattle.watch_text.proofs.about.about_legless.Goals as goal
 

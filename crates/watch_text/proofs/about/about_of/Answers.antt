@@ -1,7 +1,7 @@
 use Rattle.std.proofs.Common.{subst, sym}
 use Rattle.std.specs.Prelude.{None}
-use Rattle.step_script.specs.declared.asked.Asked.{Asked}
-use Rattle.step_script.specs.Asking.{asks_of}
+use Rattle.script_text.specs.step_script.declared.asked.Asked.{Asked}
+use Rattle.script_text.specs.step_script.Asking.{asks_of}
 use Rattle.watch_text.specs.Moments.{IsAbout, task_of}
 use Rattle.watch_text.proofs.about.about_of.Goals as goal
 

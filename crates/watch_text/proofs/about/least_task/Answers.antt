@@ -1,12 +1,12 @@
 use Rattle.std.proofs.Common.{◌≡◌, ◌∙◌, ℕ, ap, sym}
 use Rattle.std.specs.Prelude.{IfSome, IsNone, None, Some, is_some, option_map}
 use Rattle.std.specs.declared.option.Option.{Option}
-use Rattle.spec_state.specs.declared.task.TaskId.{TaskId}
-use Rattle.spec_state.specs.declared.task.Where.{Where}
-use Rattle.spec_state.specs.Least.{IsLeast, IsTheLeast}
-use Rattle.spec_state.specs.View.{View}
-use Rattle.event_basis.specs.Whereabouts.{queued_in}
-use Rattle.event_basis.proofs.Proved.{least_where, none_is_least}
+use Rattle.script_text.specs.spec_state.declared.task.TaskId.{TaskId}
+use Rattle.script_text.specs.spec_state.declared.task.Where.{Where}
+use Rattle.script_text.specs.spec_state.Least.{IsLeast, IsTheLeast}
+use Rattle.script_text.specs.spec_state.View.{View}
+use Rattle.script_text.specs.event_basis.Whereabouts.{queued_in}
+use Rattle.script_text.proofs.Below.event_basis.Proved.{least_where, none_is_least}
 use Rattle.watch_text.proofs.about.least_task.Goals as goal
 
 module _ (view : View) (w : Where) (is : IsLeast view w) where

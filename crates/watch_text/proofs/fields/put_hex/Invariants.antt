@@ -1,7 +1,7 @@
 use Rattle.std.proofs.Common.{◌≡◌, ◌++◌, take}
 use Rattle.std.specs.List.{flat_map}
 use Rattle.std.specs.String.{string_bytes}
-use Rattle.report_text.specs.Hex.{byte_hex}
+use Rattle.script_text.specs.report_text.Hex.{byte_hex}
 use Rattle.watch_text.proofs.fields.put_hex.Given as goal
 
 abbrev pub invariant-loop-byte : goal.invariant-loop-byte

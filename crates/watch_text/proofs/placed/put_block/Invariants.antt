@@ -1,7 +1,7 @@
 use Rattle.std.proofs.Common.{◌≡◌, ◌++◌, take}
 use Rattle.std.specs.List.{flat_map}
 use Rattle.std.specs.String.{string_bytes}
-use Rattle.spec_state.specs.View.{block_at}
+use Rattle.script_text.specs.spec_state.View.{block_at}
 use Rattle.watch_text.specs.Opening.{spilled_line}
 use Rattle.watch_text.proofs.placed.put_block.Given as goal
 

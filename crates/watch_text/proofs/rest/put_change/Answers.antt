@@ -1,9 +1,9 @@
 use Rattle.std.proofs.Common.{ap}
 use Rattle.std.specs.String.{string_bytes}
-use Rattle.conflict_book.specs.Legless.{event_of}
-use Rattle.event_def.specs.declared.event.Event.TheVariants as event
-use Rattle.step_script.specs.declared.asked.Asked.{Asked}
-use Rattle.step_script.specs.Asking.{asks_of}
+use Rattle.script_text.specs.conflict_book.Legless.{event_of}
+use Rattle.script_text.specs.event_def.declared.event.Event.TheVariants as event
+use Rattle.script_text.specs.step_script.declared.asked.Asked.{Asked}
+use Rattle.script_text.specs.step_script.Asking.{asks_of}
 use Rattle.watch_text.specs.Moments.{task_of}
 use Rattle.watch_text.proofs.Handed.{change_put}
 use Rattle.watch_text.proofs.rest.put_change.Goals as goal

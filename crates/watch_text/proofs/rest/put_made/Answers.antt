@@ -1,7 +1,7 @@
 use Rattle.std.proofs.Common.{◌≡◌, ◌++◌, subst}
 use Rattle.std.specs.Prelude.{OnOk}
 use Rattle.std.specs.String.{string_bytes}
-use Rattle.step_script.specs.Asking.{asks_of}
+use Rattle.script_text.specs.step_script.Asking.{asks_of}
 use Rattle.watch_text.specs.Changes.{own_text, taken_text}
 use Rattle.watch_text.specs.Moments.{task_of}
 use Rattle.watch_text.proofs.Joined.{two_texts}

@@ -1,6 +1,6 @@
 use Rattle.std.specs.Prelude.{codes, decimal}
 use Rattle.std.specs.String.{string_bytes}
-use Rattle.spec_state.specs.View.{finished_at}
+use Rattle.script_text.specs.spec_state.View.{finished_at}
 use Rattle.watch_text.specs.Fields.{items_text}
 use Rattle.watch_text.specs.Views.{finished_text}
 use Rattle.watch_text.proofs.Joined.{two_texts}

@@ -1,4 +1,4 @@
-use Rattle.event_law.proofs.Proved.{rest_is_bounded}
+use Rattle.event_step.proofs.Below.event_law.Proved.{rest_is_bounded}
 use Rattle.conflict_book.proofs.Nexts.{falls_if_moved}
 use Rattle.conflict_book.proofs.Settled.{advance_settles}
 use Rattle.conflict_book.proofs.book.Book.advance.Goals as goal

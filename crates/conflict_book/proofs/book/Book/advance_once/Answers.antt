@@ -1,9 +1,9 @@
 use Rattle.std.proofs.Common.{inl, map, subst, sym}
-use Rattle.spec_law.specs.Sound.{Sound}
-use Rattle.event_def.specs.Book.{CountedView}
-use Rattle.event_def.specs.End.{HasEnd}
-use Rattle.event_def.specs.Telling.{AdvanceTelling}
-use Rattle.event_def.specs.declared.event.Came.{Came}
+use Rattle.event_step.specs.spec_law.Sound.{Sound}
+use Rattle.event_step.specs.event_def.Book.{CountedView}
+use Rattle.event_step.specs.event_def.End.{HasEnd}
+use Rattle.event_step.specs.event_def.Telling.{AdvanceTelling}
+use Rattle.event_step.specs.event_def.declared.event.Came.{Came}
 use Rattle.conflict_book.specs.Halting.{NextComes}
 use Rattle.conflict_book.specs.BookViews.{effect_of, going_book, view_of}
 use Rattle.conflict_book.proofs.Nexts.{parts_made, parts_refused, parts_stay}

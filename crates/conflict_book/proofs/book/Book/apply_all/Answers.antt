@@ -1,7 +1,7 @@
 use Rattle.std.proofs.Common.{List, ◌≡◌, arith, ap, get_or, length, subst, sym, take, ◌∙◌, ◌+◌}
-use Rattle.event_def.specs.declared.event.Applied.{Applied}
-use Rattle.event_def.specs.declared.event.Event.{Event}
-use Rattle.event_def.specs.Happens.{HappenAll}
+use Rattle.event_step.specs.event_def.declared.event.Applied.{Applied}
+use Rattle.event_step.specs.event_def.declared.event.Event.{Event}
+use Rattle.event_step.specs.event_def.Happens.{HappenAll}
 use Rattle.conflict_book.specs.BookViews.{view_of}
 use Rattle.conflict_book.proofs.Lists.{longer, one_more}
 use Rattle.conflict_book.proofs.book.Book.apply_all.Goals as goal

@@ -1,6 +1,6 @@
 use Rattle.std.proofs.Common.{◌≡◌, ◌≤◌, length, take}
 use Rattle.std.specs.Prelude.{vec_capacity}
-use Rattle.event_def.specs.Happens.{HappenAll}
+use Rattle.event_step.specs.event_def.Happens.{HappenAll}
 use Rattle.conflict_book.specs.BookViews.{view_of}
 use Rattle.conflict_book.proofs.book.Book.apply_all.Given as goal
 

@@ -1,6 +1,6 @@
 use Rattle.std.proofs.Common.{subst, sym}
-use Rattle.event_def.specs.declared.event.Event.{Event}
-use Rattle.event_def.specs.Telling.{HappensTelling}
+use Rattle.event_step.specs.event_def.declared.event.Event.{Event}
+use Rattle.event_step.specs.event_def.Telling.{HappensTelling}
 use Rattle.conflict_book.specs.BookViews.{effect_of, view_of}
 use Rattle.conflict_book.proofs.book.Book.apply_kept.Goals as goal
 

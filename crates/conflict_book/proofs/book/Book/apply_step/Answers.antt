@@ -1,5 +1,5 @@
 use Rattle.std.proofs.Common.{map}
-use Rattle.event_def.specs.declared.event.Event.TheVariants as event
+use Rattle.event_step.specs.event_def.declared.event.Event.TheVariants as event
 use Rattle.conflict_book.proofs.Telling.{part_made, part_refused, stopped_telling}
 use Rattle.conflict_book.proofs.book.Book.apply_step.Goals as goal
 

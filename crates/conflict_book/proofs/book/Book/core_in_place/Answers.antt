@@ -1,5 +1,5 @@
 use Rattle.std.proofs.Common.{ap, arith, refl}
-use Rattle.spec_state.specs.declared.settings.Settings.{Settings}
+use Rattle.event_step.specs.spec_state.declared.settings.Settings.{Settings}
 use Rattle.conflict_book.proofs.Cores.{runs_inside}
 use Rattle.conflict_book.proofs.book.Book.core_in_place.Goals as goal
 use Rattle.conflict_book.proofs.book.Book.core_in_place.Goals.{then-tile-settings-via-then-tile-settings}

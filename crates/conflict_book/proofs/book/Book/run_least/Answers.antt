@@ -1,6 +1,6 @@
 use Rattle.std.proofs.Common.{arith, ap, refl, subst, ◌≡◌, ◌∙◌, ◌+◌, ◌*◌}
-use Rattle.spec_state.specs.declared.settings.Settings.{Settings}
-use Rattle.event_def.specs.Advancing.{AdvanceAnswers}
+use Rattle.event_step.specs.spec_state.declared.settings.Settings.{Settings}
+use Rattle.event_step.specs.event_def.Advancing.{AdvanceAnswers}
 use Rattle.conflict_book.specs.BookViews.{view_of}
 use Rattle.conflict_book.proofs.Nexts.{halted, not_enough, one_more}
 use Rattle.conflict_book.proofs.book.Book.run_least.Goals as goal

@@ -1,4 +1,4 @@
-use Rattle.event_def.specs.Advancing.{AdvancesBy}
+use Rattle.event_step.specs.event_def.Advancing.{AdvancesBy}
 use Rattle.conflict_book.specs.BookViews.{view_of}
 use Rattle.conflict_book.proofs.book.Book.run_least.Given as goal
 

@@ -1,7 +1,7 @@
 use Rattle.std.proofs.Common.{◌≡◌, [], map, subst}
-use Rattle.event_def.specs.Book.{CountedView}
-use Rattle.event_def.specs.Telling.{ComesTelling}
-use Rattle.event_basis.proofs.Proved.{comes_stays_sound}
+use Rattle.event_step.specs.event_def.Book.{CountedView}
+use Rattle.event_step.specs.event_def.Telling.{ComesTelling}
+use Rattle.event_step.proofs.Below.event_basis.Proved.{comes_stays_sound}
 use Rattle.conflict_book.specs.Legless.{event_of}
 use Rattle.conflict_book.specs.BookViews.{going_book}
 use Rattle.conflict_book.proofs.Telling.{comes_keeps_settings}

@@ -1,5 +1,5 @@
 use Rattle.std.proofs.Common.{[], map, subst}
-use Rattle.event_def.specs.Book.{CountedView}
+use Rattle.event_step.specs.event_def.Book.{CountedView}
 use Rattle.conflict_book.specs.Halting.{NextComes}
 use Rattle.conflict_book.specs.BookViews.{going_book}
 use Rattle.conflict_book.proofs.Nexts.{next_comes_sound}

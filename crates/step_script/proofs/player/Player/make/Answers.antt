@@ -1,6 +1,6 @@
 use Rattle.std.proofs.Common.{subst, sym}
-use Rattle.event_def.specs.declared.event.Event.TheVariants as event
-use Rattle.event_def.specs.Telling.{HappensTelling}
+use Rattle.conflict_book.specs.event_def.declared.event.Event.TheVariants as event
+use Rattle.conflict_book.specs.event_def.Telling.{HappensTelling}
 use Rattle.conflict_book.specs.BookViews.{effect_of, view_of}
 use Rattle.step_script.specs.Asking.{AttemptTells, asks_of}
 use Rattle.step_script.proofs.player.Player.make.Goals as goal

@@ -1,6 +1,6 @@
 use Rattle.std.proofs.Common.{◌∙◌, ◌+◌, length}
 use Rattle.std.specs.Prelude.{fold}
-use Rattle.event_def.specs.declared.event.Event.TheVariants as event
+use Rattle.watch_text.specs.event_def.declared.event.Event.TheVariants as event
 use Rattle.watch_text.specs.Moments.{task_of}
 use Rattle.watch_counts.specs.declared.acts.ActKind.TheVariants as kinds
 use Rattle.watch_counts.specs.Capped.{capped_counts}

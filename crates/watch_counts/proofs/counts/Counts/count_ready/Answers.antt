@@ -1,6 +1,6 @@
 use Rattle.std.proofs.Common.{◌≡◌, subst, sym}
-use Rattle.event_def.specs.declared.event.Event.TheVariants as event
-use Rattle.event_def.specs.declared.event.Reply.{Reply}
+use Rattle.watch_text.specs.event_def.declared.event.Event.TheVariants as event
+use Rattle.watch_text.specs.event_def.declared.event.Reply.{Reply}
 use Rattle.watch_text.specs.Moments.{task_of}
 use Rattle.watch_counts.specs.Capped.{capped_counts}
 use Rattle.watch_counts.specs.Counts.{after_reply}

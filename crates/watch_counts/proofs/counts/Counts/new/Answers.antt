@@ -1,6 +1,6 @@
 use Rattle.std.proofs.Common.{◌∙◌, ap, sym}
 use Rattle.std.specs.Prelude.{false, length, replicate}
-use Rattle.spec_state.specs.View.{block_at}
+use Rattle.watch_text.specs.spec_state.View.{block_at}
 use Rattle.watch_counts.specs.declared.counts.Counts.{Counts}
 use Rattle.watch_counts.specs.Capped.{capped_places}
 use Rattle.watch_counts.specs.Counts.{places}

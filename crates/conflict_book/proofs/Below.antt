@@ -1,0 +1,9 @@
+-- The proofs of the crates below that the crates above cite.
+pub use Rattle.event_step.proofs.Below.serial_machine as serial_machine
+pub use Rattle.event_step.proofs.Below.run_law as run_law
+pub use Rattle.event_step.proofs.Below.task_law as task_law
+pub use Rattle.event_step.proofs.Below.spec_state as spec_state
+pub use Rattle.event_step.proofs.Below.spec_law as spec_law
+pub use Rattle.pending_law.proofs as pending_law
+pub use Rattle.event_step.proofs.Below.event_law as event_law
+pub use Rattle.event_step.proofs.Below.event_basis as event_basis

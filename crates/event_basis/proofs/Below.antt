@@ -1,0 +1,7 @@
+-- The proofs of the crates below that the crates above cite.
+pub use Rattle.event_law.proofs.Below.serial_machine as serial_machine
+pub use Rattle.event_law.proofs.Below.run_law as run_law
+pub use Rattle.event_law.proofs.Below.task_law as task_law
+pub use Rattle.event_law.proofs.Below.spec_state as spec_state
+pub use Rattle.event_law.proofs.Below.spec_law as spec_law
+pub use Rattle.event_law.proofs as event_law
