@@ -1,5 +1,5 @@
-# What is wrong with the words of a call of ./fractal, in a sentence. The launcher reads this file where it is there: it
-# hands over its table and what finds rows in it. Without it the program judges the words, and says less.
+# What is wrong with the arguments of a call of ./fractal, in a sentence. The launcher reads this file if it exists, and
+# provides its table and what finds rows in it. Without it the program judges the arguments, and says less.
 
 # The names of all rows of a kind, which is a pattern of sed, as `a, b or c`.
 names_of() {
@@ -11,11 +11,46 @@ names_of() {
         }'
 }
 
-# A word as a sentence shows it: without what isn't printed, and not too long.
+# An argument as a sentence shows it: without what isn't printed, and not too long.
 shown() {
+    [ -n "$1" ] || { printf empty && return; }
     start=$(printf %s "$1" | tr -c '\040-\176\200-\377' '?' | cut -c 1-60)
     [ ${#1} -le 60 ] || start=$start...
-    printf '\140%s\140' "$start"
+    printf %s "$start"
+}
+
+# The end of a sentence on an unknown name: a question for the nearest names of some kinds of rows, or a full stop. Each
+# name has a mark before it, and is at most three letters away, and at most two fifths of its length.
+near_of() {
+    table | LC_ALL=C awk -F'|' -v word="$1" -v kinds=" $2 " -v mark="${3-}" '
+        function least(one, other) { return one < other ? one : other }
+        function distance(one, other, row, column, above, left, corner) {
+            for (column = 0; column <= length(other); column++) cost[column] = column
+            for (row = 1; row <= length(one); row++) {
+                corner = cost[0]
+                cost[0] = row
+                for (column = 1; column <= length(other); column++) {
+                    above = cost[column]
+                    left = corner + (substr(one, row, 1) != substr(other, column, 1))
+                    cost[column] = least(least(above + 1, cost[column - 1] + 1), left)
+                    corner = above
+                }
+            }
+            return cost[length(other)]
+        }
+        index(kinds, " " $1 " ") && length(word) < 40 && !seen[$2]++ {
+            far = distance(word, $2)
+            if (far > 3 || 5 * far > 2 * length($2)) next
+            if (names == "" || far < nearest) { names = mark $2; nearest = far }
+            else if (far == nearest) names = names " or " mark $2
+        }
+        END { printf "%s", names == "" ? "." : "; did you mean " names "?" }'
+}
+
+# The tools that have an option of their own with this name, as `a, b`.
+tools_with() {
+    grep -l "^  --$1[ ,]" "$home"/tools/yotarimu/commands/*.py 2>/dev/null |
+        sed 's,.*/,,; s,\.py$,,' | sed -n 'H; $ { x; s/\n//; s/\n/, /g; p; }'
 }
 
 # A word as a line to type has it, but for what isn't printed.
@@ -80,6 +115,15 @@ fault_of_parts() {
             line="$line views $2" command=${3-}
             shift 2
             ;;
+        counts)
+            line="$line counts" command=${2-}
+            shift
+            if [ "$command" = every ]; then
+                fault_of_number every "$line every" "${2-}" && return
+                line="$line every $2" command=${3-}
+                shift 2
+            fi
+            ;;
     esac
     if is_apart "$command"; then command=''; fi
     row course "$command" || { fault_of_course && return; }
@@ -91,9 +135,9 @@ fault_of_parts() {
             line="$line $1"
             shift
         done
-        if [ "${1-}" = barren ]; then
-            fault_of_number barren "$line barren" "${2-}" && return
-            line="$line barren $2"
+        if [ "${1-}" = starved ]; then
+            fault_of_number starved "$line starved" "${2-}" && return
+            line="$line starved $2"
             shift 2
         fi
     fi
@@ -121,7 +165,7 @@ fault_of_further() {
             --?*)
                 name=${word#--}
                 name=${name%%=*}
-                fault_of_name "$name" "$word" && return
+                fault_of_name "$name" && return
                 given="$given$name "
                 case $word in
                     *=*) fault_of_value "$name" "${word#*=}" && return ;;
@@ -138,92 +182,83 @@ fault_of_further() {
     if [ -n "$waiting" ]; then
         fault_of_missing "$waiting"
     elif [ "$command" = load ]; then
-        [ $count -eq 3 ] || put "\`load\` takes KIND SEED SIZE, as in: $(quoted "$0") load walk 7 100"
+        [ $count -eq 3 ] || put "load takes KIND SEED SIZE, as in: $(quoted "$0") load walk 7 100"
     elif [ $count -gt 0 ]; then
         fault_of_files "$@"
     fi
 }
 
-# Each of these writes what is wrong, or has status 1. The first is of a first word that is no command.
+# Each of these writes what is wrong, or has status 1. The first is of a first argument that isn't a command.
 fault_of_command() {
     if [ $# -gt 1 ] && row own "$1"; then
-        put "\`$1\` stands alone, and not with $(shown "$2")."
+        put "$1 takes no $(shown "$2"); $(quoted "$0") help $1 describes it."
     elif [ -f "$1" ]; then
-        put "$(shown "$1") is a file and no command: $(quoted "$0") run < $(quoted "$1")"
+        put "$(shown "$1") is a file; try $(quoted "$0") run < $(quoted "$1")"
     else
-        put "$(shown "$1") is no command; the first word is $(names_of command), and ./fractal help tells more."
+        near=$(near_of "$1" 'command own tool')
+        [ "$near" != . ] || near="; $(quoted "$0") help lists them."
+        put "unknown command $(shown "$1")$near"
     fi
 }
 
 fault_of_course() {
     if [ -f "$command" ]; then
-        put "$(shown "$command") is a file and no course: $(quoted "$0") watch least < $(quoted "$command")"
+        put "$(shown "$command") is a file; try $(quoted "$0") watch least < $(quoted "$command")"
     else
-        instead=${command:+, and not $(shown "$command")}
-        put "behind \`$line\` stands $(names_of course)$instead; ./fractal help tells more."
+        near=$(near_of "$command" course)
+        [ "$near" != . ] || near=${command:+, not $(shown "$command")}.
+        put "$line needs a mode: $(names_of course)$near"
     fi
 }
 
-# The number that a name stands for, behind these words.
+# The number that a name stands for, behind these arguments.
 fault_of_number() {
     values_of number "$1"
     is_allowed "$values" "$3" && return 1
-    put "behind \`$2\` stands a number from $(told_values "$values")${3:+, and not $(shown "$3")}."
+    put "$2 needs a number from $(told_values "$values")${3:+, not $(shown "$3")}."
 }
 
-# The name of an option, and the whole word that it stands in.
+# The name of an option.
 fault_of_name() {
     fault_of_second "$1" && return
-    if [ "$rows_of" = course ] && row course-option "$1"; then
-        fault_of_equals "$1" "$2"
-        return
-    fi
     option_row "$1" && return 1
-    kinds=option
-    [ "$rows_of" != course ] || kinds='\(course-\)\{0,1\}option'
+    kinds=option others=''
+    [ "$rows_of" != course ] || kinds='option course-option'
+    near=$(near_of "$1" "$kinds" --)
+    case $1 in
+        *[!a-z-]*) ;;
+        *) others=$(tools_with "$1") ;;
+    esac
     if [ "$1" = version ]; then
-        put "\`--version\` stands alone: $(quoted "$0") --version"
+        put "--version stands alone: $(quoted "$0") --version"
     elif row course-option "$1"; then
-        takes=$(told_values "${found%%|*}")
-        put "\`--$1\`, which takes $takes, belongs to ./fractal watch, and not to \`$command\`."
+        put "--$1 is an option of ./fractal watch, not of $command."
+    elif [ "$near" = . ] && [ -n "$others" ]; then
+        put "--$1 is an option of $others, not of $command."
     else
-        put "$(shown "--$1") is no option, which is --$(names_of "$kinds" | sed 's/, /, --/g; s/ or / or --/')."
+        [ "$near" != . ] || near="; $(quoted "$0") help $command lists them."
+        put "unknown option $(shown "--$1")$near"
     fi
 }
 
-# An option that stands twice; of one of `watch` alone it is told what it takes.
 fault_of_second() {
     case $given in
-        *" $1 "*) ;;
+        *" $1 "*) put "--$1 is given twice." ;;
         *) return 1 ;;
     esac
-    takes=''
-    if row course-option "$1"; then takes=", and takes one of $(told_values "${found%%|*}")"; fi
-    put "\`--$1\` stands twice$takes."
-}
-
-# An option of `watch` alone has no value in its own word.
-fault_of_equals() {
-    case $2 in
-        *=*) ;;
-        *) return 1 ;;
-    esac
-    values_of option "$1"
-    put "\`--$1\` takes $(told_values "$values") as a word of its own, and none behind \`=\`."
 }
 
 fault_of_missing() {
     values_of option "$1"
-    put "a value is missing after \`--$1\`, which takes $(told_values "$values")."
+    put "--$1 needs a value: $(told_values "$values")."
 }
 
-# The text of an option as a word of its own.
+# The text of an option as an argument of its own.
 fault_of_text() {
     case $2 in
         -?*)
             values_of option "$1"
-            dashed="$(shown "$2") begins with a dash"
-            put "a value is missing after \`--$1\`, which takes $(told_values "$values"); $dashed."
+            put "--$1 needs a value: $(told_values "$values"); $(shown "$2") begins with a dash."
             ;;
         *) fault_of_value "$1" "$2" ;;
     esac
@@ -232,38 +267,41 @@ fault_of_text() {
 fault_of_value() {
     values_of option "$1"
     is_allowed "$values" "$2" && return 1
-    put "$(shown "$2") is no value of \`--$1\`, which takes $(told_values "$values")."
+    case $values in
+        [a-z]*) put "--$1 must be one of $(told_values "$values"), not $(shown "$2")." ;;
+        *) put "--$1 must be $(told_values "$values"), not $(shown "$2")." ;;
+    esac
 }
 
 fault_of_dashes() {
     case $1 in
-        --) put "\`--\` isn't known: options have a name, as in --tiles 2." ;;
-        *) put "$(shown "$1") isn't known: options have two dashes, as in --tiles 2." ;;
+        --) put "-- isn't known; options have a name, as in --tiles 2." ;;
+        *) put "unknown option $(shown "$1"); options have two dashes, as in --tiles 2." ;;
     esac
 }
 
-# A further word of load.
+# A further argument of load.
 fault_of_place() {
     case $1 in
         1)
             row kind "$2" && kind=$2 && return 1
-            put "$(shown "$2") is no kind of image to generate: load takes $(names_of kind), a seed and a size."
+            put "load generates $(names_of kind), not $(shown "$2")."
             ;;
         2)
             values_of seed any
             is_allowed "$values" "$2" && return 1
-            put "$(shown "$2") is no seed, which is $(told_values "$values")."
+            put "the seed must be $(told_values "$values"), not $(shown "$2")."
             ;;
         3)
             values_of kind "$kind"
             is_allowed "$values" "$2" && return 1
-            put "$(shown "$2") is no size of a $kind, which is $(told_values "$values")."
+            put "the size of a $kind must be $(told_values "$values"), not $(shown "$2")."
             ;;
-        *) put "$(shown "$2") is one word too many: load takes a kind, a seed and a size." ;;
+        *) put "load takes KIND SEED SIZE, and $(shown "$2") is one argument too many." ;;
     esac
 }
 
-# Files that stand behind a command that reads standard input, with the line to type.
+# File arguments of a command that reads standard input, with the line to type.
 fault_of_files() {
     row "$rows_of" "$command"
     input=${found#*|}
@@ -287,7 +325,7 @@ fault_of_files() {
             line="$line <$files"
             ;;
     esac
-    put "no file stands behind \`$command\`: $input comes on standard input, as in: $line"
+    put "$command takes no file argument, since it reads $input from standard input: $line"
 }
 
 # Whether a word is a number that the values of a row allow: 1 to 10 digits, leading zeros too. Where the values are

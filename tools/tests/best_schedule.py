@@ -1,4 +1,4 @@
-"""The best schedule of a tiny text, found by trying all of them: what limits of parallelism are held against.
+"""The best schedule of a tiny text, found by trying all of them: limits of parallelism are compared with it.
 
 A text has at most eight tasks, in the order of their commits, with a blank between. Each character of a task is one
 instruction: `.` is a plain one, a small letter loads the byte of that name, a capital stores it, and a digit is a call
@@ -45,7 +45,7 @@ class Text:
         return stores[-1] if stores else None
 
     def committed_tasks(self) -> list[CommittedTask]:
-        """The text as limits are told of it."""
+        """The text as the limits read it."""
         return [committed_task(number, task) for number, task in enumerate(self.written.split(" "))]
 
 
@@ -57,7 +57,7 @@ def units_of(task: str, unit: Unit) -> list[str]:
 
 
 def committed_task(number: int, task: str) -> CommittedTask:
-    """A task of a tiny text as limits are told of it."""
+    """A task of a tiny text as the limits read it."""
     points, calls, steps = [], [], 0
     for place, mark in enumerate(task):
         if mark.isalpha():
@@ -135,7 +135,7 @@ class Best:
         return sum(state[it] < self.ends[it] for it in range(task)) < most
 
     def conflicts(self, task: int, state: State) -> bool:
-        """Whether the unit that a task has just made would take a later task back."""
+        """Whether the unit that a task has just made would abort a later task."""
         if self.manner is not Manner.ONE:
             return False
         mark = self.text.tasks[task][state[task] - 1]

@@ -61,7 +61,7 @@ def children_before(told: ToldLine, machine: Machine) -> dict[int, list[int]]:
 
 
 def conflicts_held(watched: Reader) -> int:
-    """Holds each event of lines against the model: exactly those tasks are taken back that it tells. How many events
+    """Holds each event of lines against the model: exactly those tasks are aborted that it tells. How many events
     took some back."""
     rule, count = rule_of(watched.head), 0
     for told in watched:

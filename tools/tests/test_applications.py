@@ -154,7 +154,7 @@ class GraphsTest(unittest.TestCase):
 
 
 class FlowTest(unittest.TestCase):
-    """Arcs from 0 to 1 (room 3), 0 to 2 (2), 1 to 3 (2) and 2 to 3 (4): at most 4 come to 3."""
+    """Arcs from 0 to 1 (room 3), 0 to 2 (2), 1 to 3 (2) and 2 to 3 (4): at most 4 reach 3."""
 
     def memory(self, flows: list[int], excess: list[int]) -> Memory:
         """The memory with so much in each of the four arcs."""

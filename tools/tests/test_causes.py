@@ -1,4 +1,4 @@
-"""Why tasks were taken back, on events put together by hand; the lines are of 16 bytes. What is wanted follows from the
+"""Why tasks were aborted, on events put together by hand; the lines are of 16 bytes. What is wanted follows from the
 rules of docs/machine/MACHINE.md, worked out beside each."""
 from __future__ import annotations
 
@@ -37,9 +37,9 @@ def store(address: int, value: int = 1, event: int = 1) -> Access:
 
 
 def member(it: Any, timestamp: int, dispatch: float, *accesses: Access, is_gone: bool = False) -> TakenTask:
-    """A task that was taken back, with what it had done."""
+    """A task that was aborted, with what it had done."""
     time = root(True).time(timestamp, dispatch)
-    return TakenTask(it, time, len(accesses), list(accesses), [], "running", 0, is_gone, [])
+    return TakenTask(it, time, len(accesses), len(accesses), list(accesses), [], "running", 0, is_gone, [])
 
 
 def event(members: list[TakenTask], asker: Any = None, access: Optional[Access] = None, **line: Any) -> Any:
@@ -161,8 +161,8 @@ class SentencesTest(unittest.TestCase):
                       member(task("0.0+0", one), 2, UNDISPATCHED, is_gone=True)], task("0.1"), store(0))
         self.assertEqual(self.sentences_of(told), [
             "it loaded 5 from 10000000, and 0.1 stores there",
-            "0.0, which made it, was taken back",
-            "it loaded 0 from 10000044, and 0.0, which was taken back, had stored at 10000040; they share the line of "
+            "0.0, which made it, was aborted",
+            "it loaded 0 from 10000044, and 0.0, which was aborted, had stored at 10000040; they share the line of "
             "16 bytes and no byte"])
 
     def test_a_bit_is_told_with_both_lines(self) -> None:
@@ -174,8 +174,8 @@ class SentencesTest(unittest.TestCase):
     def test_bits_of_several_lines_are_told_with_the_line(self) -> None:
         told = event([member(task("0.0"), 2, 1, *many_loads())], task("0.1"), store(JOINT))
         self.assertEqual(self.sentences_of(told, BLOOM), [
-            "its filter tells the line 2,201, and 0.1 stores at 10008990; each bit of that line is one of a line that "
-            "it noted, and they share no byte"])
+            "its filter reports the line 2,201, and 0.1 stores at 10008990; each bit of that line is one of a line "
+            "that it noted, and they share no byte"])
 
     def test_room_is_told_with_who_needs_it(self) -> None:
         cases: tuple[tuple[Any, str], ...] = (

@@ -24,7 +24,7 @@ def code(text: str) -> bytes:
 
 
 class Conditions(unittest.TestCase):
-    """What an expression comes to."""
+    """The value of an expression."""
     def holds(self, text: str) -> bool:
         """Whether an expression holds on the machine of this file."""
         return holds(code(text), Machine())

@@ -1,4 +1,4 @@
-"""Bytes of variables that files give, and variables told by their names."""
+"""Bytes of variables that files give, and variables by their names."""
 from __future__ import annotations
 
 import pathlib

@@ -12,7 +12,8 @@ TOOLS = pathlib.Path(__file__).resolve().parents[1]
 Definition = Union[ast.Module, ast.ClassDef, ast.FunctionDef]
 # A line that begins as a sentence does, or with what it is about; its end may be lines later.
 BEGIN = re.compile("[A-Z0-9`'\"]|gdb|main ")
-# A try is named by what it shows, and its text, which is printed behind that name, begins small and has no full stop.
+# An integration test is named by what it shows, and its text, which is printed after that name, begins small and has no
+# full stop.
 TRIES = TOOLS / "tries"
 # These are the words of the debugger: their texts are what `monitor help` prints.
 HELP = re.compile(r"\[?[A-Z].*  [a-z]|all attempts")

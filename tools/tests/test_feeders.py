@@ -1,4 +1,4 @@
-"""Chains of feeders, of tasks that were put together by hand."""
+"""Chains of spawners, of tasks that were put together by hand."""
 from __future__ import annotations
 
 import unittest
@@ -25,7 +25,7 @@ def longest_of(tasks: Sequence[CommittedTask]) -> tuple[Chain, Limits]:
 
 
 def chain_of(length: int) -> list[CommittedTask]:
-    """A chain: each feeder makes three tasks that store, and the next feeder."""
+    """A chain: each spawner makes three tasks that store, and the next spawner."""
     tasks = []
     for place in range(length):
         following = [f"f{place + 1}"] if place + 1 < length else []
@@ -34,11 +34,11 @@ def chain_of(length: int) -> list[CommittedTask]:
 
 
 class FeedersTest(unittest.TestCase):
-    """Which chains are told."""
+    """Which chains are reported."""
     def test_a_chain_is_told(self) -> None:
         longest, limits = longest_of(chain_of(8))
         self.assertEqual(longest, Chain(8, 80))
-        # The last task begins behind all eight feeders, and each of the others shares its word with one before it.
+        # The last task begins after all eight spawners, and each of the others shares its word with one before it.
         told = sentence(longest, limits.all_limits())
         assert told is not None
         self.assertIn("8 tasks that do nothing but make others", told)

@@ -5,7 +5,7 @@ import unittest
 
 from yotarimu.common.outcome import Refusal
 from yotarimu.courses.schedules import Shuffle, lockstep, round_of
-from yotarimu.figures.columns import Reach, number_cell
+from yotarimu.figures.columns import Reach, plain_cell
 from yotarimu.figures.occupancy import PLACES, RATES, Curve, Occupancy
 from yotarimu.figures.spread import Spread
 from yotarimu.pictures import histogram, plot
@@ -77,7 +77,7 @@ class Columns(unittest.TestCase):
     def fewer(self, *runs: tuple[str, int, int]) -> list[object]:
         """What is told of two runs, the second of which is held against the first, by end, commits and rounds."""
         first, second = (Reach(*run) for run in runs)
-        return [number_cell(it.fewer_than(first), ".6g") for it in (first, second)]
+        return [plain_cell(it.fewer_than(first)) for it in (first, second)]
 
     def test_rounds_of_whole_runs_are_held_against_the_first(self) -> None:
         self.assertEqual(self.fewer(("normal", 500, 1_256), ("normal", 500, 120)), ["1", "10.4667"])

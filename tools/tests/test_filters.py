@@ -106,7 +106,7 @@ class Conflicts(unittest.TestCase):
                 self.assertEqual(conflicts_held(watched), count)
 
     def test_lines_by_a_bloom_filter(self) -> None:
-        # What is taken back there is so by that kind alone.
+        # What is aborted there is so by that kind alone.
         self.assertEqual(conflicts_held(Reader(io.BytesIO(joint_lines("bloom")), "lines")), 2)
         for kind in ("modulo", "exact"):
             with self.assertRaises(AssertionError):

@@ -15,7 +15,7 @@ from yotarimu.images.image import DATA, TEXT, Image, InitialTask, image_bytes, r
 from yotarimu.images.listing import read_listing
 from yotarimu.images.loads import generate
 from yotarimu.images.serial_machine import (
-    Machine, arithmetic, branch_offset, comparison, jump_offset, signed_number)
+    Machine, arithmetic, branch_offset, comparison, is_instruction, jump_offset, signed_number)
 from yotarimu.reports.report import Entry, Name
 
 # li a7, 0; ecall.
@@ -86,6 +86,13 @@ class Instructions(unittest.TestCase):
         self.assertEqual([comparison(kind)(0xFFFFFFFF, 1) for kind in (equal, unequal, less, less_unsigned)],
                          [False, True, True, False])
 
+    def test_words_that_no_encoding_allows_are_illegal(self) -> None:
+        # mul, slli and srai with reserved bits, jalr and fence of other kinds, a load and a store of none, c.nop, csrr.
+        for word in (0x02B50533, 0x02151513, 0x42155513, 0x00051067, 0x0000100F, 0x00053503, 0x00A53023, 1, 0xC0002573):
+            self.assertFalse(is_instruction(word), hex(word))
+        for word in (0x40B50533, 0x40155513, 0x00050067, 0x0000000F, 0x00055503, 0x00A52023, 0x00000073, 0x00100073):
+            self.assertTrue(is_instruction(word), hex(word))
+
     def test_a_report_of_a_run_is_followed(self) -> None:
         machine = Machine(read_image(IMAGE, "here"))
         self.assertIsNone(machine.follow([Entry(1, Name(0, 0), 1, 5)]))
@@ -97,7 +104,7 @@ class Instructions(unittest.TestCase):
 
 
 def elf_of(name: bytes, section: bytes, address: int) -> bytes:
-    """A file of three sections: their names, the symbols with one label, and the text that it stands in."""
+    """A file of three sections: their names, the symbols with one label, and the text that the label is in."""
     names = b"\0.text\0.symtab\0.strtab\0"
     strings = b"\0" + name + b"\0"
     symbols = struct.pack("<3I2BH", 0, 0, 0, 0, 0, 0) + struct.pack("<3I2BH", 1, address, 8, 2, 0, 1)
@@ -137,7 +144,7 @@ class Sources(unittest.TestCase):
         with tempfile.TemporaryDirectory() as place:
             folder = pathlib.Path(place)
             (folder / "task.s").write_text(SOURCE)
-            image, assembled = build(folder, "gcc")
+            image, assembled = build(folder)
             listing = read_listing((folder / "listing").read_text(), folder / "listing")
         # The assembler fills the data up to the next label.
         self.assertEqual((image.text, image.tasks, image.window_offset, image.window_words, image.size),

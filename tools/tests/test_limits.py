@@ -104,7 +104,7 @@ class AnyOrders(unittest.TestCase):
 
 
 def points_of(accesses: list[tuple[bool, int, int]], cells: Optional[Cells]) -> list[Point]:
-    """Accesses as points, by their bytes where no cells are told."""
+    """Accesses as points, by their bytes if no cells are given."""
     return [Point(is_store, range(address, address + count) if cells is None else cells.of(address, count),
                   (place, place)) for place, (is_store, address, count) in enumerate(accesses)]
 

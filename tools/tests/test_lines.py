@@ -89,14 +89,14 @@ class Refusals(unittest.TestCase):
         for name, line, field, value, where, part in (
                 ("by_hand", 13, "old", 8, 13, "finds the byte 8, and 7"),
                 ("by_hand", 9, "value", 6, 13, "finds the byte 7, and 6"),
-                ("by_hand", 5, "addr", 0x10000001, 5, "no multiple of 4"),
+                ("by_hand", 5, "addr", 0x10000001, 5, "isn't a multiple of 4"),
                 ("by_hand", 5, "do", {}, 5, "`do` names neither"), ("by_hand", 5, "asks", [], 5, "`asks` is `[]`"),
                 ("by_hand", 8, "number", 2, 8, "1 is the next"),
                 ("by_hand", 21, "window", [7, 9], 21, "word 1 of the window is 9"),
                 ("by_hand", 21, "window", [7], 21, "2 words, and 1"),
                 ("rounds_by_hand", 11, "old", 0, 11, "finds the byte 0, and 7"),
                 ("domains_by_hand", 11, "next", 2, 11, "the next dispatch number is 1"),
-                ("domains_by_hand", 17, "to", "sub", 17, "a subdomain that isn't there")):
+                ("domains_by_hand", 17, "to", "sub", 17, "a missing subdomain")):
             self.refuse(name, field_change(line, field, value), where, part, False)
 
     def test_what_the_image_holds_beside(self) -> None:
@@ -146,7 +146,7 @@ def machine_told(machine: Machine) -> list[object]:
             machine.acts, machine.events, machine.commits, machine.dispatches, machine.queued, machine.running,
             machine.waiting, machine.spilled, machine.numbers.next, machine.numbers.path, list(machine.traps.values()),
             machine.output.hexdigest(), machine.memory.bytes(),
-            rounds and (rounds.number, rounds.barren, rounds.longest, rounds.advances, rounds.commits)]
+            rounds and (rounds.number, rounds.without_commit, rounds.longest, rounds.advances, rounds.commits)]
 
 
 def told_of(told: ToldLine) -> list[object]:

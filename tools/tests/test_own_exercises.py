@@ -1,4 +1,4 @@
-"""Exercises of one's own, by docs/guide/LESSON.md; options whose values are words; and programs of other systems."""
+"""Your own exercises, by docs/guide/LESSON.md; options whose values are words; and programs of other systems."""
 from __future__ import annotations
 
 import pathlib
@@ -36,7 +36,7 @@ class OwnExercises(unittest.TestCase):
             self.assertEqual(is_met(condition(text), seen), is_so, text)
 
     def test_files_are_read(self) -> None:
-        """Comments and blank lines are left out, and a line that is none is told by its number."""
+        """Comments and blank lines are left out, and a line that can't be read is reported by its number."""
         with tempfile.TemporaryDirectory() as folder:
             path = pathlib.Path(folder, "wanted")
             path.write_text("# mine\n\nanswer script\nacts ..9  # few\nend normal\n")
@@ -56,7 +56,7 @@ class OptionsOfWords(unittest.TestCase):
     """Options whose values are words, and those of numbers."""
 
     def test_values_are_words_or_numbers(self) -> None:
-        """A row tells by its value unless given which of both it has."""
+        """A row is a word or a number as its value is, unless it has a type."""
         taste, size = option_in("taste", "sweet,sour", "sour", "how"), option_in("size", "1..9", "4", "how many")
         self.assertEqual((taste.value_in("sweet"), taste.value_in("salt"), taste.value_in("")), ("sweet", None, None))
         self.assertEqual((size.value_in("9"), size.value_in("10"), size.value_in("four")), (9, None, None))
@@ -82,7 +82,7 @@ class Starts(unittest.TestCase):
     """Which programs this system starts, by their first bytes."""
 
     def test_other_processors_are_told(self) -> None:
-        """A program for another processor is told; a script, a file that isn't there, and Python itself aren't."""
+        """A program for another processor is reported; a script, a missing file, and Python itself aren't."""
         with tempfile.TemporaryDirectory() as folder:
             path = pathlib.Path(folder, "program")
             path.write_bytes(b"\x7fELF\x02\x01\x01" + bytes(9) + bytes((2, 0, 8, 0)))

@@ -30,7 +30,7 @@ class Reports(unittest.TestCase):
     def test_a_refusal_names_the_line(self) -> None:
         for text, line in (("fractal 2\n", 1), ("fractal 1\n2 0.0 1 0\n", 2), ("fractal 1\noutput A\n", 2),
                            ("fractal 1\noutput -\nend\n", 3), (REPORT + "more\n", 7)):
-            with self.assertRaisesRegex(Refusal, rf"^here:{line}: this is no report"):
+            with self.assertRaisesRegex(Refusal, rf"^here:{line}: this isn't a report"):
                 read_report(text, "here")
 
     def test_the_end_is_a_word(self) -> None:
@@ -53,8 +53,8 @@ class Scripts(unittest.TestCase):
 class Refusals(unittest.TestCase):
     """Why lines are refused."""
     def test_lines_of_scripts(self) -> None:
-        for line, part in ((b"step 4 0", "there is no tile 4"), (b"commit ", "a blank stands behind"),
-                           (b"step 01 0", "leading zero"), (b"halt", "no act")):
+        for line, part in ((b"step 4 0", "no tile 4"), (b"commit ", "a blank follows"),
+                           (b"step 01 0", "leading zero"), (b"halt", "isn't an act")):
             self.assertIn(part, script_fault(line, 4, 2) or "", line)
         self.assertIsNone(script_fault(b"step 3 1", 4, 2))
 
@@ -62,7 +62,7 @@ class Refusals(unittest.TestCase):
         text = REPORT.encode()
         self.assertIn("`fractal 1` is wanted", report_fault(b"fractal 2\n", 1))
         self.assertIn("is missing", report_fault(b"fractal 1\n", 2))
-        self.assertIn("nothing may stand behind the end", report_fault(text + b"x\n", 7))
+        self.assertIn("nothing may follow the end", report_fault(text + b"x\n", 7))
         self.assertIn("2 is wanted", report_fault(text.replace(b"2 1.3", b"3 1.3"), 3))
 
     def test_lines_are_counted_from_1(self) -> None:
@@ -78,7 +78,7 @@ class Disagreements(unittest.TestCase):
     REPORT = "fractal 1\n1 0.0 1 0\n2 0.1 1 5\noutput -\nwindow 10000000 0000002a\nend normal\n"
 
     def told(self, text: str, number: int, commits: int = 9) -> str:
-        """What is told of a line of a report; nothing where it is a run's."""
+        """What is wrong with a line of a report; nothing if it is a run's."""
         return disagreement(self.IMAGE, read_front(text, number - 1), read_front(text, number), commits, 99) or ""
 
     def test_a_run_has_none(self) -> None:
@@ -92,7 +92,7 @@ class Disagreements(unittest.TestCase):
                 ("1 0.0 1 0", "1 0.1 1 5", 2, "the task 0.0 comes before it"),
                 ("2 0.1 1 5", "2 1.0 1 5", 3, "the task of turn 1 made 0 tasks"),
                 ("output -", "output 41", 4, "emitted 0 bytes"), ("0000002a", "0000002b", 5, "holds 0000002a"),
-                ("window 10000000", "window 10000004", 5, "stands at 10000000"),
+                ("window 10000000", "window 10000004", 5, "is at 10000000"),
                 ("end normal", "end limit", 6, "no task is left"), ("2 0.1 1 5\n", "", 5, "one task is left: 0.1")):
             self.assertIn(part, self.told(self.REPORT.replace(old, new), number), new)
         self.assertIn("--commits allows 1 tasks", self.told(self.REPORT, 3, 1))

@@ -116,7 +116,7 @@ class Case(unittest.TestCase):
         return client
 
     def stop(self, client: Client, packet: str) -> tuple[int, int, int, str]:
-        """The signal, the thread and the pc of a stop, and what else it tells."""
+        """The signal, the thread and the pc of a stop, and its other fields."""
         answer = client.ask(packet) or ""
         self.assertEqual(answer[:1], "T", answer)
         fields = dict(part.partition(":")[::2] for part in answer[3:].split(";") if part)
@@ -168,7 +168,7 @@ class Lines(Case):
         self.assertEqual(self.stop(self.client, "?")[:3], (5, 1, READER))
         self.assertEqual(self.stop(self.client, "vCont;s:1;c")[:3], (5, 1, READER + 4))
         self.assertEqual(self.stop(self.client, "bs")[:3], (5, 1, READER))
-        # gdb may not be told of the end of history in a step over a breakpoint; in a row of steps it is.
+        # gdb must not be sent the end of history in a step over a breakpoint; in a row of steps it is.
         stops = [self.stop(self.client, "bs") for _ in range(3)]
         self.assertEqual([stop[0] for stop in stops], [5, 5, 0])
         self.assertEqual(stops[2], (0, 1, READER, "replaylog:begin"))
@@ -178,9 +178,9 @@ class Lines(Case):
         self.assertEqual(self.client.ask(f"Z0,{LOAD + 4:x},4"), "OK")
         self.assertEqual(self.stop(self.client, "vCont;c")[:3], (5, 1, LOAD + 4))
         self.assertEqual(self.register(self.client, T1), 0)
-        # The event that takes it back stops it too, with signal 30.
+        # The event that aborts it stops it too, with signal 30.
         self.assertEqual(self.stop(self.client, "vCont;c")[:2], (30, 1))
-        self.assertIn("0.0 reader ts 2 is about to be taken back (event 6): it loaded 0 from first at task.s:",
+        self.assertIn("0.0 reader ts 2 is about to be aborted (event 6): it loaded 0 from first at task.s:",
                       self.client.said)
         self.assertEqual(self.stop(self.client, "vCont;c")[:3], (5, 3, LOAD + 4))
         self.assertEqual(self.register(self.client, T1), 7)
@@ -212,7 +212,7 @@ class Lines(Case):
         self.stop(self.client, "vCont;c")
         self.assertEqual(self.word(self.client, SECOND), 1)
         self.client.ask(f"z0,{STORE:x},4")
-        # The first step ends before the event that takes the reader back, which is told; the second makes the store.
+        # The first step ends before the event that aborts the reader, which is reported; the second makes the store.
         self.assertEqual(self.stop(self.client, "vCont;s:2;c")[0], 30)
         self.stop(self.client, "vCont;s:2;c")
         self.assertEqual((self.word(self.client, FIRST), self.word(self.client, SECOND)), (7, 0))
@@ -226,16 +226,17 @@ class Lines(Case):
         self.assertIn("0.0", self.client.monitor("whence 2.0"))
         told = self.client.monitor(f"writes {SECOND:#x}").splitlines()
         self.assertEqual([it.split("->")[1].split()[0] for it in told], ["00000001", "00000000", "00000008"])
+        self.assertEqual(self.client.monitor("writes first+4"), self.client.monitor(f"writes {SECOND:#x}"))
         self.assertEqual(self.client.monitor("goto e6"), "Now thread 2 runs.\n")
         self.assertEqual(self.stop(self.client, "?")[1:3], (2, STORE))
         self.assertEqual(self.client.monitor("goto 2.0!"), "Now thread 3 runs.\n")
 
     def test_what_cannot_be_asked_is_told_in_a_sentence(self) -> None:
-        for words, part in (("goto 9.9", "9.9: there is no such task"), ("goto e99", "no leg is handed in"),
+        for words, part in (("goto 9.9", "9.9: no such task"), ("goto e99", "no leg is handed in"),
                             ("goto 0.0@x", "behind @ stands"), ("goto 0.0!", "is the image's own"),
-                            ("writes", "takes a word"), ("writes 5", "no address of the data"),
+                            ("writes", "takes a word"), ("writes 5", "isn't a label or address of the data"),
                             ("runs x", "a number from 1 to 4"), ("stale 1", "fewer words"), ("why 0 1", "fewer words"),
-                            ("nothing", "monitor goto"), ("children 7.7", "there is no such task")):
+                            ("nothing", "monitor goto"), ("children 7.7", "no such task")):
             with self.subTest(words):
                 self.assertIn(part, self.client.monitor(words))
 
@@ -255,6 +256,22 @@ class Lines(Case):
             self.client.left += self.client.own.recv(64)
         self.client.left = b""
         self.assertEqual(len(self.client.ask("g") or ""), 33 * 8)
+
+    def test_registers_out_of_range_are_refused_and_the_server_lives_on(self) -> None:
+        for packet in ("p-1", "P21=00000000", "P5=0011223344556677", "P5=00", "P-1=00000000", "Pffffffffff=00000000",
+                       "G" + "00" * 400, "m10000000,-4", "mffffffffffffffff,4"):
+            with self.subTest(packet):
+                self.assertEqual(self.client.ask(packet), "E01")
+        self.assertEqual(len(self.client.ask("g") or ""), 33 * 8)
+
+    def test_what_is_not_gdbs_closes_the_connection(self) -> None:
+        for request in (b"GET / HTTP/1.1\r\nHost: localhost\r\n\r\n", b"+hello$g#67"):
+            with self.subTest(request):
+                client = self.of(lines_track())
+                client.raw(request)
+                self.assertIsNone(client.packet())
+                client.thread.join(20)
+                self.assertFalse(client.thread.is_alive())
 
     def test_it_ends_with_gdb(self) -> None:
         self.assertEqual(self.client.ask("D"), "OK")
@@ -291,10 +308,10 @@ class Report(Case):
         self.assertEqual(self.client.ask("M20000000,4:00"), "E01")
 
     def test_events_are_none_of_a_report(self) -> None:
-        self.assertIn("a report tells no events", self.client.monitor("goto e3"))
+        self.assertIn("a report has no events", self.client.monitor("goto e3"))
         self.assertIn("has no turn", self.client.monitor("goto 0.9") + "has no turn")
         self.assertIn("good", self.client.monitor("tasks"))
-        self.assertIn("a report tells no attempts", self.client.monitor("runs"))
+        self.assertIn("a report has no attempts", self.client.monitor("runs"))
         self.assertIn("monitor whence", self.client.monitor("w"))
         self.assertIn("bad", self.client.monitor("tas 2"))
 

@@ -45,7 +45,7 @@ class Tracks(unittest.TestCase):
         track: Track = report_track("trap")
         last = len(track.stretches) - 1
         track.go_to(Position(last, track.stretches[last].length))
-        # The third of the four instructions before the call that traps, at the address that the report tells.
+        # The third of the four instructions before the call that traps, at the address in the report.
         self.assertEqual(track.core.pc, 0x10024)
 
     def test_children_of_a_task_that_traps_take_no_other_names(self) -> None:

@@ -68,7 +68,7 @@ class Names(unittest.TestCase):
 
 
 class OneTask(unittest.TestCase):
-    """What a task asks for, and how its turn is told to be come to."""
+    """What a task requests, and how the way to its turn is described."""
 
     def test_what_a_task_asks_for(self) -> None:
         image = Image(True, struct.pack(f"<{len(WORDS)}I", *WORDS), b"\0\0\0\0\2\1", 12, 0, 0,

@@ -8,9 +8,9 @@ import tempfile
 import unittest
 
 from yotarimu.common.outcome import Refusal
-from yotarimu.common.places import EXAMPLES_FOLDER
+from yotarimu.common.places import EXAMPLES_FOLDER, HOME
 from yotarimu.common.sentences import SENTENCES, fill
-from yotarimu.web.bundle import constant, fill_page, pack, recorded_page
+from yotarimu.web.bundle import TABLES, constant, fill_page, pack, recorded_page, table_at
 from yotarimu.web.toolchain import Crates
 from yotarimu.web.modules import told_version
 from yotarimu.web.wasm_tables import narrow, number, number_at
@@ -120,6 +120,23 @@ class ExamplesTest(unittest.TestCase):
         examples = examples_in(EXAMPLES_FOLDER)
         self.assertEqual(examples[0]["name"], "schedules/conflict")
         self.assertTrue(all(base64.b64decode(it["image"]).startswith(b"FRAC") for it in examples))
+
+    def test_each_example_has_a_source(self) -> None:
+        examples = examples_in(EXAMPLES_FOLDER)
+        self.assertEqual([it["name"] for it in examples if not it["sources"] and not it["c"]], [])
+        several, = (it for it in examples if it["name"] == "schedules/stall")
+        self.assertEqual([it["name"] for it in several["sources"]], ["parent.s", "tasks.s"])
+        self.assertEqual(examples[-1]["group"], "Schedules")
+
+
+class ExerciseTexts(unittest.TestCase):
+    """What an exercise says of itself."""
+    def test_no_exercise_shows_a_line_of_its_answer(self) -> None:
+        page = (HOME / "docs/guide/EXERCISES.md").read_text(encoding="utf-8")
+        for name in ("journal", "why"):
+            text = table_at(TABLES["exercises"])["exercises"][name]["text"]
+            for line in (EXAMPLES_FOLDER / "exercises/answers" / name).read_text(encoding="utf-8").splitlines():
+                self.assertNotIn(f"`{line}`", page + text)
 
 
 class CratesTest(unittest.TestCase):

@@ -29,21 +29,35 @@ class WordsTest(unittest.TestCase):
 
     def test_refusals_are_sentences(self) -> None:
         for words, told in (
-                (["--csv"], "a value is missing after `--csv`."),
-                (["--csv", "--jobs", "1"], "a value is missing after `--csv`."),
-                (["--csv", "x", "--csv=y"], "`--csv` stands twice."),
-                (["--check=1"], "`--check` takes no value."),
-                # No word is cut short.
-                (["--cs", "x"], "`--cs` isn't known; ./fractal sweep --help tells the words."),
-                (["--"], "`--` isn't known; ./fractal sweep --help tells the words.")):
+                (["--csv"], "--csv needs a value."),
+                (["--csv", "--jobs", "1"], "--csv needs a value."),
+                (["--csv", "x", "--csv=y"], "--csv is given twice."),
+                (["--check=1"], "--check takes no value."),
+                # No name is cut short.
+                (["--jbs", "x"], "unknown option --jbs; did you mean --jobs?"),
+                (["--expect", "x"], "unknown option --expect, which belongs to compare."),
+                (["-csv", "x"], "unknown option -csv; did you mean --csv?"),
+                (["--"], "unknown option --; ./fractal sweep --help lists them.")):
             with self.assertRaises(Refusal) as refused:
                 WORDS.read(words)
+            self.assertEqual(str(refused.exception), told)
+
+    def test_values_are_what_the_page_allows(self) -> None:
+        page = "Plots.\n\n  --log AXES  axes (x, y or xy)\n  --jobs N  jobs (1 to 9; default 2)\n"
+        declared = Words("plot", page=page)
+        self.assertEqual(declared.read([]).number("jobs"), 2)
+        self.assertEqual(declared.read(["--jobs", "9", "--log=xy"]).number("jobs"), 9)
+        for words, told in ((["--log", "z"], "--log must be x, y or xy, not z."),
+                            (["--jobs", "0"], "--jobs must be 1 to 9, not 0."),
+                            (["--log"], "--log needs a value: x, y or xy.")):
+            with self.assertRaises(Refusal) as refused:
+                declared.read(words)
             self.assertEqual(str(refused.exception), told)
 
     def test_a_count_of_words_is_held(self) -> None:
         self.assertEqual(WORDS.read(["a", "b"]).need("two", 2), ["a", "b"])
         self.assertEqual(WORDS.read(["a"]).need("one or two", 1, 2), ["a"])
-        with self.assertRaisesRegex(Refusal, r"^it wants a SCRIPT; ./fractal sweep --help tells more\.$"):
+        with self.assertRaisesRegex(Refusal, r"^it needs a SCRIPT; ./fractal sweep --help has more\.$"):
             WORDS.read(["a", "b"]).need("a SCRIPT", 1)
 
     def test_one_option_is_taken_and_the_rest_is_left(self) -> None:
@@ -62,7 +76,7 @@ class Numbers(unittest.TestCase):
             self.assertIsNone(number_in(word, 0, 255), word)
 
     def test_a_refusal_tells_the_range(self) -> None:
-        with self.assertRaisesRegex(Refusal, "^--jobs takes a number from 1 to 9, and not `0`.$"):
+        with self.assertRaisesRegex(Refusal, "^--jobs must be 1 to 9, not 0.$"):
             need_number("--jobs", "0", 1, 9)
 
 

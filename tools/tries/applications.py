@@ -111,34 +111,35 @@ def applications_refuse_bad_words(place: Place) -> None:
         (place.call(CALL, "build"), ["and not `build`"]),
         (place.call(CALL, "list", "all"), ["no further words"]),
         (place.call(CALL, "make"), ["a NAME and a FOLDER"]),
-        (place.call(CALL, "make", "kcore"), ["`kcore` is no application, which is bfs, "]),
+        (place.call(CALL, "make", "kcore"), ["`kcore` isn't an application, which is bfs, "]),
         (place.call(CALL, "make", "bfs", empty, "--size", "1"), ["--size of bfs", "nodes along each side", "2 to 400"]),
         (place.call(CALL, "make", "msf", empty, "--size", "17"), ["--size of msf", "8 to 16", "`17`"]),
         (place.call(CALL, "make", "msf", empty, "--size", "huge"), ["small, medium, large", "`huge`"]),
         (place.call(CALL, "make", "msf", empty, "--size", "small,large"), ["one size"]),
         (place.call(CALL, "make", "msf", empty, "--both"), ["one compiler"]),
         (place.call(CALL, "make", "msf", empty, "--seed", "4294967296"), ["0 to 4294967295"]),
-        (place.call(CALL, "make", "msf", empty, "--fast"), ["`--fast` isn't known"]),
+        (place.call(CALL, "make", "msf", empty, "--fast"), ["unknown option --fast"]),
         (place.call(CALL, "make", "msf", str(place.clone / "docs")), ["not empty"]),
         (place.call(CALL, "make", "msf", str(place.clone / "README.md")), ["not empty"]),
-        (place.call(CALL, "make", "msf", str(place.root / "no" / "folder")), ["no folder"]),
+        (place.call(CALL, "make", "msf", str(place.root / "no" / "folder")), ["isn't a folder"]),
         (place.call(CALL, "run"), ["one NAME"]),
         (place.call(CALL, "run", "bfs", "sssp"), ["one NAME"]),
         (place.call(CALL, "run", "bfs", "--tiles", "1,2"), ["--tiles takes one value"]),
         (place.call(CALL, "run", "bfs", "--tiles", "17"), ["--tiles takes 1 to 16"]),
-        (place.call(CALL, "run", "bfs", "--rounds", "1"), ["`--rounds` isn't known"]),
+        (place.call(CALL, "run", "bfs", "--rounds", "1"), ["unknown option --rounds"]),
         (place.call(CALL, "check", "bfs", "bfs"), ["stands twice"]),
         (place.call(CALL, "check", "bfs", "--workers", "17"), ["--workers takes 0 to 16"]),
         (place.call(CALL, "check", "bfs", "--both", "--clang"), ["--both has clang already"]),
-        (place.call(CALL, "check", "bfs", "--size", "2,9", "--fast"), ["`--fast` isn't known"]),
+        (place.call(CALL, "check", "bfs", "--size", "2,9", "--fast"), ["unknown option --fast"]),
         (place.call(CALL, "table", "bfs", "--columns", "colour"), ["no column `colour`"]),
-        (place.call(CALL, "table", "bfs", "--program", "nowhere", "--second-program", "nowhere"), ["isn't built"]),
+        (place.call(CALL, "table", "bfs", "--watch", "nowhere"), ["isn't built"]),
     ])
     place.is_clean()
 
 
 def applications_want_tools(place: Place) -> None:
     """where a compiler or a program is missing that is told, and no folder is left"""
+    place.nothing_answers()
     folder = place.root / "made"
     place.call(CALL, "run", "mis").sentence("isn't built")
     place.call(CALL, "check", "mis").sentence("isn't built")
@@ -185,6 +186,7 @@ def values_have_names(place: Place) -> None:
 
 def values_refuse_bad_words(place: Place) -> None:
     """a name that isn't there, a place beyond it, and a memory of another size are told in a sentence"""
+    place.nothing_answers()
     folder = folder_with(place, "pair", task=PAIR)
     expect(place.call("fractal build", str(folder)).status == 0, "an image")
     image, memory, short = str(folder / "image.bin"), place.root / "memory", place.root / "short"
@@ -194,15 +196,15 @@ def values_refuse_bad_words(place: Place) -> None:
     one_sentence_each([
         (place.call("fractal values"), ["an IMAGE and a NAME"]),
         (place.call("fractal values", image), ["an IMAGE and a NAME"]),
-        (place.call("fractal values", image, "firs", *given), ["no variable `firs`", "first may be meant"]),
+        (place.call("fractal values", image, "firs", *given), ["no variable `firs`", "did you mean first?"]),
         (place.call("fractal values", image, "main", *given), ["no variable `main` in the data"]),
         (place.call("fractal values", image, "first[2]", *given), ["has the places 0 to 1"]),
         (place.call("fractal values", image, "first[1..0]", *given), ["has the places 0 to 1"]),
         (place.call("fractal values", image, "first[", *given), ["no NAME"]),
         (place.call("fractal values", image, "first", "--as", "longs", *given), ["bytes, halves, words"]),
-        (place.call("fractal values", image, "first", "--fast", *given), ["`--fast` isn't known"]),
+        (place.call("fractal values", image, "first", "--fast", *given), ["unknown option --fast"]),
         (place.call("fractal values", image, "first", "--memory", str(short)), ["11 bytes", "12"]),
-        (place.call("fractal values", str(memory), "first", *given), ["this is no image"]),
+        (place.call("fractal values", str(memory), "first", *given), ["this isn't an image"]),
         (place.call("fractal values", image, "first"), ["isn't built"]),
     ])
     (folder / "listing").unlink()

@@ -22,19 +22,19 @@ MISSHAPEN = (
     ("# image: root ordered now", "root ordered"),
     ("# image: window", "window LABEL [WORDS]"),
     ("# image: window foo", "no label `foo`"),
-    ("# image: window first", "doesn't tell how large `first` is, so a number of words is wanted"),
+    ("# image: window first", "doesn't say how large `first` is, so a number of words is wanted"),
     ("# image: window first 5000", "0 to 4096"),
     ("# image: window foo 1", "no label `foo`"),
     ("# image: window first -1", "0 to 4096"),
     ("# image: window first 3", "ends after the data"),
-    ("# image: window main 1", "doesn't stand in the data"),
+    ("# image: window main 1", "isn't in the data"),
     ("# image: data", "data BYTES"),
     ("# image: data 7", "8 bytes, which is more than 7"),
     ("# image: data much", "0 to 16777216"),
     ("# image: task", "label is missing"),
     ("# image: task ts 1", "label is missing"),
     ("# image: task nowhere", "no label `nowhere`"),
-    ("# image: task first", "doesn't stand in the text"),
+    ("# image: task first", "isn't in the text"),
     ("# image: task main ts", "number is missing"),
     ("# image: task main ts -1", "0 to 4294967295, in decimal or after 0x, and not `-1`"),
     ("# image: task main ts 4294967296", "0 to 4294967295"),
@@ -46,11 +46,11 @@ MISSHAPEN = (
     ("# image: task main args 5 ts 1", "no label `ts`"),
     ("# image: task main 5", "`5` isn't known"),
     ("# image: tasks", "tasks FILE"),
-    ("# image: tasks nowhere.csv", "there is no file"),
+    ("# image: tasks nowhere.csv", "no file"),
     ("# image: tasks one.csv two.csv", "tasks FILE"),
-    ("# image: data first nowhere.bin", "there is no file"),
+    ("# image: data first nowhere.bin", "no file"),
     ("# image: data nowhere one.bin", "no label `nowhere`"),
-    ("# image: data main one.bin", "doesn't stand in the data"),
+    ("# image: data main one.bin", "isn't in the data"),
     ("# image: data first one.bin words more", "data LABEL FILE"),
     ("# image: todo", "`todo` describes nothing"),
     ("# image:", "describes nothing"),
@@ -197,23 +197,23 @@ def odd_tasks_are_refused(place: Place) -> None:
     odd = "    .byte 1\nodd:\n    li a7, 0\n    ecall\n"
     folder = folder_with(place, "odd", task=f"# image: task odd\n{END}{odd}")
     answer = place.call("fractal build", str(folder))
-    answer.sentence("task.s:1: the label `odd` stands at 00010009, and a task begins at a multiple of 4", "`.balign 4`")
+    answer.sentence("task.s:1: the label `odd` is at 00010009, and a task begins at a multiple of 4", "`.balign 4`")
     nothing_is_written(folder)
     child = "main:\n    la a0, odd\n    li a7, 1\n    ecall\n    li a7, 0\n    ecall\n"
     folder = folder_with(place, "odd child", task=f"# image: task main\n{child}{odd}")
     expect(place.call("fractal build", str(folder)).status == 0, "an image")
     report = b"fractal 1\n1 0.0 1 0\noutput -\nend trap 1 00010019 1.0\n"
     answer = place.call("fractal explain", str(folder / "image.bin"), "-", stdin=report)
-    for part in ("(odd; timestamp 0", "at 00010019, odd"):
+    for part in ("(odd 0 0 0; timestamp 0", "at 00010019, odd"):
         expect(part in answer.output.decode(), f"`{part}`", answer)
 
 
 def missing_tasks_are_told(place: Place) -> None:
     """where no line tells a task it says where"""
     for name, text in (("no line", ""), ("no text", DATA)):
-        place.call("fractal build", str(folder_with(place, name, task=text))).sentence("no line tells an initial task")
+        place.call("fractal build", str(folder_with(place, name, task=text))).sentence("no line gives an initial task")
     folder = folder_with(place, "none", task=END)
-    place.call("fractal build", str(folder)).sentence("none/task.s", "no line tells an initial task")
+    place.call("fractal build", str(folder)).sentence("none/task.s", "no line gives an initial task")
     nothing_is_written(folder)
 
 
@@ -250,7 +250,7 @@ def other_machines_are_refused(place: Place) -> None:
             ('    .attribute arch, "rv32im"\n' + GOOD, ":1:", "rv32i", "_m"),
             ("    .option arch, +m\n" + GOOD + "    mul a0, a0, a0\n", ":1:", "_m"),
             ("    .option rvc\n" + GOOD, ":1:", "RV32I alone"),
-            (GOOD + "    .insn r 0x33, 0, 1, a0, a0, a0\n", ":5:", "no instruction of RV32I"))):
+            (GOOD + "    .insn r 0x33, 0, 1, a0, a0, a0\n", ":5:", "isn't an instruction of RV32I"))):
         folder = folder_with(place, f"machine {number}", task=text)
         place.call("fractal build", str(folder)).sentence("task.s", *parts)
         nothing_is_written(folder)
@@ -276,7 +276,7 @@ def huge_sections_are_refused(place: Place) -> None:
 
 
 def odd_names_are_kept(place: Place) -> None:
-    """a source whose name is no text, or none of the locale, is named in the listing as it is"""
+    """a source whose name isn't text, or none of the locale, is named in the listing as it is"""
     for number, name in enumerate((b"\xff.s", "t\u00e4sk.s".encode())):
         folder = folder_with(place, f"odd name {number}")
         (folder / os.fsdecode(name)).write_text(GOOD)

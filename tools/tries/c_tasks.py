@@ -10,7 +10,7 @@ from yotarimu.images.compiler import CLANG, GCC
 from yotarimu.programs.examples import EXAMPLES
 
 from tries.build import folder_with, nothing_is_written
-from tries.place import Answer, Place, expect, one_sentence_each
+from tries.place import Answer, Place, expect
 
 COMPILERS: tuple[tuple[str, ...], ...] = ((), ("--clang",))
 IN_C = [name for name in EXAMPLES if name.startswith("c/")]
@@ -24,7 +24,7 @@ REFUSED = {
     "a function that is enqueued": (
         "static void helper(uint32_t n) { emit(n); }\nTASK(start) { enqueue(helper, 0, 65); }\n",
         "task.c:4: only a task can be enqueued"),
-    "a pointer that is no number": (
+    "a pointer that isn't a number": (
         "uint32_t x;\nTASK(start, uint32_t *p) { enqueue(start, 0, &x); }\n",
         "task.c:4:", "a pointer is given as at(pointer)"),
     "a fifth parameter": (
@@ -34,7 +34,7 @@ REFUSED = {
         "TASK(start, uint32_t a, uint8_t b) { emit(b); }\n", "task.c:3: a parameter of a task has 32 bits"),
     "a parameter of 64 bits": (
         "TASK(start, uint64_t a) { emit(a); }\n", "task.c:3: a parameter of a task has 32 bits"),
-    "a parameter with a point": (
+    "a floating-point parameter": (
         "TASK(start, float a) { emit(a); }\n", "task.c:3: a parameter of a task has 32 bits"),
     "an argument of 64 bits": (
         "uint64_t x;\nTASK(start, uint32_t a) { enqueue(start, 0, x); }\n",
@@ -45,10 +45,10 @@ REFUSED = {
     "a constant of 64 bits": (
         "TASK(start, uint32_t a) { enqueue_super(start, 1ull << 40, a); }\n",
         "task.c:3: a child is given numbers of 32 bits"),
-    "a timestamp with a point": (
+    "a floating-point timestamp": (
         "float x;\nTASK(start, uint32_t a) { enqueue(start, x * 3, a); }\n",
         "task.c:4: a child is given numbers of 32 bits"),
-    "an argument with a point": (
+    "a floating-point argument": (
         "double x;\nTASK(start, uint32_t a) { enqueue(start, 0, x); }\n",
         "task.c:4: a child is given numbers of 32 bits"),
     "an end of 64 bits": (
@@ -73,7 +73,7 @@ REFUSED = {
     "a call of printf": (
         'TASK(start) { printf("%d", 3); }\n', "task.c:3:", "emit_text and emit_number write"),
     "a header of the C library": (
-        "#include <stdio.h>\nTASK(start) { }\n", "task.c:3:", "there is no C library"),
+        "#include <stdio.h>\nTASK(start) { }\n", "task.c:3:", "tasks have no C library"),
     "a name of no task": (
         "TASK(start) { enqueue(elsewhere, 0); }\n", "task.c:3:", "elsewhere"),
     "a task that is nowhere": (
@@ -82,7 +82,7 @@ REFUSED = {
     "a function in place of a task": (
         "void start(void) { emit(1); }\n", "task.c:2: `start` is a function and no task; TASK(start, ..) makes one"),
     "a task of another name": (
-        "TASK(begin) { }\n", "task.c:2: there is no label `start`"),
+        "TASK(begin) { }\n", "task.c:2: no label `start`"),
     "a thread-local variable": (
         "__thread uint32_t x;\nTASK(start) { emit(x++); }\n", "task.c:3: a thread-local variable"),
     "a constructor": (
@@ -107,27 +107,27 @@ REFUSED = {
         "task.c:4: the task `start` needs", "has none in version 1"),
     "a window of a local": (
         "// image: window x\nTASK(start) { static uint32_t x; emit(x++); }\n",
-        "task.c:3: there is no label `x`; a variable stands outside of functions, and is used"),
+        "task.c:3: no label `x`; a variable stands outside of functions, and is used"),
     "a window of what nobody uses": (
-        "// image: window x\nstatic uint32_t x;\nTASK(start) { }\n", "task.c:3: there is no label `x`"),
+        "// image: window x\nstatic uint32_t x;\nTASK(start) { }\n", "task.c:3: no label `x`"),
     "a window at an odd address": (
         "// image: window b\nuint8_t a = 1, b = 2;\nTASK(start) { emit(a + b); }\n",
-        "task.c:3: the label `b` doesn't stand at a multiple of 4: __attribute__((aligned(4))) helps"),
+        "task.c:3: the label `b` isn't at a multiple of 4: __attribute__((aligned(4))) helps"),
     "a window that is too large": (
         "// image: window x\nuint32_t x[5000];\nTASK(start) { emit(x[3]++); }\n",
         "task.c:3: `x` has 20,000 bytes, and a window up to 4,096 words, so a number of words is wanted"),
-    "a version that isn't there": (
+    "an unknown version": (
         "// image: version 3\nTASK(start) { }\n", "task.c:3: this isn't `// image: version 1` or"),
     "a line without a colon": (
         "// image version 2\nTASK(start) { }\n", "task.c:3: a colon is missing"),
-    "an argument that is no label": (
+    "an argument that isn't a label": (
         "// image: task start args N\nTASK(start) { }\n",
-        "task.c:3: an argument is a number or a label, and there is no label `N`"),
+        "task.c:3: an argument is a number or a label, and no label `N`"),
 }
 # Whole sources that are refused.
 REFUSED_WHOLE = {
     "no header": ("// image: task start\nTASK(start) { }\n", "task.c:2:", 'TASK needs the line #include "task.h"'),
-    "no line on a task": ('#include "task.h"\nTASK(start) { }\n', "no line tells an initial task: `// image: task"),
+    "no line on a task": ('#include "task.h"\nTASK(start) { }\n', "no line gives an initial task: `// image: task"),
     "a text that is too large": (
         FIRST_LINES + "const uint8_t table[270000] = {1};\nTASK(start, uint32_t n) { emit(table[n]); }\n",
         "words of text are more than an image may have, which is 65536"),
@@ -137,7 +137,7 @@ NOTED = {
     "a recursion": (
         "static uint32_t depth(uint32_t n) { return n < 2 ? n : depth(n - 1) ^ depth(n - 2); }\n"
         "TASK(start, uint32_t n) { emit(depth(n)); }\n",
-        "task.c:3: `depth` calls itself, and takes", "bytes each time; a task's stack has 1,024 bytes"),
+        "task.c:3: `depth` calls itself, ", " and takes ", "bytes each time; a task's stack has 1,024 bytes"),
     "a recursion of two functions": (
         "#define OWN __attribute__((noinline)) static uint32_t\nOWN odd(uint32_t n);\n"
         "OWN even(uint32_t n) { return n ? odd(n - 1) * n : 1; }\n"
@@ -487,7 +487,7 @@ def ties_come_in_any_order(place: Place) -> None:
 
 
 def scratch_of_all_conflicts(place: Place) -> None:
-    """tasks that fill one array of all are taken back, those that fill locals are not; their results are the same"""
+    """tasks that fill one array of all are aborted, those that fill locals are not; their results are the same"""
     place.needs_program()
     place.needs_second_program()
     study = (place.clone / "docs" / "machine" / "STUDY.md").read_text()
@@ -499,8 +499,8 @@ def scratch_of_all_conflicts(place: Place) -> None:
         results.append(re.findall(rb"window \w+ (\w+)", run_of(place, folder)))
         answer = place.call("fractal study", str(folder / "image.bin"), "--tiles", "4", "--cores", "2")
         head, _, row = (line.strip("| ").split(" | ") for line in answer.output.decode().splitlines())
-        taken_back = dict(zip(head, row))["Taken back"]
-        expect((taken_back != "0") == is_taken_back, f"what is taken back with {name} scratch", answer)
+        taken_back = dict(zip(head, row))["Aborted"]
+        expect((taken_back != "0") == is_taken_back, f"what is aborted with {name} scratch", answer)
     expect(results[0] == results[1] and len(results[0]) == 16, "the same results", results)
 
 
@@ -562,108 +562,10 @@ def missing_libgcc_is_told(place: Place) -> None:
     expect(place.call("fractal build", "--clang", str(folder)).status == 0, "an image without a quotient")
 
 
-def large_programs_are_held_against_plain_ones(place: Place) -> None:
-    """a network of roads and a circuit, made small, leave what plain programs do, and nothing is left but the folder"""
-    place.needs_program()
-    for name, size, words in (("roads", "90", 90), ("circuit", "3", 2 * (6 + 30))):
-        for compiler in COMPILERS:
-            folder = place.root / "-".join([name, *compiler])
-            answer = place.call("fractal large", name, str(folder), "--size", size, "--seed", "4", *compiler)
-            expect(answer.status == 0, f"{name} by {compiler or GCC}", answer)
-            expect(f"{words} words of `".encode() in answer.output, f"{words} words", answer)
-            left = sorted(path.name for path in folder.iterdir() if path.suffix != ".h")
-            expect(left == ["image.bin", "listing", "plain", "task.c"], "the sources, the image and the listing", left)
-    place.is_clean()
-
-
-def interrupted_large_programs_are_made_again(place: Place) -> None:
-    """a large program that was interrupted is made by the same words; other words and other files are refused"""
-    place.needs_program()
-    folder, mark = place.root / "large", place.root / "mark"
-    waiting = place.stub(place.root / "waiting", f"touch '{mark}'; exec sleep 100\n")
-    words = ("fractal large", "roads", str(folder), "--size", "60")
-    answer = place.interrupt(*words, "--program", str(waiting), ready=mark.exists)
-    answer.sentence("interrupted", status=130)
-    expect((folder / "task.c").is_file(), "sources")
-    (folder / "listing").unlink()
-    (folder / "plain" / "plain.c").unlink()
-    for _ in range(2):
-        answer = place.call(*words)
-        expect((answer.status, answer.errors) == (0, ""), "a whole call", answer)
-    place.call(*words[:-1], "61").sentence("not empty", "than the same words left there")
-    (folder / "notes").write_text("mine")
-    place.call(*words).sentence("not empty", "than the same words left there")
-    expect((folder / "notes").read_text() == "mine", "the file of another")
-
-
-def other_results_of_large_programs_are_told(place: Place) -> None:
-    """a result that isn't the plain program's, and a report that is refused, are told in a sentence"""
-    place.needs_program()
-    real = place.root / "real"
-    place.program.rename(real)
-    # The program that is asked tells another word, and then accepts whatever it is given.
-    change = "sed 's/^window 10000004 .*/window 10000004 00000063/'"
-    for checked, part in (("printf 'check ok 177\\n'", "is 00000063, and"),
-                          (f"'{real}' \"$@\"", "`check` ended with status 8")):
-        place.stub(place.program, f"case $1 in\n    run) '{real}' \"$@\" | {change} ;;\n    check) {checked} ;;\n"
-                                  f"    *) '{real}' \"$@\" ;;\nesac\n")
-        folder = place.root / part.replace("`", "")
-        answer = place.call("fractal large", "roads", str(folder), "--size", "60")
-        expect(answer.status == 1, "status 1", answer)
-        answer.tells(part)
-
-
-def other_programs_of_large_are_told(place: Place) -> None:
-    """a program that writes no report, or not the words that were asked for, is told in a sentence"""
-    bytes_alone = place.stub(place.root / "bytes", "cat >/dev/null; printf '\\377\\n'\n")
-    no_words = place.stub(place.root / "words", "cat >/dev/null; printf 'fractal 1\\noutput -\\nend normal\\n'\n")
-    for program, part in ((bytes_alone, "no report"), (no_words, "tells 0 words, and not 3")):
-        folder = place.root / f"large {program.name}"
-        place.call("fractal large", "roads", str(folder), "--size", "3", "--program", str(program)).sentence(part)
-
-
-def missing_compilers_leave_no_folder(place: Place) -> None:
-    """without the compiler the folder isn't begun, so that the same words may come again"""
-    program, folder = place.stub(place.root / "program", "exit 0\n"), place.root / "large"
-    words = ("fractal large", "roads", str(folder), "--program", str(program))
-    place.call("fractal large", "roads", "", "--program", str(program)).sentence("FOLDER is empty")
-    place.without(GCC)
-    place.call(*words).sentence(GCC, "gcc-riscv64-unknown-elf")
-    expect(not folder.exists(), "no folder")
-
-
-def large_refuses_bad_words(place: Place) -> None:
-    """bad words, a folder that isn't empty, and a missing program or compiler are told in a sentence"""
-    large, empty = "fractal large", str(place.root / "large")
-    one_sentence_each([
-        (place.call(large), ["roads or circuit, and FOLDER"]),
-        (place.call(large, "roads"), ["roads or circuit, and FOLDER"]),
-        (place.call(large, "rivers", empty), ["not `rivers`"]),
-        (place.call(large, "roads", empty, "--fast"), ["--fast"]),
-        (place.call(large, "roads", empty, "--size", "1"), ["2 to 12000"]),
-        (place.call(large, "circuit", empty, "--size", "17"), ["2 to 16"]),
-        (place.call(large, "circuit", empty, "--seed", "-1"), ["0 to 4294967295"]),
-        (place.call(large, "circuit", empty), ["isn't built"]),
-    ])
-    place.needs_program()
-    one_sentence_each([
-        (place.call(large, "roads", str(place.clone / "examples")), ["not empty"]),
-        (place.call(large, "roads", str(place.clone / "README.md")), ["not empty"]),
-    ])
-    expect(not pathlib.Path(empty).exists(), "no folder")
-    place.is_clean()
-    place.without("cc")
-    place.call(large, "circuit", empty, "--size", "2").sentence("cc isn't in the path")
-    expect(not pathlib.Path(empty).exists(), "no folder")
-
-
 TRIES = (
     examples_in_c_are_one_for_both_compilers, c_and_assembly_are_one, what_needs_no_stack_runs_in_version_1,
     sources_are_mixed, calls_keep_arguments_apart, mistakes_in_c_are_refused, arguments_in_c_are_taken,
     arguments_in_cpp_are_refused, names_of_several_sources_are_told, doubts_in_c_are_noted, traps_in_c_are_explained,
     silent_mistakes_are_silent, ties_come_in_any_order, scratch_of_all_conflicts, packed_structs_are_read,
     traps_are_explained_from_sources, long_ways_are_counted, missing_compilers_are_told, missing_libgcc_is_told,
-    large_programs_are_held_against_plain_ones, other_results_of_large_programs_are_told,
-    interrupted_large_programs_are_made_again, other_programs_of_large_are_told, missing_compilers_leave_no_folder,
-    large_refuses_bad_words,
 )

@@ -1,4 +1,4 @@
-"""Tries of why tasks were taken back, as ./fractal explain tells it of lines."""
+"""Tries of why tasks were aborted, as ./fractal explain tells it of lines."""
 from __future__ import annotations
 
 import csv
@@ -36,12 +36,12 @@ def paths(place: Place, name: str) -> tuple[str, str]:
 
 
 def causes_are_explained(place: Place) -> None:
-    """of stored lines it is told who was taken back and why, in words, as JSON and as CSV"""
+    """of stored lines it is told who was aborted and why, in words, as JSON and as CSV"""
     image, lines = paths(place, "conflict")
     answer = place.call("fractal explain", image, lines)
     text = answer.output.decode()
-    for part in ("2 tasks were taken back, and 3 committed", "reader: it loaded 0 from first at task.s:",
-                 "and 0.1 stores there at task.s:", "child (discarded): 0.0, which made it, was taken back",
+    for part in ("2 tasks were aborted, and 3 committed", "reader: it loaded 0 from first at task.s:",
+                 "and 0.1 stores there at task.s:", "child (discarded): 0.0, which made it, was aborted",
                  "1  met by the access itself, sharing a byte", "2  store: a byte"):
         expect(answer.status == 0 and part in text, f"`{part}`", answer)
     told = json.loads(place.call("fractal explain", image, lines, "--json").output)
@@ -64,7 +64,7 @@ def causes_of_schedules_are_those_of_their_pages(place: Place) -> None:
         answer = place.call("fractal explain", str(folder / "image.bin"), str(lines), "--csv")
         rows = [tuple(row[it] for it in ("event", "task", "kind", "shares", "root"))
                 for row in csv.DictReader(io.StringIO(answer.output.decode()))]
-        expect(rows == wanted, f"what {folder.name} takes back by the filter {kind}", answer)
+        expect(rows == wanted, f"what {folder.name} aborts by the filter {kind}", answer)
 
 
 def lines_of(place: Place, folder: pathlib.Path, kind: str) -> bytes:
@@ -74,7 +74,7 @@ def lines_of(place: Place, folder: pathlib.Path, kind: str) -> bytes:
 
 
 def filters_take_back_what_the_model_tells(place: Place) -> None:
-    """by a filter of each kind exactly those tasks are taken back that the model of filters tells, on each schedule and
+    """by a filter of each kind exactly those tasks are aborted that the model of filters tells, on each schedule and
     on a walk in rounds"""
     place.needs_second_program()
     walk = place.call("fractal generate", *WALK).output
@@ -84,13 +84,13 @@ def filters_take_back_what_the_model_tells(place: Place) -> None:
             hold_conflicts(lines_of(place, place.clone / "examples" / name, kind), f"{name} by the filter {kind}")
         told = place.call("fractal watch", *IN_ROUNDS, "--filter", kind, stdin=walk).output
         taking[kind] = hold_conflicts(told, f"the walk by the filter {kind}")
-    expect(taking["exact"] < taking["modulo"], "fewer events that take tasks back by an exact filter", taking)
+    expect(taking["exact"] < taking["modulo"], "fewer events that abort tasks by an exact filter", taking)
 
 
 def hold_conflicts(lines: bytes, what: str) -> int:
     """Holds lines against the model; how many events took tasks back."""
     try:
-        return conflicts_held(Reader(io.BytesIO(lines), "the second program"))
+        return conflicts_held(Reader(io.BytesIO(lines), "fractal_watch"))
     except AssertionError as differing:
         raise Failure(f"{what}: {differing}") from None
 
@@ -105,7 +105,7 @@ def odd_lines_are_not_explained(place: Place) -> None:
         (place.call(explain, image, lines, "--picture"), ["lines have no tree of tasks"]),
         (place.call(explain, paths(place, "two_lines")[0], lines), ["lines:1: `text` is 18, and of the image it is "]),
         (place.call(explain, image, "cut"), ["cut:", "isn't whole"]),
-        (place.call(explain, image, "fault"), ["fault:1: the program told no run, but a fault: usage"]),
+        (place.call(explain, image, "fault"), ["fault:1: the program printed a fault instead of a run: usage"]),
         (place.call(explain, image, "nowhere"), ["nowhere", "no such file"]),
     ])
 

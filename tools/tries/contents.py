@@ -20,22 +20,22 @@ SIZES = "    .size first, 8\n    .size last, 5\n"
 HEADER = 32
 # Lines on files, what the file has, and a part of the sentence that refuses it.
 ODD_DATA = (
-    ("data first given.csv", b"1 two", "given.csv:1: `two` is no number from -2147483648 to 4294967295"),
+    ("data first given.csv", b"1 two", "given.csv:1: `two` isn't a number from -2147483648 to 4294967295"),
     ("data first given.csv", b"1,\n-2147483649", "given.csv:2: `-2147483649`"),
     ("data first given.csv", b"4294967296", "`4294967296`"),
-    ("data first given.csv halves", b"-1, 65536", "`65536` is no number from -32768 to 65535"),
-    ("data first given.csv bytes", b"0x100", "`0x100` is no number from -128 to 255"),
-    ("data first given.csv longs", b"1", "`longs` is no width"),
+    ("data first given.csv halves", b"-1, 65536", "`65536` isn't a number from -32768 to 65535"),
+    ("data first given.csv bytes", b"0x100", "`0x100` isn't a number from -128 to 255"),
+    ("data first given.csv longs", b"1", "`longs` isn't a width"),
     ("data first given.bin words", b"1234", "`words` is the width of numbers"),
     ("data first given.csv", b"1 2 3", "given.csv has 12 bytes, and `first` has room for 8"),
     ("data last given.bin", b"123456", "given.bin has 6 bytes, and `last` has room for 5"),
-    ("tasks given.csv", b"main\nother,1", "given.csv:2: there is no label `other`"),
+    ("tasks given.csv", b"main\nother,1", "given.csv:2: no label `other`"),
     ("tasks given.csv", b"main,-1", "given.csv:1: the timestamp is a number"),
     ("tasks given.csv", b"main,1,2,3,4,5", "given.csv:1: a task has a label"),
-    ("tasks given.csv", b"first,1", "given.csv:1: the label `first` doesn't stand in the text"),
+    ("tasks given.csv", b"first,1", "given.csv:1: the label `first` isn't in the text"),
     ("tasks given.csv", b"main,0,one", "given.csv:1: an argument is a number or a label"),
     ("tasks given.csv", b"main\n" * 65_536, "65537 initial tasks are more"),
-    ("tasks given.bin", b"0" * 21, "no multiple of the 20 of a task"),
+    ("tasks given.bin", b"0" * 21, "isn't a multiple of the 20 of a task"),
 )
 # A program in C whose data a file gives, and what it emits of it.
 SUMS = FIRST_LINES + """// image: data numbers numbers.csv
@@ -119,7 +119,7 @@ def tasks_come_from_files(place: Place) -> None:
 
 
 def odd_files_are_refused(place: Place) -> None:
-    """a file that doesn't fit, or has what is no number or task, is refused with the line, and nothing is written"""
+    """a file that doesn't fit, or has what isn't a number or task, is refused with the line, and nothing is written"""
     for number, (line, given, part) in enumerate(ODD_DATA):
         folder = folder_with(place, f"odd {number}", task=f"# image: {line}\n{TASK}{DATA}{SIZES}")
         (folder / line.split()[-1 if line.startswith("tasks") else 2]).write_bytes(given)
@@ -220,12 +220,12 @@ def other_compilers_are_linked(place: Place) -> None:
 
 
 def odd_objects_are_refused(place: Place) -> None:
-    """what is no object of the machine, and an object beside its source, are refused in a sentence"""
+    """what isn't an object of the machine, and an object beside its source, are refused in a sentence"""
     folder = folder_with(place, "no object")
     (folder / "task.o").write_bytes(b"\x7fELF")
-    place.call("fractal build", str(folder)).sentence("task.o: this is no object file")
+    place.call("fractal build", str(folder)).sentence("task.o: this isn't an object file")
     shutil.copy("/bin/true", folder / "task.o")
-    place.call("fractal build", str(folder)).sentence("task.o: this is no object file")
+    place.call("fractal build", str(folder)).sentence("task.o: this isn't an object file")
     folder = folder_with(place, "both", task=TASK)
     (folder / "task.o").write_bytes(b"\x7fELF")
     place.call("fractal build", str(folder)).sentence("task.o and task.s have one name")

@@ -6,6 +6,7 @@ import random
 from collections.abc import Sequence
 
 from yotarimu.common.outcome import Refusal
+from yotarimu.courses.schedules import read_script
 from yotarimu.figures.columns import COLUMNS, END
 from yotarimu.figures.counted import COUNTED, figures_of_counts
 from yotarimu.figures.counts import LineCounts
@@ -22,15 +23,15 @@ GENERATED = 200
 def told(place: Place, image: bytes, *words: str) -> bytes:
     """What the second program tells."""
     answer = place.call("fractal", "watch", *words, stdin=image)
-    expect(answer.status in (0, 3, 4), "a run that was told to its end", answer)
+    expect(answer.status in (0, 3, 4), "a run that was printed to its end", answer)
     return answer.output
 
 
-def counts_of_lines(text: bytes, each: int) -> list[str]:
+def counts_of_lines(text: bytes, each: int, script: Sequence[str]) -> list[str]:
     """The lines of counts that lines add up to: behind each so many rounds, or acts where there are none, and at the
     end."""
     watched = Reader(io.BytesIO(text), "lines")
-    sums = LineCounts(watched.machine, each)
+    sums = LineCounts(watched.machine, each, script)
     for line in watched:
         sums.note(line)
     assert watched.end is not None
@@ -38,7 +39,8 @@ def counts_of_lines(text: bytes, each: int) -> list[str]:
     return [*sums.due, sums.text()]
 
 
-def hold(place: Place, image: bytes, course: Sequence[str], options: Sequence[str], each: int) -> None:
+def hold(place: Place, image: bytes, course: Sequence[str], options: Sequence[str], each: int,
+         script: Sequence[str] = ()) -> None:
     """Holds all lines of counts of a run against what its lines add up to, and its figures against those of the
     lines."""
     lines = told(place, image, *course, *options)
@@ -48,7 +50,7 @@ def hold(place: Place, image: bytes, course: Sequence[str], options: Sequence[st
     what = " ".join((*course, *options))
     expect((first, last) == (lines.decode().splitlines()[0], lines.decode().splitlines()[-1]),
            f"the head and the end of {what}")
-    wanted = counts_of_lines(lines, each)
+    wanted = counts_of_lines(lines, each, script)
     expect(len(found) == len(wanted), f"{len(wanted)} lines of counts of {what}", len(found))
     for number, (one, other) in enumerate(zip(found, wanted)):
         expect(one == other, f"counts {number} of {what}: {other}", one)
@@ -56,7 +58,7 @@ def hold(place: Place, image: bytes, course: Sequence[str], options: Sequence[st
         Reader(io.BytesIO(lines), "lines"))
     for name in COUNTED:
         if name != END:
-            expect(COLUMNS[name].plain(sums, sums) == COLUMNS[name].plain(whole, whole), f"column {name} of {what}")
+            expect(COLUMNS[name].number(sums) == COLUMNS[name].number(whole), f"column {name} of {what}")
 
 
 def schedules_are_counted(place: Place) -> None:
@@ -64,10 +66,12 @@ def schedules_are_counted(place: Place) -> None:
     place.needs_second_program()
     for schedule in SCHEDULES:
         folder = place.clone / "examples" / schedule
-        image = (folder / "image.bin").read_bytes() + (folder / "script").read_bytes()
+        text = (folder / "script").read_text()
+        image = (folder / "image.bin").read_bytes() + text.encode()
+        script = [act.word for act in read_script(text, folder / "script")]
         options = (folder / "words").read_text().split()[1:]
         for each in (0, 3):
-            hold(place, image, ["steps"], options, each)
+            hold(place, image, ["steps"], options, each, script)
 
 
 def runs_are_counted(place: Place) -> None:
@@ -84,7 +88,7 @@ def runs_are_counted(place: Place) -> None:
                    "--filter", chance.choice(("modulo", "bloom", "exact"))]
         rounds = str(chance.choice((3, 20, 4000)))
         course = ["least"] if number % 10 == 0 else ["lockstep", rounds, str(chance.choice((0, 7, 4294967295))),
-                                                     "barren", str(chance.choice((1, 2, 16)))]
+                                                     "starved", str(chance.choice((1, 2, 16)))]
         hold(place, image, course, options, chance.choice((0, 1, 7)))
 
 

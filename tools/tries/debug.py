@@ -79,14 +79,14 @@ def bad_words_of_the_debugger_are_told(place: Place) -> None:
         port = str(taken.getsockname()[1])
         one_sentence_each([
             (debug(place, image, report, "--port", port), [f"port {port}: address already in use"]),
-            (debug(place, image, report, "--port", "65536"), ["--port takes a number from 0 to 65535"]),
+            (debug(place, image, report, "--port", "65536"), ["--port must be 0 to 65535"]),
             (debug(place, image, report, "--port", port, "--pipe"), ["one of them is taken"]),
-            (debug(place, image, report, "--gdb", "nowhere"), ["nowhere: there is no such program"]),
+            (debug(place, image, report, "--gdb", "nowhere"), ["nowhere: no such program"]),
             (debug(place), ["it wants an IMAGE"]),
             (debug(place, image, report, report), ["it wants an IMAGE"]),
             (debug(place, image, "-", "--pipe"), ["since standard input is gdb's"]),
             (debug(place, image, "nowhere", "--pipe"), ["nowhere: no such file"]),
-            (debug(place, report, report, "--pipe"), ["this is no image"]),
+            (debug(place, report, report, "--pipe"), ["this isn't an image"]),
             (debug(place, image, report, "--elf", image, "--pipe"), ["this is read, so it isn't written too"]),
         ])
     place.without(*GDBS)
@@ -106,9 +106,9 @@ def other_texts_are_not_gone_along(place: Place) -> None:
     for name, data in files.items():
         (place.root / name).write_text(data)
     one_sentence_each([
-        (debug(place, image, example(place, "hello", "report"), "--pipe"), ["no report of a run of the image"]),
-        (debug(place, image, "short", "--pipe"), ["short:3: this is no report"]),
-        (debug(place, image, "empty", "--pipe"), ["empty:1: this is no report"]),
+        (debug(place, image, example(place, "hello", "report"), "--pipe"), ["isn't a report of a run of the image"]),
+        (debug(place, image, "short", "--pipe"), ["short:3: this isn't a report"]),
+        (debug(place, image, "empty", "--pipe"), ["empty:1: this isn't a report"]),
         (debug(place, image, lines, "--pipe"), ["lines:1: `text` is 18, and of the image it is 1"]),
         (debug(place, conflict, "cut", "--pipe"), ["cut:", "isn't whole"]),
         (debug(place, conflict, "half", "--pipe"), ["it has no end: it was cut behind line 9"]),
@@ -193,7 +193,7 @@ writes distance[3]
 
 
 def gdb_goes_along_lines(place: Place) -> None:
-    """each gdb is told why a task is about to be taken back, sees both attempts, and the store that is undone"""
+    """each gdb is told why a task is about to be aborted, sees both attempts, and the store that is undone"""
     typed = """info threads
 break *reader+12
 continue
@@ -214,7 +214,7 @@ bt
     for gdb in gdbs():
         shown = play_in_gdb(place, gdb, str(folder / "image.bin"), str(folder / "lines"), typed)
         in_order(shown, '"0.0 reader ts 2, attempt 2" (isn\'t dispatched yet)', "hit Breakpoint 1", "$1 = 0",
-                 "0.0 reader ts 2 is about to be taken back (event 6): it loaded 0 from first at task.s:",
+                 "0.0 reader ts 2 is about to be aborted (event 6): it loaded 0 from first at task.s:",
                  "0.1 writer stores there at task.s:", "received signal SIGUSR1",
                  '"0.0 reader ts 2, attempt 2" hit', "$2 = 7",
                  # The watched word is stored to at event 3, and going back from there it is 0 again.
@@ -224,11 +224,11 @@ bt
 
 
 def gdb_stops_at_traps(place: Place) -> None:
-    """a trap is a signal, with its meaning, and gdb goes back from it; each frame of a recursion is told"""
+    """a trap is a signal, with its meaning, and gdb goes back from it; each frame of a recursion is printed"""
     for gdb in gdbs():
         shown = play_in_gdb(place, gdb, example(place, "trap", "image.bin"), example(place, "trap", "report"),
                             "continue\nreverse-stepi\nmonitor tasks\n")
-        in_order(shown, "Trap 10: a timestamp in the past", "received signal SIGSYS", "trap 10 stands here",
+        in_order(shown, "Trap 10: a timestamp in the past", "received signal SIGSYS", "trap 10 is here",
                  "li   a7, 1", "no turn  0.1")
         shown = play_in_gdb(place, gdb, example(place, "recursion", "image.bin"), example(place, "recursion", "report"),
                             "break move if $a0 == 1\ncontinue\nbt\nfinish\n")

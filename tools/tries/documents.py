@@ -27,24 +27,23 @@ LEFT_OUT = {
     "./fractal sweep image.bin --budget": "K stands for a number",
     "./fractal sweep IMAGE": "IMAGE stands for a file",
     "./fractal study image.bin --tiles 1..16": "K stands for a number",
-    "./fractal study chain/image.bin": "chain and tree stand for images of one's own",
     "./fractal applications table": "it takes minutes; one application is tried with the tool",
     ". <(": "it is for a shell at a terminal",
-    "./fractal exercise /tmp/mine": "it wants an exercise of one's own, which is tried with the tool",
-    "./fractal large roads /tmp/roads": "it takes minutes; smaller ones are tried with the tool",
+    "./fractal exercise /tmp/mine": "it wants an exercise of your own, which is tried with the tool",
 }
-# The page whose tables one command makes again, which is tried by itself, and takes minutes as a whole.
-STUDY = "docs/machine/STUDY.md"
+# Pages whose tables or plots are made again by a command that is tried by itself, and takes minutes as a whole.
+STUDIES = ("docs/machine/STUDY.md", "docs/machine/STUDY_TABLES.md")
 # What is called in place of a line: the gate proves, and blocks of Python are run by themselves.
 OTHERWISE = {"rt ci": "true", "PYTHONPATH=tools python3": "true"}
 # The statuses of blocks whose last command ends with another one than 0, as the text around them tells, by how they
 # begin: exercises that aren't solved yet, a limit, a trap, and reports that are refused.
-STATUSES = {"cp -r examples/exercises/": 1, "./fractal run --commits 1 ": 4, "head -n -2 /tmp/letters": 3,
-            "sed 's/^3 1.1 2 2": 8}
+STATUSES = {"cp -r examples/exercises/": 1, "./fractal run < examples/pipeline/image.bin > /tmp/report": 4,
+            "head -n -2 /tmp/letters": 3, "sed 's/^3 1.1 2 2": 8}
 # What no command of a document is to be answered.
 FAULTS = ("Traceback", "not found", "o such file", "isn't known")
 # What a reader writes first, by the block that wants it.
-ANSWERS = {"./fractal exercise journal /tmp/journal": "journal", "./fractal exercise why /tmp/why": "why"}
+ANSWERS = {"./fractal exercise journal /tmp/journal": "journal", "./fractal exercise why /tmp/why": "why",
+           "./fractal console examples/exercises/abort": "abort", "./fractal console examples/exercises/stall": "stall"}
 
 
 class Block(NamedTuple):
@@ -60,7 +59,7 @@ class Block(NamedTuple):
 
     def is_left_out(self) -> bool:
         """Whether the block can't be called here, for a reason that is told."""
-        return self.lines[0].startswith(tuple(LEFT_OUT)) or self.document == STUDY
+        return self.lines[0].startswith(tuple(LEFT_OUT)) or self.document in STUDIES
 
 
 def documents() -> list[pathlib.Path]:
@@ -128,33 +127,51 @@ def blocks_of_python_are_run(place: Place) -> None:
     """the blocks of Python of a document, one after another, run as they stand, and print what they are to"""
     place.needs_program()
     place.needs_second_program()
-    document = HOME / "docs" / "guide" / "LIBRARY.md"
-    blocks = list(blocks_of(document))
+    blocks = list(blocks_of(HOME / "docs" / "guide" / "LIBRARY.md"))
     commands = next(block for block in blocks if block.is_of_commands())
-    made = place.call("/bin/sh", "-c", script_of(commands, str(place.root)), cwd=place.clone)
-    expect(made.status == 0, "a folder of sources", made)
     source = "\n".join(line for block in blocks if block.language == "python" for line in block.lines)
-    place.environment["PYTHONPATH"] = "tools"
-    answer = place.call("/usr/bin/env", "python3", "-B", "-c", source, cwd=place.clone)
-    expect((answer.status, answer.errors) == (0, ""), "no fault", answer)
-    for part in ("normal b'' 15\n", "tasks taken back\n", "normal 15 commits\n", "1 tiles 36\n"):
-        expect(part in answer.output.decode(), f"`{part}`", answer)
-    picture_in((place.clone / "mine" / "rounds.svg").read_bytes())
+    with tempfile.TemporaryDirectory(prefix="documents-") as folder:
+        made = place.call("/bin/sh", "-c", script_of(commands, folder), cwd=place.clone)
+        expect(made.status == 0, "a folder of sources", made)
+        place.environment["PYTHONPATH"] = "tools"
+        source = source.replace("/tmp/", f"{folder}/")
+        answer = place.call("/usr/bin/env", "python3", "-B", "-c", source, cwd=place.clone)
+        expect((answer.status, answer.errors) == (0, ""), "no fault", answer)
+        for part in ("normal b'' 15\n", "tasks aborted\n", "normal 15 commits\n", "1 tiles 36\n"):
+            expect(part in answer.output.decode(), f"`{part}`", answer)
+        picture_in((pathlib.Path(folder) / "mine" / "rounds.svg").read_bytes())
+
+
+def whole_programs_are_built(place: Place) -> None:
+    """each whole program in C of a document compiles, and its run ends normally"""
+    place.needs_program()
+    blocks = [block for document in documents() for block in blocks_of(document)
+              if block.language == "c" and '#include "task.h"' in block.lines]
+    expect(bool(blocks), "a document with a whole program in C")
+    for number, block in enumerate(blocks):
+        folder = place.root / f"program {number}"
+        folder.mkdir()
+        (folder / "task.c").write_text("\n".join([*block.lines, ""]))
+        called = place.call("fractal", "build", folder)
+        expect(called.status == 0, f"the program at {block.document}:{block.line} to be built", called)
+        called = place.call("fractal", "run", stdin=(folder / "image.bin").read_bytes())
+        expect(called.status == 0, f"the program at {block.document}:{block.line} to end normally", called)
 
 
 def ways_in_are_told(place: Place) -> None:
-    """README says that there is no licence as long as there is none, and where a change and a fault go is told"""
-    readme, page = ((place.clone / name).read_text() for name in ("README.md", "docs/maintain/OUTSIDE.md"))
+    """README says that there is no licence as long as there is none, and links to how a change or a fault is sent"""
+    readme, page = ((place.clone / name).read_text() for name in ("README.md", "docs/maintain/CONTRIBUTING.md"))
     _, _, licence = readme.partition("\n## Licence\n")
     has_one = any(path.name.upper().startswith(("LICEN", "COPYING")) for path in place.clone.iterdir())
     expect(("There is none yet" in licence) != has_one, "what README says of a licence", licence)
-    expect("(docs/maintain/OUTSIDE.md)" in licence, "where the way in is told", licence)
-    for part in ("where a change is sent", "without the toolchain", "with the toolchain", "who judges",
-                 "how a fault is reported", "under which licence", "\n## What security means here\n"):
-        expect(part in page, f"`{part}` in the way in")
-    # What a change needs is there to be called.
+    expect("(docs/maintain/CONTRIBUTING.md#sending-a-change)" in licence, "a link to how a change is sent", licence)
+    for part in ("\n## Sending a change\n", "Without the toolchain", "With the toolchain", "A maintainer",
+                 "To report a fault", "[licence]", "\n## Security\n"):
+        expect(part in page, f"`{part}` in how a change is sent")
+    # What a change needs can be called.
     for path in (".ci/lint", ".ci/python", ".ci/run", "fractal"):
         expect(os.access(place.clone / path, os.X_OK), f"{path} to be called")
 
 
-TRIES = (blocks_of_commands_are_called, blocks_of_python_are_run, ways_in_are_told)
+TRIES = (blocks_of_commands_are_called, blocks_of_python_are_run, whole_programs_are_built,
+         ways_in_are_told)

@@ -29,7 +29,7 @@ def traps_are_explained(place: Place) -> None:
     folder = place.clone / "examples" / "trap"
     for source in ((), (folder,), (folder / "task.s",), (folder / "listing",)):
         answer = place.call("fractal explain", image, report, *source)
-        for part in ("cause 10: a timestamp in the past", "0.1 (bad; timestamp 7", "task.s:21: ecall", "bad+16"):
+        for part in ("cause 10: a timestamp in the past", "0.1 (bad 0 0 0; timestamp 7", "task.s:21: ecall", "bad+16"):
             expect(part in answer.output.decode(), f"`{part}`", answer)
 
 
@@ -111,7 +111,7 @@ def faults_are_explained(place: Place) -> None:
     image = files_of(place, "hello")[0]
     for line, part in (("check ok 8", "8 tasks took their turns"), ("fault image 5 8", "above its limit"),
                        ("fault journal 3", "line 3"), ("fault script 2", "line 2 is the first outside"),
-                       ("fault usage", "words are refused"), ("fault long", "67108864")):
+                       ("fault usage", "invalid arguments"), ("fault long", "67108864")):
         answer = place.call("fractal explain", image, "-", stdin=line.encode() + b"\n")
         expect(answer.status == 0 and part in answer.output.decode(), f"`{part}`", answer)
 
@@ -128,13 +128,13 @@ def other_runs_are_refused(place: Place) -> None:
                         (pathlib.Path(other).read_bytes(), "turn 1 isn't one")):
         for form in ((), ("--json",), ("--csv",), ("--picture",)):
             answer = place.call("fractal explain", image, "-", *form, stdin=given)
-            answer.sentence("no report of a run of", part)
+            answer.sentence("isn't a report of a run of", part)
             expect(answer.output == b"", "nothing before a refusal", answer)
 
 
 def played_scripts_are_explained(place: Place) -> None:
     """what `steps` wrote is explained with its replies in words, and of a long script with how often each came"""
-    for name, parts in (("conflict", ("     6  ok, 2 taken back", "17 acts", "2 tasks were taken back", "child")),
+    for name, parts in (("conflict", ("     6  ok, 2 aborted", "17 acts", "2 tasks were aborted", "child")),
                         ("stall", ("     5  stall: a queue is full", "The end is open"))):
         folder = place.clone / "examples" / "schedules" / name
         answer = place.call("fractal explain", str(folder / "image.bin"), str(folder / "said"))
@@ -143,7 +143,7 @@ def played_scripts_are_explained(place: Place) -> None:
             expect(part in answer.output.decode(), f"`{part}`", answer.output.decode())
     said = b"stall 0\n" * 300 + b"ok 1\n" * 1_000 + b"fractal 1\noutput -\nend open\n"
     answer = place.call("fractal explain", files_of(place, "hello")[0], "-", stdin=said)
-    for part in ("1,300 acts", "    300  stall: a queue is full", "  1,000  ok\n", "1,000 tasks were taken back"):
+    for part in ("1,300 acts", "    300  stall: a queue is full", "  1,000  ok\n", "1,000 tasks were aborted"):
         expect(part in answer.output.decode(), f"`{part}`", answer.output.decode())
 
 
@@ -172,9 +172,10 @@ def explanations_are_for_programs(place: Place) -> None:
 def one_task_is_explained(place: Place) -> None:
     """--task tells what one task asked for, from where the program saves the run, or else by all turns before it"""
     explain, (image, report) = "fractal explain", files_of(place, "nested")
-    parts = ("The task 7.0 is note 0 2.", "turn 8 of 8; timestamp 0, depth 3, in an unordered domain",
+    parts = ("The task 7.0 is note 0 2 0.", "turn 8 of 8; timestamp 0, depth 3, in an unordered domain",
              "load  10000008 logged, 4 bytes: 1  ", "store 10000008 logged, 4 bytes: 2  ", "task.s:55")
-    for words, way in (((), "All turns before it, 7, were run again here, since the program isn't built."),
+    place.nothing_answers()
+    for words, way in (((), "All turns before it, 7, were run again here, since the program isn't built, and"),
                        (("--tiles", "2"), "The program saved the run after 4 turns; 3 more were run again here.")):
         if words:
             place.needs_program()
@@ -203,22 +204,22 @@ def one_task_has_its_budget(place: Place) -> None:
     told = json.loads(place.call(*words, "--json", "--budget", "1", stdin=report).output)
     expect((told["trap"]["cause"], told["instructions"]) == (17, 1), "the trap by the budget", told)
     for budget in ((), ("--budget", "2")):
-        place.call(*words, *budget, stdin=report).sentence("doesn't end as the report tells")
+        place.call(*words, *budget, stdin=report).sentence("doesn't end as the report says")
 
 
 def one_task_wants_right_words(place: Place) -> None:
     """beside --task bad names, options, programs and files are told in a sentence"""
     explain, (image, report) = "fractal explain", files_of(place, "nested")
     one_sentence_each([
-        (place.call(explain, image, report, "--task"), ["a value is missing"]),
+        (place.call(explain, image, report, "--task"), ["needs a value"]),
         (place.call(explain, image, report, "--task", "7"), ["a name as reports have it", "`7`"]),
         (place.call(explain, image, report, "--task", "9.0"), ["9.0 has no turn in this report"]),
-        (place.call(explain, image, report, "--task", "7.0", "--csv"), ["--csv tells of all tasks"]),
+        (place.call(explain, image, report, "--task", "7.0", "--csv"), ["--csv shows all tasks"]),
         (place.call(explain, image, report, "--task", "7.0", "--tiles", "17"), ["--tiles takes 1 to 16"]),
         (place.call(explain, image, report, "--task", "7.0", "--commits", "7"), ["--commits has no place"]),
-        (place.call(explain, image, report, "--task", "7.0", "--program", "nowhere"), ["isn't built"]),
+        (place.call(explain, image, report, "--task", "7.0", "--sim", "nowhere"), ["isn't built"]),
         (place.call(explain, image, report, "--tiles", "4"), ["IMAGE REPORT"]),
-        (place.call(explain, files_of(place, "hello")[0], report, "--task", "7.0"), ["no report of a run of the"]),
+        (place.call(explain, files_of(place, "hello")[0], report, "--task", "7.0"), ["isn't a report of a run of the"]),
     ])
 
 
@@ -234,12 +235,12 @@ def explain_refuses_bad_files(place: Place) -> None:
         (place.call(explain, "nowhere", report), ["nowhere", "no such file"]),
         (place.call(explain, image, "nowhere"), ["nowhere", "no such file"]),
         (place.call(explain, str(other), report), ["is a directory"]),
-        (place.call(explain, report, image), ["this is no image"]),
-        (place.call(explain, image, image), ["this is no report", "fractal 1"]),
+        (place.call(explain, report, image), ["this isn't an image"]),
+        (place.call(explain, image, image), ["this isn't a report", "fractal 1"]),
         (place.call(explain, image, "-", stdin=b"fractal 1\n2 0.0 1 0\n"), ["-:2:", "turn 1"]),
         (place.call(explain, image, "-", stdin=b"fractal 1\n"), ["-:2:", "output"]),
         (place.call(explain, image, report, str(other)), ["isn't the image's"]),
-        (place.call(explain, image, report, report), ["no listing"]),
+        (place.call(explain, image, report, report), ["isn't a listing"]),
         (place.call(explain, image, report, "nowhere.s"), ["nowhere.s", "no such file"]),
         (place.call(explain, "/dev/zero", report), ["/dev/zero", "more than 268,435,456 bytes"]),
         (place.call(explain, image, report, "/dev/zero"), ["/dev/zero", "more than"]),
@@ -263,8 +264,8 @@ def closed_pipes_are_borne(place: Place) -> None:
     for target, part in ((">/dev/full", "no space"), (">&-", "closed")):
         place.by_shell(f'"$0" explain "$1" "$2" {target}; exit 1', image, report).sentence(part)
     status = place.root / "status"
-    for words in ("explain '{image}' '{report}'", "explain --help", "build --help", "tries --help", "help", "table",
-                  "generate walk 7 20", "help run"):
+    for words in ("explain '{image}' '{report}'", "explain --help", "build --help", "dev tries --help", "help",
+                  "dev table", "generate walk 7 20", "help run"):
         call = words.format(image=image, report=report)
         # The reader has gone before the script, which takes longer to begin, writes.
         answer = place.by_shell(f'{{ sleep 1; "$0" {call}; echo $? >"$1"; }} | exec sh -c :', status)

@@ -16,13 +16,14 @@ from tries.lines_text import LinesText
 def shared_words() -> LinesText:
     """A task that comes first and stores twice, and three later ones that have run ahead: the first store takes all
     three and a child back, each for another reason, and the second one two, one of them in a cascade."""
-    told = LinesText([1, 5, 6, 7, 8], [0, 0, 1, 1, 0])
+    told = LinesText([1, 5, 6, 7, 8], [0, 0, 1, 1, 0], task_queue=4)
     for number, (task, tile, core) in enumerate(((0, 0, 0), (1, 0, 1), (2, 1, 0), (3, 1, 1))):
         told.dispatch(task, tile, core, number)
     told.load(1, 0, 1, 2, 0)                    # 3 of task 1: the very word
     told.enqueue(1, 0, 1, 1, 5)                 # 5: a child, which has done nothing
-    told.load(2, 1, 0, 0, 4)                    # 1 of task 2: the same line
     told.load(3, 1, 1, 3, 16_384)               # 4 of task 3: line 1,024
+    told.enqueue(3, 1, 1, 6, None, "stall")     # refused, as it would be the fifth task in tile 0
+    told.load(2, 1, 0, 0, 4)                    # 1 of task 2: the same line
     told.act("commit", reply="empty", task=0)
     told.store(0, 0, 0, 4, 0, [[1, 5], [2, 1], [3, 4], [5, 0]], [5])    # 5 of task 0
     told.step(0, 0, 0, 1, "unordered")          # 7
@@ -34,7 +35,6 @@ def shared_words() -> LinesText:
     told.dispatch(3, 1, 1, 6)
     told.load(3, 1, 1, 1, 4)                    # 2 of task 3, which is left
     told.store(0, 0, 0, 1, 48, [[1, 4], [2, 1]])    # 9 of task 0
-    told.enqueue(3, 1, 1, 6, None, "stall")     # refused
     told.finish(0, 0, 0, 0)                     # 10
     told.commit(0, [0, 0], 1)
     return told
@@ -50,15 +50,15 @@ def rows_of(place: Place, text: bytes, *words: str) -> tuple[dict[tuple[str, str
 
 
 def figures_are_counted(place: Place) -> None:
-    """a schedule counted by hand: work, tasks taken back by cause, line, address and sharing, and occupancy"""
+    """a schedule counted by hand: work, tasks aborted by cause, line, address and sharing, and occupancy"""
     rows, text = rows_of(place, shared_words().end(), "--plot", "a plot.svg")
     wanted = {("instructions", "executed"): 27, ("instructions", "useful"): 10, ("instructions", "wasted"): 15,
               ("instructions", "left"): 2, ("instructions", "refused"): 6, ("commits", ""): 1, ("events", ""): 20,
-              ("acts", ""): 22, ("rounds", ""): "", ("dispatches a commit", ""): 7, ("taken back", ""): 6,
-              ("taken back by event", "store"): 6, ("taken back by event", "load"): 0,
+              ("acts", ""): 22, ("rounds", ""): "", ("dispatches a commit", ""): 7, ("aborted", ""): 6,
+              ("aborted by event", "store"): 6, ("aborted by event", "load"): 0,
               ("discarded by event", "store"): 1, ("wasted by event", "store"): 15,
-              ("taken back by line", "0"): 4, ("taken back by line", "3"): 2,
-              ("taken back by address", "10000000"): 4, ("taken back by address", "10000030"): 2,
+              ("aborted by line", "0"): 4, ("aborted by line", "3"): 2,
+              ("aborted by address", "10000000"): 4, ("aborted by address", "10000030"): 2,
               ("stores of a task", "mean"): 2, ("loads of a task", "90 %"): 0, ("replies to step", "stall"): 1,
               ("occupancy greatest", "task queues"): 6, ("occupancy greatest", "running"): 4,
               ("occupancy greatest", "commit queues"): 1, ("curve of running over events", "4"): 4,
@@ -66,13 +66,13 @@ def figures_are_counted(place: Place) -> None:
               ("loads by tile", "1"): 4, ("stores by tile", "0"): 3, ("tasks by instructions", "10"): 1,
               ("commits by entry address", "00010000"): 1, ("wasted by entry address", "00010000"): 15,
               ("lines written of a task", "mean"): 2, ("steps", "useful"): 4}
-    wanted.update({("taken back itself", edge): count for edge, count in (
+    wanted.update({("aborted itself", edge): count for edge, count in (
         ("met by the access: byte", 2), ("met by the access: line", 1), ("met by the access: alias", 1),
         ("child of one", 1), ("touched what one wrote: byte", 1), ("touched what one wrote: line", 0))})
-    wanted.update({("taken back by root", root): count for root, count in (
+    wanted.update({("aborted by root", root): count for root, count in (
         ("access: byte", 4), ("access: line", 1), ("access: alias", 1), ("room: task queue", 0))})
-    wanted.update({("taken back by root, access: byte", "child of one"): 1, ("wasted by root", "access: byte"): 10,
-                   ("taken back by a line or a bit alone on the way", ""): 2})
+    wanted.update({("aborted by root, access: byte", "child of one"): 1, ("wasted by root", "access: byte"): 10,
+                   ("aborted by a line or a bit alone on the way", ""): 2})
     for key, value in wanted.items():
         expect(rows.get(key) == str(value), f"{value} as {key}", rows.get(key))
     for line in ("| of these useful | 10 (37.0 %) |", "| root: access: alias | 1 |", "| all | 4 | 1 | 1 | 6 |",
@@ -124,7 +124,7 @@ def other_lines_are_refused(place: Place) -> None:
         (place.call("fractal figures", "one", "--fast"), ["--fast"]),
         (place.call("fractal figures", "-", "--csv", "nowhere/x", stdin=whole), ["nowhere/x", "no such folder"]),
         refused(b"", "no whole line"),
-        refused(b"fractal 1\noutput -\nend open\n", "-:1:", "`fractal 1` is no JSON"),
+        refused(b"fractal 1\noutput -\nend open\n", "-:1:", "`fractal 1` isn't JSON"),
         refused(b'{"fault":"image","number":1,"offset":51}\n', "-:1:", "fault: image 1 51"),
         refused(b"".join(lines[:-1]), "no end", "behind line 28"),
         refused(whole[:-1], "-:29:", "no newline"),
@@ -160,10 +160,10 @@ def odd_acts_are_refused(place: Place) -> None:
 
     step: dict[str, Any] = {"tile": 0, "core": 0, "leg": 0, "pc": 65_540}
     child: dict[str, Any] = {"to": "same", "entry": 65_536, "ts": 9, "args": [0, 0, 0], "hint": 0}
-    texts = {odd("abort", tile=0): "takes no task back", odd("take", tile=0, core=1): "holds no task",
+    texts = {odd("abort", tile=0): "aborts no task", odd("take", tile=0, core=1): "holds no task",
              odd("step", reply="stall", **step, asks="end"): "takes this leg",
              odd("step", reply="stall", **step, asks="enqueue", **child): "takes this leg",
-             odd("step", tile=0, core=0, task=0, leg=0, pc=65_540, asks="emit", byte=256): "256 is no byte"}
+             odd("step", tile=0, core=0, task=0, leg=0, pc=65_540, asks="emit", byte=256): "256 isn't a byte"}
     whole = shared_words().end()
     for old, new, part in ((b'"ts":1', b'"ts":' + b"9" * 4_000, "2: `ts`"), (b'"tasks":5', b'"tasks":0', "no machine"),
                            (b"[1,5]", b"[2,1]", "how many tasks"), (b'"empty"', b'"busy"', "`reply` is `busy`"),
@@ -177,7 +177,7 @@ def odd_acts_are_refused(place: Place) -> None:
 
 
 def no_text_is_lost(place: Place) -> None:
-    """a text that is read isn't replaced, nor are two written to one file; a name that is no text is told in both"""
+    """a text that is read isn't replaced, nor are two written to one file; a name that isn't text is told in both"""
     data = shared_words().end()
     text = write_file(place, "lines", data)
     (place.root / "link").symlink_to("lines")
@@ -211,9 +211,9 @@ def told_schedules_are_figured(place: Place) -> None:
         expect(answer.output.endswith(b"}\n"), f"lines of {name}", answer)
         rows, _ = rows_of(place, answer.output, "--image", str(folder / "image.bin"))
         if name.endswith("/conflict"):
-            told = [rows[key] for key in (("commits", ""), ("taken back", ""), ("discarded by event", "store"),
-                                          ("taken back itself", "met by the access: byte"),
-                                          ("taken back itself", "child of one"))]
+            told = [rows[key] for key in (("commits", ""), ("aborted", ""), ("discarded by event", "store"),
+                                          ("aborted itself", "met by the access: byte"),
+                                          ("aborted itself", "child of one"))]
             expect(told == ["3", "2", "1", "1", "1"], "the reader, its child and the writer", rows)
 
 
@@ -237,12 +237,12 @@ def long_runs_are_replayed(place: Place) -> None:
         (place.call("fractal figures", "lines", "--image", "lines"), ["lines"]),
         (place.call("fractal figures", "lines", "--log", "x"), ["--log takes x, y, xy beside --plot"]),
         (place.call("fractal figures", "lines", "--histogram", "time,x.svg"), ["--histogram takes NAME,FILE", "`time"]),
-        (place.call("fractal figures", "lines", "--listing", "lines"), ["lines: ", "no listing"]),
+        (place.call("fractal figures", "lines", "--listing", "lines"), ["lines: ", "isn't a listing"]),
     ])
 
 
 def addresses_have_labels(place: Place) -> None:
-    """with a listing, lines and addresses where tasks were taken back are told with their labels"""
+    """with a listing, lines and addresses where tasks were aborted are told with their labels"""
     lines = write_file(place, "lines", shared_words().end())
     listing = place.root / "listing"
     listing.write_text("00010000  00000073  ecall\n10000000 <first>:\n10000020 <other>:\n")

@@ -9,23 +9,7 @@ from yotarimu.applications.catalogue import APPLICATIONS
 from yotarimu.programs.examples import EXAMPLES, SCHEDULES
 
 from tries.launcher import TRAP
-from tries.place import Place, expect
-
-# What rt says of cases that all go as stored, but for those whose answer isn't the program's.
-STUB_CASES = """echo "$1" >>"$(dirname "$0")/../calls"
-for file in "$3"/*.args; do
-    case=${file%.args}
-    status=0
-    case $(head -n 2 "$case.stdout" | tr '\\0' ' ') in
-        'fault usage'*) status=1 ;; 'fault image'*) status=2 ;; 'fault long'*) status=10 ;;
-        'fault journal'*) status=8 ;;
-        'fault script'*) status=9 ;; 'fault nested'*) status=12 ;; 'fault tasks'*) status=13 ;; FRAC*) status=4 ;;
-    esac
-    ! grep -aq '^end trap' "$case.stdout" || status=3
-    ! grep -aq '^end limit' "$case.stdout" || status=4
-    echo "case=${case##*/} run=ended status=$status runners=1 output=expected proved=no" >&2
-done
-"""
+from tries.place import Place, expect, need_command
 
 
 def accepted_examples_are_named(place: Place) -> None:
@@ -38,12 +22,10 @@ def accepted_examples_are_named(place: Place) -> None:
     expect((answer.status, answer.errors, lines) == (0, "", wanted), "all examples", answer)
     found = re.fullmatch(r"answers: ([0-9]+) accepted", answers)
     listed = int(found[1]) if found else 0
-    expect(listed >= 100, "a table of a hundred answers", answers)
+    expect(listed >= 100, "a table of 100 answers", answers)
     total = listed + 2 * len(wanted)
     expect(count.startswith(f"{total} of {total} answers are as stored, in ") and "Nothing was proved" in count,
            "a count, and what wasn't proved", count)
-    expect("Applications were left out: " in count and "fractal_watch: the program isn't built" in count,
-           "what was left out", count)
     place.make_unwritable()
     answer = place.call("fractal test", "hello", "schedules/stall")
     expect(answer.status == 0 and answer.output.count(b": accepted\n") == 2, "two where nothing can be written", answer)
@@ -52,7 +34,6 @@ def accepted_examples_are_named(place: Place) -> None:
 def small_applications_are_played(place: Place) -> None:
     """small applications are played where they can be, each fault is told by its name, else what is missing"""
     place.stub(place.program, "cat >/dev/null\n")
-    place.call("fractal test", "applications").sentence("fractal_watch", "isn't built")
     place.stub(place.second_program, "cat >/dev/null; exit 5\n")
     answer = place.call("fractal test", "applications")
     head, *lines = answer.output.decode().splitlines()
@@ -69,24 +50,13 @@ def small_applications_are_played(place: Place) -> None:
     place.call("fractal test", "applications").sentence("riscv64-unknown-elf-gcc isn't in the path")
 
 
-def one_unproved_run_plays_all(place: Place) -> None:
-    """where the program isn't built, one unproved run plays all that is named, and says that nothing was proved"""
-    place.stub_tool("rt", STUB_CASES)
-    answer = place.call("fractal test")
-    names = [line.partition(":")[0] for line in answer.output.decode().splitlines()]
-    expect(answer.status == 0 and names[:-1] == [*EXAMPLES, *SCHEDULES, "answers"], "all", answer)
-    answer.tells("one unproved run")
-    expect(b"without its proofs" in answer.output, "what wasn't proved", answer)
-    expect((place.root / "calls").read_text().count("try") == 1, "one run")
-    place.stub_tool("rt", STUB_CASES.replace("status=$status", "status=9"))
-    answer = place.call("fractal test", "hello")
-    expect(answer.status == 1 and b"hello: its run has the status 9, and not 0" in answer.output, "a failure", answer)
-    place.stub_tool("rt", "echo 'error: no such thing' >&2; exit 1\n")
-    answer = place.call("fractal test", "hello")
-    expect(answer.status == 1, "status 1", answer)
-    answer.tells("gave no answer", "error: no such thing")
-    place.is_clean()
-    place.without("rt")
+def translations_play_all(place: Place) -> None:
+    """where the program isn't built, Node plays all that is named, and what is left out is said"""
+    need_command("node")
+    answer = place.call("fractal test", "hello", "schedules/stall", "answers")
+    expect(answer.status == 0 and b" answers are as stored" in answer.output, "all", answer)
+    expect(b"devices that fail were left out" in answer.output, "what was left out", answer)
+    place.nothing_answers()
     place.call("fractal test", "hello").sentence("rt", "isn't in the path")
 
 
@@ -112,12 +82,12 @@ def worked_lines_are_held(place: Place) -> None:
     worked = (place.clone / "examples" / "schedules" / "by_hand" / "worked").read_bytes()
     place.stub(place.program, "cat >/dev/null\n")
     place.stub(place.second_program, f"cat >/dev/null; cat '{place.root}/told'\n")
-    named = "  schedules/by_hand, told act by act: line {} isn't the one worked out by hand: the second program "
-    for text, wanted in ((worked, None), (worked.replace(b"[0,9]", b"[0,8]"), named.format(9) + 'tells {"at":6,'),
-                         (worked[:worked.rindex(b"{")], named.format(21) + "tells nothing")):
+    named = "  schedules/by_hand, as an event log: line {} isn't the one worked out by hand: fractal_watch "
+    for text, wanted in ((worked, None), (worked.replace(b"[0,9]", b"[0,8]"), named.format(9) + 'prints {"at":6,'),
+                         (worked[:worked.rindex(b"{")], named.format(21) + "prints nothing")):
         (place.root / "told").write_bytes(text)
         answer = place.call("fractal test", "answers")
-        told = [line for line in answer.output.decode().splitlines() if "/by_hand, told" in line]
+        told = [line for line in answer.output.decode().splitlines() if "/by_hand, as" in line]
         expect(answer.status == 1 and len(told) == (wanted is not None), f"{wanted or 'no fault of by_hand'}", answer)
         expect(wanted is None or told[0].startswith(wanted), f"{wanted}", told)
 
@@ -150,7 +120,7 @@ def each_fails_the_gate(place: Place) -> None:
         source.write_text(f"{text}{'// wide' * 20 * is_wide}\n")
         answer = place.call(".ci/run", cwd="/")
         expect(answer.status == wanted, f"status {wanted}", answer)
-        expect((b"columns" in answer.output) == is_wide, "a line that is told where it is too wide", answer)
+        expect((b"columns" in answer.output) == is_wide, "a line that is reported where it is too wide", answer)
         expect(("stored answers: ./fractal prove" in answer.errors) != is_built, "what was left out", answer)
     expect(set((place.root / "words").read_text().split("\n")) == {"ci", ""}, "plain rt ci")
 
@@ -191,19 +161,24 @@ pub record SaidAgain (asked : Call) : Type 0 where
         expect((answer.status == 1, told in answer.output) == (is_same, is_same), f"{end} at the end", answer)
 
 
-def page_of_definitions_is_held(place: Place) -> None:
-    """the page of what must be read counts lines as by hand, fails the lint where it is old, and is made anew"""
+def generated_pages_are_held(place: Place) -> None:
+    """the page of what must be read counts lines as by hand, and an old page or picture fails the lint until it is
+    made anew"""
     page, program = place.clone / "docs" / "proof" / "READING.md", "fractal_sim/specs/Program.antt"
     row = f"| [{program}](../../crates/{program}) | {{0}} | 0 | {{0}} |"
     # Both definitions there have a comment of one line; the first has nine lines more, the second three.
     expect(row.format(14) in page.read_text() and "progress_cell" not in page.read_text(), "rows as by hand")
     path = place.clone / "crates" / program
+    listing = place.clone / "examples" / "schedules" / "conflict" / "listing"
     path.write_text(path.read_text().replace("pub record", "-- one more line\npub record", 1))
+    listing.write_text(listing.read_text().replace("<writer>:", "<last_writer>:", 1))
     answer = place.call(".ci/lint")
-    expect(answer.status == 1 and b"READING.md: it isn't the page" in answer.output, "an old page", answer)
-    expect(place.call(".ci/reading").status == 0 and row.format(15) in page.read_text(), "a new page")
+    for old in (b"docs/proof/READING.md", b"docs/machine/conflict.svg"):
+        expect(answer.status == 1 and old + b": it isn't what" in answer.output, "an old file", answer)
+    expect(place.call(".ci/generate").status == 0 and row.format(15) in page.read_text(), "a new page")
     expect(place.call(".ci/lint").status == 0, "a lint that passes")
-    place.call(".ci/reading", "crates").sentence("`crates`")
+    place.call(".ci/generate", "crates").sentence("`crates`")
+    place.call(".ci/words", "nothing").sentence("no such file")
 
 
 def limits_are_held(place: Place) -> None:
@@ -217,32 +192,50 @@ def limits_are_held(place: Place) -> None:
         expect(answer.status == 1 and told in answer.output.decode(), f"`{told}`", answer)
 
 
-def long_sentences_are_told(place: Place) -> None:
-    """a sentence of 41 words in a document fails the lint, with its place, and one of 40 doesn't"""
+def banned_phrases_and_words_are_counted(place: Place) -> None:
+    """more banned phrases or more words than may be fail the lint, which names the page, and .ci/words lists them"""
     path = place.clone / "docs" / "GLOSSARY.md"
     text = path.read_text()
-    for words, is_told in ((40, False), (41, True)):
-        path.write_text(f"{text}\n{'word ' * words}\n")
+    line = text.count("\n") + 2
+    for more, part in (("A task is aborted.\n" * 5_000, "docs/GLOSSARY.md 5"), ("word " * 200_000, "words: ")):
+        path.write_text(f"{text}\n{more}\n")
         answer = place.call(".ci/lint")
-        told = f"docs/GLOSSARY.md:{len(text.splitlines()) + 2} has one of 41 words" in answer.output.decode()
-        expect((answer.status == 1, told) == (is_told, is_told), f"{words} words", answer)
+        expect(answer.status == 1 and part in answer.output.decode(), f"`{part}`", answer)
+    path.write_text(f"{text}\nA task is aborted.\n")
+    answer = place.call(".ci/words", str(path))
+    expect(f"docs/GLOSSARY.md:{line}: `aborted`: abort" in answer.output.decode(), "a phrase with its line", answer)
+    path.write_text(text)
+    answer = place.call(".ci/words")
+    expect(answer.status == 0 and " words in all" in answer.output.decode(), "the sum", answer)
+
+
+def dead_links_are_found(place: Place) -> None:
+    """a link to a file or a heading that doesn't exist fails the lint, and one to a heading that exists doesn't"""
+    path = place.clone / "docs" / "GLOSSARY.md"
+    text = path.read_text()
+    for link, fault in (("../README.md#licence", None), ("GLOSSARIES.md", "leads to no file"),
+                        ("../README.md#licences", "leads to no heading")):
+        path.write_text(f"{text}\n[there]({link})\n")
+        answer = place.call(".ci/lint")
+        found = f"`{link}` {fault}" in answer.output.decode()
+        expect((answer.status, found) == ((1, True) if fault else (0, False)), link, answer)
 
 
 def named_files_are_held(place: Place) -> None:
-    """a file that the page of where a change goes names, and that isn't there, fails the lint"""
-    page = place.clone / "docs" / "maintain" / "PLACES.md"
+    """a file that the page on the architecture names, and that does not exist, fails the lint"""
+    page = place.clone / "docs" / "maintain" / "ARCHITECTURE.md"
     text = page.read_text()
     line = text.count("\n") + 1
     for names, gone in (("`pictures/histogram.py`, `specs/Lines`, `watch_text/specs/Lines`", None),
                         ("`pictures/histograms.py`", "pictures/histograms.py"), ("`specs/Rows`", "specs/Rows")):
         page.write_text(f"{text}{names}\n")
         answer = place.call(".ci/lint")
-        told = f"PLACES.md:{line}: `{gone}` isn't there"
+        told = f"ARCHITECTURE.md:{line}: `{gone}` isn't there"
         expect((answer.status, told in answer.output.decode()) == ((1, True) if gone else (0, False)), names, answer)
 
 
 def odd_sources_are_told(place: Place) -> None:
-    """the lint takes no words, and tells a source that is no text, and an edit or a version that isn't whole"""
+    """the lint takes no words, and tells a source that isn't text, and an edit or a version that isn't whole"""
     expect(b"WIDE_LINES" in place.call(".ci/lint", "--help").output, "a help page")
     place.call(".ci/lint", "crates").sentence("`crates`")
     edit = next(iter(sorted((place.clone / "crates").glob("*/must-fail/*.edit"))))
@@ -256,7 +249,7 @@ def odd_sources_are_told(place: Place) -> None:
                  "pyproject.toml: its version is 0."):
         expect(part in answer.output.decode(), f"`{part}`", answer)
     edit.write_bytes(b"\xff\n")
-    place.call(".ci/lint").sentence(edit.name, "no text in UTF-8")
+    place.call(".ci/lint").sentence(edit.name, "isn't text in UTF-8")
 
 
 def lists_are_held(place: Place) -> None:
@@ -286,20 +279,21 @@ def lists_are_held(place: Place) -> None:
         answer = place.call(".ci/lint")
         expect(answer.status == 1 and told in answer.output.decode(), told, answer)
         *_, last = answer.output.decode().splitlines()
-        expect("dear at" not in last and "sentences: " not in last and "twins: " not in last, "a fault last", last)
+        expect("slow in CI" not in last and "phrases: " not in last and "twins: " not in last, "a fault last", last)
         file.write_text(text)
 
 
 def clones_that_fail_are_told(place: Place) -> None:
     """where no clone can be made, the tries say so and leave nothing"""
     shutil.rmtree(place.clone / ".git")
-    place.call("fractal tries", "help_is").sentence("can't be cloned")
+    place.call("fractal dev tries", "help_is").sentence("can't be cloned")
     expect(not any(place.temporary.iterdir()), "no temporary file")
 
 
 TRIES = (
-    accepted_examples_are_named, small_applications_are_played, one_unproved_run_plays_all, other_reports_fail,
+    accepted_examples_are_named, small_applications_are_played, translations_play_all, other_reports_fail,
     worked_lines_are_held, lying_programs_fail, each_fails_the_gate, wide_lines_only_fall,
-    definitions_that_stand_twice_are_told, page_of_definitions_is_held, odd_sources_are_told, named_files_are_held,
-    lists_are_held, limits_are_held, long_sentences_are_told, clones_that_fail_are_told,
+    definitions_that_stand_twice_are_told, generated_pages_are_held, odd_sources_are_told, named_files_are_held,
+    lists_are_held, limits_are_held, banned_phrases_and_words_are_counted, dead_links_are_found,
+    clones_that_fail_are_told,
 )

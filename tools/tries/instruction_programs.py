@@ -40,7 +40,7 @@ class Program:
 
     def __init__(self, place: int, area: int, base: int, values: Sequence[int]) -> None:
         self.place, self.area, self.base, self.labels = place, area, base, 0
-        # Loads and stores are before it and behind it.
+        # Loads and stores are before it and after it.
         self.middle = 4 * (REGISTERS + (area - REGISTERS) // 2)
         self.lines = [f"task{place}:"]
         self.lines += [f"li x{register}, {value}" for register, value in enumerate(values) if register not in (0, base)]
@@ -242,7 +242,7 @@ class RandomProgram(Program):
         self.lines.append(f"{label}:")
 
     def jump(self) -> None:
-        """A jump over some steps, told or by a register."""
+        """A jump over some steps, by an offset or by a register."""
         label = self.label()
         if self.chance.randrange(2):
             self.lines.append(f"jal {self.target()}, {label}")

@@ -12,23 +12,27 @@ import signal
 import struct
 import subprocess
 from collections.abc import Sequence
+from typing import Optional
 
 from yotarimu.common.places import TOOLS_FOLDER
 from yotarimu.images.compiler import GCC, MACHINE, need_compiler
 from yotarimu.images.description import describe
-from yotarimu.images.image import TEXT, Image, InitialTask, image_bytes
+from yotarimu.images.image import DATA, TEXT, Image, InitialTask, image_bytes
+from yotarimu.images.serial_machine import Machine
 from yotarimu.images.source import INSTRUCTIONS, Assembly, assemble, source_at, tool_prefix
+from yotarimu.programs.calls import calls_at
+from yotarimu.programs.program import PROGRAM
 from yotarimu.reports.report import read_report
 
 from tries.instruction_programs import REGISTERS, Program, form_programs, random_programs, text_of
-from tries.place import MOST_SECONDS, Omission, Place, expect
+from tries.place import MOST_SECONDS, Omission, Place, expect, need_built
 
 EMULATOR = "qemu-riscv32"
 # So many random programs of so many steps each are run in each of the images with these seeds.
 SEEDS, STEPS = range(1, 4), 60
 # Where the header of an ELF file tells the entry.
 ENTRY_AT = 24
-# Public tests of what is no part of RV32I, or of what it leaves to a machine: FENCE.I, and accesses at no multiple.
+# Public tests of what isn't a part of RV32I, or of what it leaves to a machine: FENCE.I, and accesses at no multiple.
 OTHER_TESTS = ("fence_i", "ma_data")
 RISCV_FOLDER = TOOLS_FOLDER / "tries" / "riscv"
 # A test in the form of the public ones, with a number that its one case wants, and what it takes of their macros.
@@ -126,7 +130,7 @@ def is_told_otherwise(word: int) -> bool:
 
 
 def runs_in_the_emulator(place: Place, word: int) -> bool:
-    """Whether a process of Linux goes on behind a word, or is ended by the signal for what is no instruction."""
+    """Whether a process of Linux goes on behind a word, or is ended by the signal for what isn't an instruction."""
     source = place.root / "word.s"
     source.write_text(f"    .globl word\nword:\n    .4byte {word}\n    li a0, 0\n    li a7, 93\n    ecall\n")
     done = emulated(place, assemble([source_at(source)]))
@@ -193,7 +197,7 @@ def public_tests_pass(place: Place) -> None:
     folder = os.environ.get("RISCV_TESTS")
     if not folder:
         raise Omission("it wants the tests of RISC-V: RISCV_TESTS names a folder of riscv-tests, with isa/ in it")
-    need_compiler(GCC)
+    need_compiler(GCC, GCC)
     tests = [path for path in sorted(pathlib.Path(folder, "isa", "rv32ui").glob("*.S")) if path.stem not in OTHER_TESTS]
     expect(tests, f"tests in {folder}/isa/rv32ui")
     for path in tests:
@@ -205,7 +209,7 @@ def public_tests_pass(place: Place) -> None:
 def tests_in_the_public_form_are_judged(place: Place) -> None:
     """a test in the form of the public ones passes as a task where it is right, and ends in a trap where it isn't"""
     place.needs_program()
-    need_compiler(GCC)
+    need_compiler(GCC, GCC)
     folder = place.root / "isa"
     for name, text in (("macros/scalar/test_macros.h", MACROS), ("rv32ui/right.S", SAMPLE.format(7)),
                        ("rv32ui/wrong.S", SAMPLE.format(8))):
@@ -229,7 +233,33 @@ def image_of_test(place: Place, path: pathlib.Path) -> Image:
     return describe(sources, assemble(sources))
 
 
+def words_with_corners() -> list[int]:
+    """Each opcode with each funct3 and some funct7, among them all that mean something, and random words."""
+    chance = random.Random(86)
+    corners = [opcode | kind << 12 | upper << 25 | 10 << 15 | 11 << 20 | 12 << 7
+               for opcode in range(128) for kind in range(8) for upper in (0x00, 0x20, 0x01, 0x10, 0x40)]
+    calls = [word ^ 1 << bit for word in (0x73, 0x100073) for bit in range(7, 32)]
+    return [*corners, *calls, *(chance.getrandbits(30) << 2 | 3 for _ in range(1_000))]
+
+
+def words_are_decoded_alike(_: Place) -> None:
+    """of 6,000 words, all corners of the encoding among them, the tools execute what the program does, and no other"""
+    need_built(PROGRAM)
+    calls, end = calls_at(str(PROGRAM)), b"\x93\x08\x00\x00\x73\x00\x00\x00"
+
+    def fault_of(word: int) -> Optional[str]:
+        image = Image(True, word.to_bytes(4, "little") + end, b"", 64, 0, 0, [InitialTask(TEXT, 5, (DATA, 1, 2))])
+        report = read_report(calls.call(["run", "--budget=9"], image_bytes(image)).written.decode(), hex(word))
+        machine = Machine(image, 9)
+        trap = report.trap
+        return machine.follow(report.entries) or (str(trap) if trap and not machine.run_at_trap(trap) else None)
+
+    for word, fault in calls.each(fault_of, words_with_corners(), os.cpu_count() or 1):
+        expect(not fault, f"the program's run of {word:08x}", fault)
+
+
 TRIES = (
+    words_are_decoded_alike,
     each_form_is_the_emulators, random_programs_are_the_emulators, legal_words_are_those_of_objdump, public_tests_pass,
     tests_in_the_public_form_are_judged,
 )

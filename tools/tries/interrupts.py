@@ -13,31 +13,21 @@ from tries.place import Place, expect, written_tree
 
 # A program that notes that it was started, and goes on until it is ended.
 ENDLESS = "touch '{}'; exec sleep 100\n"
-# Tools that wait for a file, here a pipe to which nobody writes, by the place of the file among their words.
-READERS = (
-    ("explain", "PIPE", "report"), ("explain", "image", "PIPE"), ("explain", "image", "PIPE", "--json"),
-    ("draw", "PIPE", "said"), ("tally", "PIPE", "said", "--plot", "plot.svg"), ("play", "PIPE", "--image", "image"),
-    ("exercise", "journal", "PIPE"), ("study", "PIPE"), ("sweep", "PIPE"), ("sweep", "--rows", "PIPE"),
-    ("resume", "PIPE", "pieces", "--every", "2"), ("figures", "PIPE", "--plot", "plot.svg"),
-    ("console", "PIPE"), ("console", "image", "--script", "PIPE"),
-)
-# Tools that wait for the program.
+# Calls that wait for a file, here a pipe to which nobody writes: of a file that is read whole, and line by line.
+READERS = (("explain", "PIPE", "report"), ("figures", "PIPE", "--plot", "plot.svg"))
+# Calls that wait for the program: one call, in threads, in processes, piece by piece, and from a console.
 CALLERS = (
-    ("test",), ("test", "hello"), ("play", "schedule", "--picture", "picture.svg"), ("exercise", "stall", "answer"),
-    ("sweep", "image", "--budget", "1,2", "--csv", "x.csv", "--plot", "seconds,budget,x.svg"), ("workers", "hello"),
-    ("study", "image", "--csv", "x.csv"), ("memory", "load"), ("resume", "image", "pieces", "--every", "2"),
-    ("console", "image"),
+    ("test", "hello"), ("sweep", "image", "--budget", "1,2", "--output", "x.csv", "--plot", "seconds,budget,x.svg"),
+    ("study", "image", "--csv", "x.csv"), ("resume", "image", "pieces", "--every", "2"), ("console", "image"),
 )
 # Tools that wait for nobody.
-WRITERS = (("lockstep", "16", "4", "20000"), ("generate", "walk", "7", "20000"), ("shell", "man"))
+WRITERS = (("generate", "walk", "7", "20000"), ("shell", "man"))
 
 
 def words_of(place: Place, words: Sequence[str]) -> list[str]:
     """The words of a call, with files of the clone in place of their names."""
     image, report = files_of(place, "pipeline")
-    schedule = place.clone / "examples" / "schedules" / "stall"
-    names = {"PIPE": str(place.root / "a pipe"), "image": image, "report": report, "said": str(schedule / "said"),
-             "answer": str(place.clone / "examples" / "exercises" / "answers" / "stall"), "schedule": str(schedule)}
+    names = {"PIPE": str(place.root / "a pipe"), "image": image, "report": report}
     return [f"fractal {words[0]}", *(names.get(word, word) for word in words[1:])]
 
 
@@ -58,13 +48,13 @@ def readers_are_interrupted(place: Place) -> None:
 
             for number in (signal.SIGINT, signal.SIGTERM):
                 answer = place.interrupt(*words_of(place, words), ready=ready, number=number)
-                answer.sentence(f"{words[0]}: interrupted.", status=128 + number)
+                answer.sentence(f"{words[0].split()[-1]}: interrupted.", status=128 + number)
                 expect(answer.output == b"", "nothing written", answer)
         pipe.unlink()
     # A script comes with the image on standard input alone.
     os.mkfifo(place.root / "a pipe")
     mark = place.root / "mark"
-    script = 'touch "$2"; exec "$0" refusal "fault script 1" steps <>"$1"'
+    script = 'touch "$2"; exec "$0" dev refusal "fault script 1" steps <>"$1"'
 
     def has_begun() -> bool:
         time.sleep(1)
@@ -87,7 +77,7 @@ def callers_are_interrupted(place: Place) -> None:
     before = written_tree(place.root)
     for words in CALLERS:
         answer = place.interrupt(*words_of(place, words), ready=mark.exists)
-        answer.sentence(f"{words[0]}: interrupted.", status=130)
+        answer.sentence(f"{words[0].split()[-1]}: interrupted.", status=130)
         mark.unlink()
         pieces = place.root / "pieces"
         left = {path for path in written_tree(place.root) - before if pieces not in (path, *path.parents)}

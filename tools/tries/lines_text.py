@@ -13,7 +13,7 @@ JOINT = 2_201 * 16
 
 
 class Words:
-    """The words of the data, all 0 at first, with what each task stored and has not taken back."""
+    """The words of the data, all 0 at first, with what each task stored and has not aborted."""
 
     def __init__(self) -> None:
         self.words: Dict[int, int] = {}
@@ -37,15 +37,18 @@ class Words:
 
 
 class LinesText:
-    """Lines as the second program tells them. Loads and stores are of words, and each store is of 9 unless told."""
+    """Lines as the second program tells them. Loads and stores are of words, and each store is of 9 unless told. The
+    image has the tasks of each tile at places that lead there, since a task's place is its hint."""
 
     def __init__(self, timestamps: Sequence[int], where: Sequence[int], **settings: Any) -> None:
         self.lines: List[Dict[str, Any]] = [{**HEAD, **settings, "tasks": len(where)}]
         self.acts = self.events = self.commits = 0
         self.memory = Words()
-        for place in sorted(range(len(where)), key=lambda place: where[place]):
-            self.lines.append({"at": 0, "do": "place", "tile": where[place], "new": place, "name": [0, place],
-                               "entry": 65_536, "ts": timestamps[place], "args": [0, 0, 0], "hint": place})
+        tiles = self.lines[0]["tiles"]
+        for task in sorted(range(len(where)), key=lambda task: where[task]):
+            place = where[task] + tiles * where[:task].count(where[task])
+            self.lines.append({"at": 0, "do": "place", "tile": where[task], "new": task, "name": [0, place],
+                               "entry": 65_536, "ts": timestamps[task], "args": [0, 0, 0], "hint": place})
 
     def act(self, word: str, change: Optional[Dict[str, Any]] = None, reply: str = "ok", **fields: Any) -> None:
         """An act: what stands before its reply, and what its event changed."""
@@ -104,17 +107,17 @@ class LinesText:
 
 def joint_lines(kind: str) -> bytes:
     """Lines on three tasks, the last of which loads 200 lines, whose bits are also those of the line 2,201 in a filter
-    of the kind `bloom`. The second stores there and is taken back; then the first stores there."""
-    told = LinesText([1, 5, 6], [0, 1, 1], filter=kind, data=65_536)
-    for number, (task, tile, core) in enumerate(((0, 0, 0), (1, 1, 0), (2, 1, 1))):
+    of the kind `bloom`. The second stores there and is aborted; then the first stores there."""
+    told = LinesText([1, 5, 6], [0, 1, 0], filter=kind, data=65_536)
+    for number, (task, tile, core) in enumerate(((0, 0, 0), (1, 1, 0), (2, 0, 1))):
         told.dispatch(task, tile, core, number)
     told.load(1, 1, 0, 0, 3_000 * 16)
     told.store(1, 1, 0, 0, JOINT)
     for place in range(200):
-        told.load(2, 1, 1, 0, 7 * place * 16)
+        told.load(2, 0, 1, 0, 7 * place * 16)
     told.store(0, 0, 0, 0, 3_000 * 16, [[2, 200], [1, 2]])
-    told.dispatch(2, 1, 1, 3)
+    told.dispatch(2, 0, 1, 3)
     for place in range(200):
-        told.load(2, 1, 1, 0, 7 * place * 16)
+        told.load(2, 0, 1, 0, 7 * place * 16)
     told.store(0, 0, 0, 0, JOINT, [[2, 200]])
     return told.end()

@@ -69,12 +69,12 @@ def runs_have_scripts(place: Place) -> None:
         (place.call("fractal lockstep", "--of", cut), ["no newline"]),
         (place.call("fractal lockstep", "--of", "nowhere"), ["nowhere", "no such file"]),
         (place.call("fractal lockstep", "--of", steps, "2"), ["--of LINES"]),
-        (place.call("fractal lockstep", "--of"), ["a value is missing"]),
+        (place.call("fractal lockstep", "--of"), ["needs a value"]),
     ])
 
 
 def livelocks_end(place: Place) -> None:
-    """the rounds of the schedule `livelock` come to one state again and again; brought on, its tasks all commit"""
+    """the rounds of the schedule `livelock` repeat one state; once the least task is advanced, all tasks commit"""
     place.needs_second_program()
     folder = place.clone / "examples" / "schedules" / "livelock"
     image, script = (folder / "image.bin").read_bytes(), (folder / "script").read_bytes()
@@ -83,8 +83,8 @@ def livelocks_end(place: Place) -> None:
     lines = told_lines(place, image + script, "views", "8", "steps", settings=settings)
     views = [line["tiles"] for line in lines if "view" in line]
     expect(len(views) == 30 and views[3] != views[4] and all(view == views[4] for view in views[4:]),
-           "one view behind each round from the fifth on", views)
-    for words, end, journal in (((), "normal", 7), (("barren", "30"), "open", 1)):
+           "one view after each round from the fifth on", views)
+    for words, end, journal in (((), "normal", 7), (("starved", "30"), "open", 1)):
         last = told_lines(place, image, "lockstep", "30", "0", *words, settings=settings)[-1]
         expect((last["end"], last["journal"]) == (end, journal), f"the end of rounds {words}", last)
 

@@ -1,9 +1,11 @@
 """Tries of ./fractal package, what its archive installs, completions, the manual page, and the exercises."""
 from __future__ import annotations
 
+import hashlib
 import pathlib
 import shutil
 import subprocess
+import tarfile
 
 from yotarimu.programs.program import PROGRAM, SECOND_PROGRAM
 from yotarimu.programs.table import Table
@@ -12,14 +14,14 @@ from tries.launcher import HELLO, image_of
 from tries.place import Answer, Place, expect, need_built, one_sentence_each
 
 EXERCISES = ("journal", "abort", "stall", "false_conflict", "order", "domains", "why")
-# Of an exercise of one's own, the one that wants a task taken back: what is wanted, and what is told of its answer.
-OWN = (("taken 1..\ncommits 3\nend normal\n", "right: what is wanted holds, 3 lines"),
-       ("reply ok 1..\nacts ..20\ndepth 1\noutput\n", "right: what is wanted holds, 4 lines"),
-       ("end normal\ntaken 2\n", "wrong: `taken 2` is wanted by line 3, and here it is 1"),
-       ("end trap\n", "wrong: `end trap` is wanted by line 2, and here it is normal"))
+# Of an exercise of one's own, the one that wants a task aborted: what is wanted, and what is told of its answer.
+OWN = (("taken 1..\ncommits 3\nend normal\n", "right: all 3 conditions hold"),
+       ("reply ok 1..\nacts ..20\ndepth 1\noutput\n", "right: all 4 conditions hold"),
+       ("end normal\ntaken 2\n", "wrong: line 3 requires `taken 2`, and here it is 1"),
+       ("end trap\n", "wrong: line 2 requires `end trap`, and here it is normal"))
 # A file `wanted` that is none, and what is told of it.
 NOT_WANTED = (("taken 1\n", "no line `answer`"), ("answer sauce\n", "wanted:1: `answer` stands once"),
-              ("answer script\ndance 1\n", "wanted:2: `dance` is no condition"),
+              ("answer script\ndance 1\n", "wanted:2: `dance` isn't a condition"),
               ("answer script\ntaken one\n", "wanted:2: `taken one` isn't whole"),
               ("answer script\nreply yes 1\n", "wanted:2: `reply yes 1` isn't whole"),
               ("answer script\nacts 5..1\n", "wanted:2: `acts 5..1` isn't whole"),
@@ -58,7 +60,8 @@ def packages_run_elsewhere(place: Place) -> None:
     subprocess.run(["tar", "-xzf", archive, "-C", place.root], check=True)
     place.clone, = place.root.glob("fractal-*")
     place.without("rt", "git")
-    expect(place.call("fractal", "--version").output == version, "the version and the commit")
+    told = place.call("fractal", "--version").output
+    expect(told == version and told.count(b": the proved program, digest ") == 2, "the programs and the commit", told)
     expect(place.call("fractal", "run", stdin=image_of(place, "hello")) == Answer(0, HELLO, ""), "a report")
     answer = place.call("fractal", "test")
     expect(answer.status == 0 and b"PACKAGE names the commit" in answer.output, "all examples", answer)
@@ -66,11 +69,46 @@ def packages_run_elsewhere(place: Place) -> None:
     both = subprocess.run(["sha256sum", "-c"], input=sums, text=True, cwd=place.clone, capture_output=True)
     expect(both.returncode == 0 and both.stdout.count(": OK") == 2, "the checksums of both programs", both)
     answer = place.call("fractal", "watch", "least", stdin=image_of(place, "hello"))
-    expect(answer.output.startswith(b'{"watch":1,') and answer.errors == "", "the second program's lines", answer)
+    expect(answer.output.startswith(b'{"watch":1,') and answer.errors == "", "fractal_watch's lines", answer)
     expect((place.clone / "fractal.html").is_file(), "the machine in a page")
     place.call("fractal", "build").sentence("which FOLDER of sources is to be built?", "programs are there already")
     for word in ("prove", "package"):
         expect(place.call("fractal", word).status == 69, f"that {word} wants a clone")
+
+
+def archives_have_the_same_modes(place: Place) -> None:
+    """whatever the umask, an archive has the same bytes, and what is installed can be read by all and written by one"""
+    build(place)
+    folder, prefix = place.root / "given out", place.root / "prefix"
+    folder.mkdir()
+    seen = set()
+    for umask in ("077", "002"):
+        answer = place.by_shell('umask "$1" && exec "$0" package "$2"', umask, str(folder))
+        expect(answer.status == 0, "an archive", answer)
+        archive, = folder.glob("*.tar.gz")
+        seen.add(archive.read_bytes())
+        with tarfile.open(archive) as members:
+            modes = {member.mode for member in members if member.isfile()}
+        expect(modes == {0o644, 0o755}, "two modes of files", modes)
+    expect(len(seen) == 1, "the same bytes")
+    place.call("/bin/sh", "-c", 'umask 077 && tar -xzf "$0" -C "$1"', str(archive), str(place.root))
+    unpacked, = place.root.glob("fractal-*")
+    expect("As noted by the builder" in (unpacked / "PACKAGE").read_text(), "what a note shows")
+    answer = place.call("/bin/sh", "-c", 'umask 077 && exec "$0" "$1"', str(unpacked / "install"), str(prefix))
+    expect(answer.status == 0, "an installation", answer)
+    for path in (prefix / "lib").rglob("*"):
+        expect(path.stat().st_mode & 0o077 in (0o044, 0o055), "what all can read", path)
+
+
+def programs_are_checked_again(place: Place) -> None:
+    """a program that doesn't answer as is stored isn't packed, whatever the note beside it says"""
+    build(place)
+    note = place.program.with_name(f"{place.program.name}.commit")
+    place.stub(place.program, "exit 0\n")
+    commit = note.read_text().splitlines()[0]
+    digest = hashlib.sha256(place.program.read_bytes()).hexdigest()
+    note.write_text(f"{commit}\n{digest}  {place.program.name}\n")
+    place.call("fractal", "package").sentence("don't answer as is stored", status=70)
 
 
 def packages_are_installed(place: Place) -> None:
@@ -122,17 +160,17 @@ def packages_are_of_one_commit(place: Place) -> None:
     place.needs_program()
     place.call("fractal", "package").sentence("fractal_watch isn't built", status=70)
     place.needs_second_program()
-    place.call("fractal", "package").sentence("nothing tells which commit", status=70)
+    place.call("fractal", "package").sentence("nothing says which commit", status=70)
     build(place)
     (place.clone / "README.md").write_text("")
     place.call("fractal", "package").sentence("differs from its commit", "README.md", "or take it away", status=70)
     place.call("fractal", "prove")
     git = ["git", "-C", str(place.clone), "-c", "user.name=a", "-c", "user.email=a@b.c"]
     subprocess.run([*git, "checkout", "-q", "README.md"], check=True)
-    # The folder in which the documents build a program of one's own is no change.
+    # The folder in which the documents build a program of one's own isn't a change.
     (place.clone / "mine").mkdir()
     (place.clone / "mine" / "task.s").write_text("")
-    place.call("fractal", "package").sentence("nothing tells which commit", status=70)
+    place.call("fractal", "package").sentence("nothing says which commit", status=70)
     place.call("fractal", "prove")
     subprocess.run([*git, "commit", "-q", "--allow-empty", "-m", "more"], check=True)
     place.call("fractal", "package").sentence("was built from the commit", status=70)
@@ -160,7 +198,7 @@ def shells_are_helped(place: Place) -> None:
     """completions and the manual page have each command, option and status, and their shells and groff read them"""
     table = Table()
     texts = {}
-    for kind in ("bash", "zsh", "man"):
+    for kind in ("bash", "zsh", "fish", "man"):
         answer = place.call("fractal shell", kind)
         expect((answer.status, answer.errors) == (0, ""), f"a text for {kind}", answer)
         texts[kind] = answer.output.decode().replace("\\-", "-")
@@ -170,7 +208,7 @@ def shells_are_helped(place: Place) -> None:
     expect("package [FOLDER]" in texts["man"] and "load KIND SEED SIZE" in texts["man"], "the words behind a command")
     for status, meaning in table.statuses.items():
         expect(f".B {status}\n{meaning}" in texts["man"].replace("\\(aq", "'"), f"the status {status}")
-    for shell in ("bash", "zsh"):
+    for shell in ("bash", "zsh", "fish"):
         if shutil.which(shell):
             expect(place.call("/usr/bin/env", shell, "-n", shell).status == 0, f"that {shell} reads it")
     script = '. ./bash; COMP_WORDS=({}); COMP_CWORD={}; _fractal; echo "${{COMPREPLY[*]}}"'
@@ -179,15 +217,16 @@ def shells_are_helped(place: Place) -> None:
                                     ("fractal load ''", 2, "walk nest"), ("fractal load walk 7 --ti", 4, "--tiles"),
                                     ("fractal watch l", 2, "least lockstep"), ("fractal watch views 3 s", 4, "steps"),
                                     ("fractal watch m", 2, "memory"), ("fractal watch memory s", 3, "steps"),
-                                    ("fractal watch least --ti", 3, "--tiles")):
+                                    ("fractal watch least --ti", 3, "--tiles"), ("fractal sweep --lo", 2, "--log"),
+                                    ("fractal draw --by ''", 3, "rounds acts"), ("fractal dev m", 2, "memory")):
         answer = place.call("/usr/bin/env", "bash", "-c", script.format(words, place_of))
         expect(answer.output.decode().split() == wanted.split(), f"completions of {words}", answer)
     if shutil.which("groff"):
         answer = place.call("/usr/bin/env", "groff", "-man", "-ww", "-Tascii", "man")
         expect(answer.status == 0 and answer.errors == "", "a page without a warning", answer)
     one_sentence_each([
-        (place.call("fractal shell"), ["bash, zsh or man"]),
-        (place.call("fractal shell", "fish"), ["`fish`"]),
+        (place.call("fractal shell"), ["bash, zsh, fish or man"]),
+        (place.call("fractal shell", "csh"), ["not for csh"]),
         (place.by_shell('"$0" shell man >/dev/full'), ["no space"]),
     ])
 
@@ -216,7 +255,7 @@ def exercises_are_judged(place: Place) -> None:
         (place.call(exercise, "eight", "x"), ["`eight`", "journal, abort"]),
         (place.call(exercise, "journal", "nowhere"), ["nowhere", "no such file"]),
         (place.call(exercise, "order", "nowhere"), ["nowhere", "no such folder"]),
-        (place.call(exercise, "journal", str(place.clone / "README.md")), ["README.md:3:", "no line of a journal"]),
+        (place.call(exercise, "journal", str(place.clone / "README.md")), ["README.md:3:", "line of a journal"]),
         (place.call(exercise, "abort", str(folder / "answers" / "stall")), ["stall:4:", "no core 1"]),
     ])
 
@@ -225,18 +264,19 @@ def wrong_files(place: Place, exercise: str) -> None:
     """Holds wrong journals and scripts to be told so, with why."""
     stepped = "dispatch 0\ndispatch 1\nstep 1 0\nstep 0 0\nstep 0 0\n"
     for name, text, part in (
-            ("journal", "1 0.0 1 0\n2 1.2 2 0\n", "line 2: the timestamp"), ("journal", "", "one more comes"),
+            ("journal", "1 0.0 1 0\n2 1.2 2 0\n", "line 2: the timestamp"),
+            ("journal", "", "your journal has 0 turns, and more tasks"),
             ("journal", "1 0.0 1 0\n2 1.2 1 9\n", "line 2: the depth"),
             ("journal", "1 0.0 1 0\n2 1.2 2 9\n3 1.1 1 1\n4 0.1 1 2\n5 1.0 1 3\n6 0.2 1 4\n", "only 5 tasks"),
-            ("abort", "commit\n", "no act takes"), ("abort", stepped, "hasn't come to its end"),
-            ("abort", "# no\n", "no act"), ("why", "12 0.1 byte 0.0\n", "1 tasks are told, and more were"),
-            ("why", "11 0.1 byte 0.0\n", "line 1: act 11 doesn't take 0.1 back"),
-            ("why", "12 0.4 byte 0.0\n", "line 1: act 12 doesn't take 0.4 back"),
-            ("why", "12 0.1 line 0.0\n", "line 1: 0.1 was taken back, but `line` isn't why"),
-            ("why", "12 0.2 touched 0.0\n", "line 1: 0.2 was taken back for that reason, but by another task"),
-            ("why", "12 0.1 byte 0.0\n12 0.1 byte 0.0\n", "line 2: 0.1 stands twice"),
-            ("abort", "dispatch 0\nabort 0\n", "no act takes"), ("stall", "commit\n", "answered `stall`"),
-            ("stall", "dispatch 0\ndispatch 0\nstep 0 0\nstep 0 1\n", "hasn't come to its end")):
+            ("abort", "commit\n", "no act aborts"), ("abort", stepped, "doesn't reach its end"),
+            ("abort", "# no\n", "isn't an act"), ("why", "12 0.1 byte 0.0\n", "your list has 1 of the aborted"),
+            ("why", "11 0.1 byte 0.0\n", "line 1: act 11 doesn't abort 0.1"),
+            ("why", "12 0.4 byte 0.0\n", "line 1: act 12 doesn't abort 0.4"),
+            ("why", "12 0.1 line 0.0\n", "line 1: 0.1 was aborted, but `line` isn't the reason"),
+            ("why", "12 0.2 touched 0.0\n", "line 1: 0.2 was aborted for that reason, but another task caused it"),
+            ("why", "12 0.1 byte 0.0\n12 0.1 byte 0.0\n", "line 2: 0.1 is listed twice"),
+            ("abort", "dispatch 0\nabort 0\n", "no act aborts"), ("stall", "commit\n", "the reply `stall`"),
+            ("stall", "dispatch 0\ndispatch 0\nstep 0 0\nstep 0 1\n", "doesn't reach its end")):
         (place.root / "answer").write_text(text)
         answer = place.call(exercise, name, "answer")
         told = answer.output.decode()
@@ -259,7 +299,7 @@ def own_exercises(place: Place, exercise: str) -> None:
     (mine / "wanted").write_text("answer journal\n")
     shutil.copy(folder / "journal" / "image.bin", mine)
     answer = place.call(exercise, str(mine), str(folder / "answers" / "journal"))
-    expect(answer.output.startswith(b"right: 5 tasks"), "a journal of one's own", answer)
+    expect(answer.output.startswith(b"right: 5 tasks"), "a journal of your own", answer)
 
 
 def releases_are_made_once(place: Place) -> None:
@@ -301,6 +341,6 @@ def exercises_are_rebuilt(place: Place) -> None:
 
 
 TRIES = (
-    packages_run_elsewhere, packages_are_installed, packages_are_of_one_commit, shells_are_helped, exercises_are_judged,
-    exercises_are_rebuilt, releases_are_made_once,
+    packages_run_elsewhere, archives_have_the_same_modes, programs_are_checked_again, packages_are_installed,
+    packages_are_of_one_commit, shells_are_helped, exercises_are_judged, exercises_are_rebuilt, releases_are_made_once,
 )

@@ -1,4 +1,5 @@
-"""Where a try happens: a fresh clone in a folder of its own, with a blank in its name, and ways to call its scripts."""
+"""Where an integration test runs: a fresh clone in a folder of its own, with a blank in its name, and ways to call its
+scripts."""
 from __future__ import annotations
 
 import dataclasses
@@ -27,17 +28,19 @@ Ready = Callable[[bytes], bool]
 # Keys, and what of a terminal's text has to hold before they are typed; None where nothing has to.
 Typing = tuple[Optional[Ready], bytes]
 NOBODY = 65534
+# What the programs write to wrong arguments.
+USAGES = (b"fault usage\n", b'{"fault":"usage"}\n')
 # A call that lasts longer has failed, also on a machine that is at much other work.
 MOST_SECONDS = 600
 MOST_SECONDS_OF_ENDING = 60
 
 
 class Failure(Exception):
-    """A try went otherwise than its sentence says."""
+    """An integration test went otherwise than its sentence says."""
 
 
 class Omission(Exception):
-    """A try wants what isn't there. Its text says what."""
+    """An integration test needs something missing, which the text names."""
 
 
 @dataclasses.dataclass
@@ -47,8 +50,11 @@ class Answer:
     output: bytes
     errors: str
 
-    def sentence(self, *parts: object, status: int = 1) -> None:
-        """Holds the answer to be one sentence on standard error, with these parts, and a status other than 0."""
+    def sentence(self, *parts: object, status: Optional[int] = None) -> None:
+        """Holds the answer to be one sentence on standard error, with these parts, and a status: by default that of a
+        tool that refuses, or of the program for wrong arguments."""
+        if status is None:
+            status = 1 if self.output in USAGES else 2
         expect(self.status == status, f"status {status}, and not {self.status}", self)
         lines = [line for line in self.errors.splitlines() if line.strip()]
         expect(len(lines) == 1, "one sentence on standard error", self)
@@ -68,13 +74,20 @@ def expect(is_so: object, what: str, seen: object = None) -> None:
 
 
 def need_built(*programs: pathlib.Path) -> None:
-    """Leaves the try out where a program isn't built."""
+    """Skips the integration test if a program isn't built."""
     if not all(program.exists() for program in programs):
         raise Omission("it wants the built program: ./fractal prove")
 
 
+def need_command(*names: str) -> None:
+    """Skips the integration test if a command isn't installed."""
+    for name in names:
+        if shutil.which(name) is None:
+            raise Omission(f"it wants {name}")
+
+
 def put_built(program: pathlib.Path, path: pathlib.Path) -> None:
-    """Copies a built program to a path; the try is left out where there is none."""
+    """Copies a built program to a path; skips the integration test if it is missing."""
     need_built(program)
     path.parent.mkdir(parents=True, exist_ok=True)
     shutil.copy(program, path)
@@ -101,9 +114,11 @@ class Place:
         self.temporary = self.root / "temporary"
         self.temporary.mkdir()
         self.temporary.chmod(0o777)
+        (self.root / "cache").mkdir()
+        (self.root / "cache").chmod(0o777)
         self.program = self.clone / PROGRAM.relative_to(HOME)
         self.second_program = self.clone / SECOND_PROGRAM.relative_to(HOME)
-        self.environment = {**os.environ, "TMPDIR": str(self.temporary)}
+        self.environment = {**os.environ, "TMPDIR": str(self.temporary), "XDG_CACHE_HOME": str(self.root / "cache")}
         self.is_unwritable = False
         try:
             self.make_clone()
@@ -130,7 +145,7 @@ class Place:
         put_built(PROGRAM, self.program)
 
     def needs_second_program(self) -> None:
-        """The same with the second program."""
+        """Copies the built `fractal_watch` to its place; skips the integration test if it is missing."""
         put_built(SECOND_PROGRAM, self.second_program)
 
     def stub(self, path: Word, text: str) -> pathlib.Path:
@@ -150,14 +165,18 @@ class Place:
 
     def without(self, *names: str) -> None:
         """Takes commands out of the path, by a folder of links to all others."""
-        folder = self.root / "path"
+        folder = self.root / f"path without {' '.join(names)}"
         folder.mkdir()
-        for place in os.environ["PATH"].split(":"):
+        for place in self.environment["PATH"].split(":"):
             for path in pathlib.Path(place).iterdir() if os.path.isdir(place) else ():
                 link = folder / path.name
                 if path.name not in names and not link.exists() and not link.is_symlink():
                     link.symlink_to(path)
         self.environment["PATH"] = str(folder)
+
+    def nothing_answers(self) -> None:
+        """Takes away all that answers where the program isn't built."""
+        self.without("rt", "node", "nodejs", "deno")
 
     def make_unwritable(self) -> None:
         """Takes the right to write to the clone away; calls are made as nobody where root would keep it."""

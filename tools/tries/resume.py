@@ -112,6 +112,7 @@ def damaged_pieces_are_made_again(place: Place) -> None:
 
 def what_is_no_report_is_not_kept(place: Place) -> None:
     """without a program no folder is made, and what another program wrote isn't in the way of the next call"""
+    place.nothing_answers()
     image, folder = example(place, "hello"), place.root / "pieces"
     words = ("fractal resume", image, folder, "--every", "2")
     place.call(*words).sentence("isn't built")
@@ -119,9 +120,9 @@ def what_is_no_report_is_not_kept(place: Place) -> None:
     expect(not folder.exists(), "no folder")
     program, report = place.root / "program", example(place, "hello", "report")
     place.stub(program, "cat >/dev/null\n")
-    place.call(*words, "--program", str(program)).sentence("`save` ended with status 0, and with no such report")
+    place.call(*words, "--sim", str(program)).sentence("`save` ended with status 0, and with no such report")
     place.stub(program, f"cat >/dev/null; case $1 in check) echo check ok 1 ;; *) cat '{report}' ;; esac\n")
-    answer = place.call(*words, "--program", str(program))
+    answer = place.call(*words, "--sim", str(program))
     expect((answer.status, (folder / "report").read_bytes()) == (0, report.read_bytes()), "the run", answer)
 
 
@@ -129,7 +130,7 @@ def ended_calls_leave_no_program(place: Place) -> None:
     """a signal to the script alone ends the program that it called too"""
     mark, words = place.root / "started", (example(place, "hello"), place.root / "pieces", "--every", "2")
     program = place.stub(place.root / "program", f"echo $$ >'{mark}.part'; mv '{mark}.part' '{mark}'; exec sleep 100\n")
-    process = subprocess.Popen([*place.command("fractal resume"), *words, "--program", program],
+    process = subprocess.Popen([*place.command("fractal resume"), *words, "--sim", program],
                                env=place.environment, stdin=subprocess.DEVNULL, stderr=subprocess.DEVNULL)
     wait_for(mark.exists)
     process.terminate()
@@ -150,12 +151,12 @@ def resume_refuses_bad_words(place: Place) -> None:
         ((image, folder, "--every", "2", "--workers", "2"), ("--workers takes 0 alone",)),
         ((image, folder, "--every", "2", "--commits", "2"), ("--commits has no place here",)),
         ((image, folder, "--every", "2", "--tiles", "99"), ("--tiles takes 1 to 16", "`99`")),
-        ((image, folder, "--every", "2", "--tyles", "9"), ("`--tyles` isn't known",)),
+        ((image, folder, "--every", "2", "--tyles", "9"), ("unknown option --tyles",)),
         ((image, "--every", "2"), ("an image and a folder",)),
         ((place.root / "none", folder, "--every", "2"), ("no such file",)),
-        ((example(place, "hello", "report"), folder, "--every", "2"), ("this is no image",)),
+        ((example(place, "hello", "report"), folder, "--every", "2"), ("this isn't an image",)),
         ((image, other, "--every", "2"), ("holds other files",)),
-        ((image, other / "notes", "--every", "2"), ("no folder",)),
+        ((image, other / "notes", "--every", "2"), ("isn't a folder",)),
     ]
     one_sentence_each([(place.call("fractal resume", *words), parts) for words, parts in refusals])
     expect(not folder.exists(), "no folder of pieces")

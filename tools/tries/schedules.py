@@ -5,7 +5,6 @@ import csv
 import os
 import pathlib
 import re
-import xml.etree.ElementTree
 
 from yotarimu.programs.examples import SCHEDULES
 
@@ -32,57 +31,58 @@ def write_file(place: Place, name: str, data: bytes) -> str:
 # ---- draw and tally
 
 
-def schedules_are_drawn(place: Place) -> None:
-    """each schedule of the project is drawn, with its words, answers and numbers, and commits by their names"""
+def runs_are_drawn(place: Place) -> None:
+    """each schedule is drawn from its event log, as play draws it; a run of lockstep is drawn by rounds, and a long one
+    with bars that stand for several attempts"""
+    place.needs_second_program()
     for name in SCHEDULES:
-        answer = place.call("fractal draw", *schedule(place, name.partition("/")[2]))
-        expect((answer.status, answer.errors) == (0, ""), f"a picture of {name}", answer)
-        picture_in(answer.output)
-    texts = picture_in(place.call("fractal draw", *schedule(place, "conflict")).output)
-    for part in ("tile 1", "dispatch", "2 back", "task 2.0", "ts 2", "17",
-                 "17 acts; 3 commits; 2 tasks taken back; end normal"):
-        expect(part in texts, f"`{part}`", texts)
-    expect("6: step 1 0: ok, 2 tasks taken back" in texts, "what a mark tells when pointed at", texts)
+        folder = place.clone / "examples" / name
+        answer = place.call("fractal play", str(folder), "--picture", "picture.svg")
+        expect(answer.errors == "", f"a picture of {name}", answer)
+        expect("commits" in picture_in((place.root / "picture.svg").read_bytes()), f"words in the picture of {name}")
+    image = place.call("fractal generate", "walk", "7", "2000").output
+    lines = write_file(place, "lines", place.call("fractal", "watch", "lockstep", "4000", "1", stdin=image).output)
+    picture = place.call("fractal draw", lines).output
+    expect("round" in picture_in(picture) and len(picture) < 2_000_000, "a picture by rounds", len(picture))
+    expect("act" in picture_in(place.call("fractal draw", lines, "--by", "acts").output), "a picture by acts")
 
 
-def long_schedules_are_drawn(place: Place) -> None:
-    """up to 400 acts have marks; a longer schedule is drawn by rounds, and a script without rounds by acts"""
-    def drawn(script: str, acts: int, tail: bytes = b"") -> tuple[int, str]:
-        answer = place.call("fractal draw", script, "-", stdin=b"empty 0\n" * acts + tail + OPEN_REPORT)
-        root = xml.etree.ElementTree.fromstring(answer.output)
-        return len([it for it in root.iter() if it.tag.endswith("title")]), " ".join(picture_in(answer.output))
-
-    lockstep = ["fractal lockstep", "4", "2"]
-    script = write_file(place, "script", place.call(*lockstep, "20").output)
-    titles, text = drawn(script, 400)
-    expect(titles == 400 and "400 acts; 0 commits" in text, "a mark for each act", text)
-    script = write_file(place, "script", place.call(*lockstep, "200").output)
-    titles, text = drawn(script, 3_400, b"ended 0\n" * 600)
-    expect("3,400 acts and 600 after the end; a column is 2 rounds; 0 commits" in text, "rounds", text)
-    expect(titles == 4 * 85, "a cell for each tile and two rounds before the end", titles)
-    script = write_file(place, "script", b"commit\n" * 500 + b"split 1\n")
-    expect("501 acts; a column is 5 acts; " in drawn(script, 501)[1], "acts")
+def other_lines_are_not_drawn(place: Place) -> None:
+    """what isn't an event log, invalid arguments and missing files are reported in a sentence"""
+    folder = place.clone / "examples" / "schedules" / "conflict"
+    lines, listing, name = str(folder / "lines"), str(folder / "listing"), "fractal draw"
+    one_sentence_each([
+        (place.call(name), ["LINES"]),
+        (place.call(name, lines, listing, lines), ["LINES"]),
+        (place.call(name, lines, "--fast"), ["--fast"]),
+        (place.call(name, lines, "--by", "days"), ["--by must be rounds or acts"]),
+        (place.call(name, lines, "--by", "rounds"), ["only a run in lockstep has rounds"]),
+        (place.call(name, "nowhere"), ["nowhere", "no such file"]),
+        (place.call(name, lines, "nowhere"), ["nowhere", "no such file"]),
+        (place.call(name, str(folder / "script")), ["script:1:"]),
+        (place.call(name, "-", stdin=(folder / "lines").read_bytes()[:-1]), ["no newline"]),
+    ])
 
 
 def schedules_are_summed_up(place: Place) -> None:
     """a played schedule is summed up by act and answer, and several outputs stand side by side and in one plot"""
     script, said = schedule(place, "stall")
-    answer = place.call("fractal tally", script, said)
+    answer = place.call("fractal figures", "--script", script, said)
     for line in ("| Stalls | step 1 |", "| Dispatches a commit | 2.00 |", "| End | open |",
                  "| coalesce | 1 | 1 | 0 | 0 | 0 | 2 | 0 |"):
         expect(line in answer.output.decode(), f"`{line}`", answer.output.decode())
     script, said = schedule(place, "two_lines")
     apart = schedule(place, "two_lines_apart")[1]
-    answer = place.call("fractal tally", script, said, apart, "--plot", "a plot.svg")
-    expect("| Tasks taken back | 1 | 0 |" in answer.output.decode(), "both outputs", answer)
+    answer = place.call("fractal figures", "--script", script, said, apart, "--plot", "a plot.svg")
+    expect("| Tasks aborted | 1 | 0 |" in answer.output.decode(), "both outputs", answer)
     expect("commits" in picture_in((place.root / "a plot.svg").read_bytes()), "the axis's name")
     script = write_file(place, "lockstep", place.call("fractal lockstep", "2", "1", "30").output)
     given = b"empty 0\n" * 236 + b"ended 0\n" * 4 + OPEN_REPORT
-    answer = place.call("fractal tally", script, "-", "--csv", "t.csv", stdin=given)
+    answer = place.call("fractal figures", "--script", script, "-", "--csv", "t.csv", stdin=given)
     expect("| Rounds | 30 |" in answer.output.decode(), "rounds of a lockstep schedule", answer)
     (place.root / "link.csv").symlink_to("t.csv")
     for target in ("/dev/null", "link.csv"):
-        answer = place.call("fractal tally", script, "-", "--csv", target, stdin=given)
+        answer = place.call("fractal figures", "--script", script, "-", "--csv", target, stdin=given)
         expect((answer.status, answer.errors) == (0, ""), f"CSV to {target}", answer)
     expect((place.root / "link.csv").is_symlink() and pathlib.Path("/dev/null").is_char_device(), "a link and a device")
     row, = csv.DictReader((place.root / "t.csv").read_text().splitlines())
@@ -92,30 +92,29 @@ def schedules_are_summed_up(place: Place) -> None:
 def other_outputs_are_refused(place: Place) -> None:
     """an output that isn't a script's, a script that is none, bad words and missing files are told in a sentence"""
     script, said = schedule(place, "conflict")
-    for name in ("fractal draw", "fractal tally"):
-        one_sentence_each([
-            (place.call(name), ["SCRIPT", "OUTPUT"]),
-            (place.call(name, script), ["SCRIPT", "OUTPUT"]),
-            (place.call(name, script, said, "--fast"), ["--fast"]),
-            (place.call(name, "nowhere", said), ["nowhere", "no such file"]),
-            (place.call(name, script, "nowhere"), ["nowhere", "no such file"]),
-            (place.call(name, said, said), ["said:1:", "`ok 0`", "no line of a script"]),
-            (place.call(name, script, script), ["script:1:", "`dispatch 0`", "no answer"]),
-            (place.call(name, script, schedule(place, "kept_trap")[1]), ["said:16:", "no answer"]),
-            (place.call(name, script, "-", stdin=b"fault script 3\n"), ["played nothing", "fault script 3"]),
-            (place.call(name, script, "-", stdin=b"ok 0\n" * 17 + OPEN_REPORT), ["3 commits", "0 tasks"]),
-            (place.call(name, script, "-", stdin=b"ok 0\n" * 17), ["-:18:", "fractal 1"]),
-            (place.call(name, "-", said, stdin=b"dispatch 16\n"), ["-:1:", "16 tiles"]),
-            (place.call(name, "-", said, stdin=b"dispatch 00\n"), ["-:1:", "`dispatch 00`"]),
-            (place.call(name, "-", said, stdin=b"commit\n\ncommit\n"), ["-:2:"]),
-            (place.call(name, "-", said, stdin=b"commit\x1b[2J\n"), ["-:1:", "`commit\\x1b[2J`"]),
-        ])
+    name = "fractal figures --script"
     one_sentence_each([
-        (place.call("fractal draw", script, said, said), ["SCRIPT", "OUTPUT"]),
-        (place.call("fractal tally", script, said, said), ["twice"]),
-        (place.call("fractal tally", script, said, "--plot", "nowhere/x.svg"), ["nowhere", "no such folder"]),
-        (place.call("fractal tally", script, said, "--plot"), ["value is missing"]),
-        (place.call("fractal tally", "-", said), ["no act"]),
+        (place.call(name), ["--script needs a value"]),
+        (place.call(name, script), ["OUTPUT"]),
+        (place.call(name, script, said, "--fast"), ["--fast"]),
+        (place.call(name, "nowhere", said), ["nowhere", "no such file"]),
+        (place.call(name, script, "nowhere"), ["nowhere", "no such file"]),
+        (place.call(name, said, said), ["said:1:", "`ok 0`", "isn't a line of a script"]),
+        (place.call(name, script, script), ["script:1:", "`dispatch 0`", "isn't an answer"]),
+        (place.call(name, script, schedule(place, "kept_trap")[1]), ["said:16:", "isn't an answer"]),
+        (place.call(name, script, "-", stdin=b"fault script 3\n"), ["played nothing", "fault script 3"]),
+        (place.call(name, script, "-", stdin=b"ok 0\n" * 17 + OPEN_REPORT), ["3 commits", "0 tasks"]),
+        (place.call(name, script, "-", stdin=b"ok 0\n" * 17), ["-:18:", "fractal 1"]),
+        (place.call(name, "-", said, stdin=b"dispatch 16\n"), ["-:1:", "16 tiles"]),
+        (place.call(name, "-", said, stdin=b"dispatch 00\n"), ["-:1:", "`dispatch 00`"]),
+        (place.call(name, "-", said, stdin=b"commit\n\ncommit\n"), ["-:2:"]),
+        (place.call(name, "-", said, stdin=b"commit\x1b[2J\n"), ["-:1:", "`commit\\x1b[2J`"]),
+    ])
+    one_sentence_each([
+        (place.call("fractal figures", "--script", script, said, said), ["twice"]),
+        (place.call("fractal figures", "--script", script, said, "--plot", "nowhere/x"), ["nowhere", "no such folder"]),
+        (place.call("fractal figures", "--script", script, said, "--plot"), ["needs a value"]),
+        (place.call("fractal figures", "--script", "-", said), ["isn't an act"]),
     ])
     place.is_clean()
 
@@ -126,7 +125,7 @@ def inputs_are_kept(place: Place) -> None:
     script, said = schedule(place, "conflict")
     (place.root / "link").symlink_to(script)
     before = {path: path.read_bytes() for path in folder.iterdir()}
-    play, tally = ["fractal play", str(folder)], ["fractal tally", script, said]
+    play, tally = ["fractal play", str(folder)], ["fractal figures", "--script", script, said]
     one_sentence_each([
         *((place.call(*play, "--plain", str(folder / name)), [name, "is read"])
           for name in ("script", "image.bin", "words")),
@@ -137,7 +136,7 @@ def inputs_are_kept(place: Place) -> None:
         (place.call(*tally, "--plot", script), ["script", "is read"]),
         (place.call(*tally, "--plot", "new", "--csv", "new"), ["new", "one file"]),
         (place.call(*tally, "--plot", ""), ["folder"]),
-        (place.by_shell('"$0" tally "$1" - --csv "$2" <"$2"', *tally[1:]), ["is read"]),
+        (place.by_shell('"$0" figures --script "$1" - --csv "$2" <"$2"', script, said), ["is read"]),
     ])
     expect(before == {path: path.read_bytes() for path in folder.iterdir()}, "the same files")
     expect(not (place.root / "new").exists(), "no output")
@@ -147,7 +146,7 @@ def odd_names_are_borne(place: Place) -> None:
     """a name with bytes that are no text, or with controls, stands escaped in tables, CSV and a well-formed plot"""
     script, said = schedule(place, "conflict")
     other = write_file(place, "said\udcff\x01", pathlib.Path(said).read_bytes())
-    answer = place.call("fractal tally", script, said, other, "--csv", "t.csv", "--plot", "p.svg")
+    answer = place.call("fractal figures", "--script", script, said, other, "--csv", "t.csv", "--plot", "p.svg")
     expect((answer.status, answer.errors) == (0, ""), "a table", answer)
     shown = "said\\udcff\\x01"
     for text in (answer.output.decode(), (place.root / "t.csv").read_text(), " ".join(
@@ -160,7 +159,7 @@ def odd_stored_words_are_told(place: Place) -> None:
     place.stub(place.program, "cat >/dev/null\n")
     place.stub(place.second_program, "cat >/dev/null; echo '[1'\n")
     answer = place.call("fractal test", "answers")
-    expect(answer.status == 1 and b"tells what is no line of JSON" in answer.output, "a failure", answer)
+    expect(answer.status == 1 and b"tells what isn't a line of JSON" in answer.output, "a failure", answer)
     folder = place.clone / "examples" / "schedules" / "conflict"
     (folder / "said").write_bytes(b"\xff\xfe\n")
     place.stub(place.second_program, "cat >/dev/null; echo '{}'\n")
@@ -238,7 +237,7 @@ def studies_are_made(place: Place) -> None:
         (place.call("fractal study", "nowhere"), ["nowhere", "no such file"]),
         (place.call("fractal study", image, "--towers", "1"), ["--towers"]),
         (place.call("fractal study", image, "--line", "5"), ["--line", "`5`"]),
-        (place.call("fractal study", image, "--program", "nowhere"), ["nowhere", "isn't built"]),
+        (place.call("fractal study", image, "--watch", "nowhere"), ["nowhere", "isn't built"]),
         (place.call("fractal study", str(place.clone / "README.md")), ["README.md:1:", "fault: image 2 0"]),
         (place.call("fractal study", image, "--rounds", "0"), ["--rounds"]),
         (place.call("fractal study", image, "--columns", "end,time"), ["--columns", "`time`"]),
@@ -248,7 +247,7 @@ def studies_are_made(place: Place) -> None:
     ])
     odd = write_file(place, os.fsdecode(b"odd \xff"), (place.root / "image").read_bytes())
     answer = place.call("fractal study", odd, "--csv", "x.csv")
-    expect(answer.status == 0 and "odd \\udcff" in (place.root / "x.csv").read_text(), "a name that is no text", answer)
+    expect(answer.status == 0 and "odd \\udcff" in (place.root / "x.csv").read_text(), "a name that isn't text", answer)
 
 
 def studies_have_the_acts_of_schedules(place: Place) -> None:
@@ -261,11 +260,11 @@ def studies_have_the_acts_of_schedules(place: Place) -> None:
     row, = csv.DictReader((place.root / "study.csv").read_text().splitlines())
     script = place.call("fractal lockstep", "3", "2", row["rounds"]).output
     said = place.call("fractal", "steps", *words, stdin=(place.root / "image").read_bytes() + script)
-    words = ["fractal tally", write_file(place, "script", script), "-", "--csv", "tally.csv"]
+    words = ["fractal figures", "--script", write_file(place, "script", script), "-", "--csv", "tally.csv"]
     answer = place.call(*words, stdin=said.output)
     expect(answer.status == 0, "a sum", answer)
     other, = csv.DictReader((place.root / "tally.csv").read_text().splitlines())
-    for name, same in (("acts", "acts"), ("rounds", "rounds"), ("commits", "commits"), ("taken", "taken back"),
+    for name, same in (("acts", "acts"), ("rounds", "rounds"), ("commits", "commits"), ("taken", "aborted"),
                        ("steps", "step stall"), ("dispatches", "dispatches a commit")):
         expect(row[name] == other.get(same, "0"), f"the same {same}", (row, other))
 
@@ -283,12 +282,12 @@ def endless_choices_are_rows(place: Place) -> None:
     expect([row["--tiles"] for row in rows] == ["1", "16"] and rows[0]["rounds"] == "250", "plain numbers", rows)
     expect(abs(int(rows[1]["commits"]) / int(rows[1]["rounds"]) - float(rows[1]["round"])) < 0.01, "a ratio", rows)
     answer = place.call(*words, "--tiles", "1")
-    answer.sentence("no run came to an end")
+    answer.sentence("no run ended")
     expect(b"none in 250 rounds" in answer.output, "the row", answer)
     program = str(place.second_program)
     text = f"case $* in *'--tiles 2'*) cat >/dev/null; exit 5 ;; esac; exec '{program}' \"$@\"\n"
     stub = place.stub(place.root / "stub", text)
-    answer = place.call("fractal study", image, "--tiles", "16,2,8", "--program", str(stub))
+    answer = place.call("fractal study", image, "--tiles", "16,2,8", "--watch", str(stub))
     ends = [line.split(" | ")[-1] for line in answer.output.decode().splitlines()[2:]]
     expect((answer.status, ends) == (0, ["normal |", "none: status 5 |", "normal |"]), "all rows", answer)
 
@@ -340,7 +339,7 @@ def odd_pages_are_refused(place: Place) -> None:
     study, block = "fractal study", "```\n{}\n```\n\n| A |\n"
     other = place.root / "other"
     for line, part in (("./fractal lockstep '1 1 1", "quotation marks"), ("./fractal lockstep 1\0", "byte 0"),
-                       ("./fractal generate walk 7 10", "tells no text"),
+                       ("./fractal generate walk 7 10", "prints no text"),
                        ("./fractal lockstep 1 1 1 > ../other", "outside"),
                        (f"./fractal lockstep 1 1 1 > '{other}'", "outside"), ("./fractal help", "no block")):
         data = block.format(line).encode()
@@ -370,7 +369,7 @@ def lines_of_pages_end_as_they_did(place: Place) -> None:
 def study_is_as_it_was(place: Place) -> None:
     """the tables of the study's shortest runs, those of the queues and of one placer or another, come out again"""
     place.needs_second_program()
-    study = (place.clone / "docs" / "machine" / "STUDY.md").read_text()
+    study = (place.clone / "docs" / "machine" / "STUDY_TABLES.md").read_text()
     text = "```\n./fractal generate walk 7 250 > small.bin\n```\n\n"
     text += study[study.index("## Queues"):study.index("## Filters")]
     answer = place.call("fractal study", "--page", write_file(place, "page.md", text.encode()))
@@ -382,18 +381,19 @@ def threads_are_checked(place: Place) -> None:
     """runs with host threads are checked, a report that isn't a run's fails, and so does another status"""
     place.needs_program()
     wanted = "".join(f"hello with {workers} workers: 3 runs accepted, one answer\n" for workers in (2, 4, 16))
-    answer = place.call("fractal workers", "hello", "--runs", "3", "--jobs", "2")
+    answer = place.call("fractal dev workers", "hello", "--runs", "3", "--jobs", "2")
     expect(answer == Answer(0, wanted.encode(), ""), "nine runs", answer)
     refusing = "[ $1 = run ] || { echo 'fault journal 2'; exit 8; }"
     for text, part in (("exit 3", "status 3"), (refusing, "fault journal 2")):
         stub = place.stub(place.root / "stub", f"cat >/dev/null; {text}; printf '\\nend normal\\n'\n")
-        answer = place.call("fractal workers", "hello", "--runs", "2", "--program", str(stub))
+        answer = place.call("fractal dev workers", "hello", "--runs", "2", "--sim", str(stub))
         expect(answer.status == 1 and "2 of 2 " in answer.output.decode(), "a failure", answer)
         expect(part in answer.output.decode(), f"`{part}`", answer)
     one_sentence_each([
-        (place.call("fractal workers", "mine"), ["none of the project's examples"]),
-        (place.call("fractal workers", "--runs", "0"), ["--runs"]),
-        (place.call("fractal workers", "--program", "nowhere"), ["nowhere", "isn't built"]),
+        (place.call("fractal dev workers", "mine"), ["unknown NAME mine"]),
+        (place.call("fractal dev workers"), ["it needs a NAME or --all"]),
+        (place.call("fractal dev workers", "hello", "--runs", "0"), ["--runs must be 1 to 100000, not 0."]),
+        (place.call("fractal dev workers", "hello", "--sim", "nowhere"), ["nowhere", "isn't built"]),
     ])
 
 
@@ -408,7 +408,7 @@ def swept_threads_are_checked(place: Place) -> None:
 def scarce_memory_is_answered(place: Place) -> None:
     """under a falling limit of address space each run answers whole or with status 5, and any other program fails"""
     place.needs_program()
-    answer = place.call("fractal memory", "check", "load")
+    answer = place.call("fractal dev memory", "check", "load")
     told = re.findall(r"(\w+): [\d,]+ runs: [\d,]+ whole answers, ([\d,]+) out of memory, ", answer.output.decode())
     expect((answer.status, [name for name, _ in told]) == (0, ["check", "load"]), "two lines", answer)
     expect(all(count != "0" for _, count in told), "status 5", told)
@@ -416,20 +416,20 @@ def scarce_memory_is_answered(place: Place) -> None:
     for text, part in (("echo part; exit 5", "status 5 and `part`"), ("exit 3", "status 3 and ``"),
                        ("echo whole", "status 5 never came")):
         stub = place.stub(place.root / "stub", f"{scarce} || {{ {text}; exit; }}; echo whole\n")
-        answer = place.call("fractal memory", "load", "--program", str(stub))
+        answer = place.call("fractal dev memory", "load", "--sim", str(stub))
         expect(answer.status == 1 and part in answer.output.decode(), f"`{part}`", answer)
     one_sentence_each([
-        (place.call("fractal memory", "mine"), ["`mine`", "run, workers"]),
-        (place.call("fractal memory", "--program"), ["value is missing"]),
-        (place.call("fractal memory", "--program", "nowhere"), ["nowhere", "isn't built"]),
-        (place.call("fractal memory", "--program", str(place.clone / "README.md")), ["README.md", "can't be run"]),
+        (place.call("fractal dev memory", "mine"), ["unknown NAME mine", "run, workers"]),
+        (place.call("fractal dev memory", "--sim"), ["needs a value"]),
+        (place.call("fractal dev memory", "--all", "--sim", "nowhere"), ["nowhere", "isn't built"]),
+        (place.call("fractal dev memory", "load", "--sim", str(place.clone / "README.md")), ["can't be run"]),
     ])
 
 
 def refused_allocations_are_answered(place: Place) -> None:
     """each allocation of three schedules is refused in turn: status 5 or the whole answer, as many as TOOLS says"""
     place.needs_program()
-    answer = place.call("fractal allocations")
+    answer = place.call("fractal dev allocations", "--all")
     told = re.findall(r"(\w+): ([\d,]+) allocations, each refused once: ([\d,]+) out of memory, ([\d,]+) whole "
                       "answers, 0 killed", answer.output.decode())
     expect((answer.status, [name for name, *_ in told]) == (0, ["conflict", "children", "four_cores"]), "lines", answer)
@@ -440,11 +440,11 @@ def refused_allocations_are_answered(place: Place) -> None:
         expect(row in page, f"`{row}` in TOOLS.md")
     stub = str(place.stub(place.root / "stub", "cat >/dev/null; exit 3\n"))
     one_sentence_each([
-        (place.call("fractal allocations", "--program", stub), ["conflict", "status 3"]),
-        (place.call("fractal allocations", "mine"), ["`mine`", "conflict, children"]),
-        (place.call("fractal allocations", "--program"), ["value is missing"]),
-        (place.call("fractal allocations", "--program", "nowhere"), ["nowhere", "isn't built"]),
-        (place.call("fractal allocations", "--program", files_of(place, "hello")[0]), ["image.bin", "can't be run"]),
+        (place.call("fractal dev allocations", "--all", "--sim", stub), ["conflict", "status 3"]),
+        (place.call("fractal dev allocations", "mine"), ["unknown NAME mine", "conflict, children"]),
+        (place.call("fractal dev allocations", "--sim"), ["needs a value"]),
+        (place.call("fractal dev allocations", "--all", "--sim", "nowhere"), ["nowhere", "isn't built"]),
+        (place.call("fractal dev allocations", "children", "--sim", files_of(place, "hello")[0]), ["can't be run"]),
     ])
 
 
@@ -466,14 +466,14 @@ def benches_are_told(place: Place) -> None:
         (place.call("bench/run", "--compare", old), ["bench/run --help"]),
         (place.call("bench/run", "--compare", old, str(place.clone / "README.md")), ["README.md", "no figures"]),
         *((place.call("bench/run", "--compare", old, write_file(place, "odd.csv", head + row)), ["odd.csv:2:", part])
-          for row, part in ((b"a,b,c,nan\n", "no figure"), (b"a,b,c,1e999\n", "no figure"),
-                            (b"a," + b"b" * 200_000 + b",c,1\n", "no row of CSV"))),
+          for row, part in ((b"a,b,c,nan\n", "isn't a figure"), (b"a,b,c,1e999\n", "isn't a figure"),
+                            (b"a," + b"b" * 200_000 + b",c,1\n", "isn't a row of CSV"))),
     ])
     place.stub(place.program, "cat >/dev/null\n")
     place.call("bench/run", "--workers", "--csv=").sentence("folder")
 
 
-# A second program that says one thing to all: a line with tasks that were taken back, and an end.
+# A second program that says one thing to all: a line with tasks that were aborted, and an end.
 WATCHING = """cat >/dev/null; printf '{{"at":1,"back":{back}}}\\n{{"end":"normal","n":{end}}}\\n'\n"""
 
 
@@ -511,27 +511,12 @@ def programs_are_held_against_each_other(place: Place) -> None:
     ])
 
 
-def interrupted_plays_leave_nothing(place: Place) -> None:
-    """a study, runs with threads or scarce memory, and a bench that are interrupted say so, and end their programs"""
-    mark = place.root / "started"
-    for program in (place.program, place.second_program):
-        place.stub(program, f"touch '{mark}'; exec sleep 100\n")
-    image = files_of(place, "hello")[0]
-    for words in (["fractal study", image, "--jobs", "2", "--line", "4,8"], ["fractal workers", "hello"],
-                  ["fractal memory", "steps"], ["bench/run", "--workers"],
-                  ["bench/same", str(place.program), str(place.program), "9"]):
-        mark.unlink(missing_ok=True)
-        place.interrupt(*words, ready=mark.exists).sentence("interrupted", status=130)
-    place.is_clean()
-
-
 TRIES = (
-    schedules_are_drawn, long_schedules_are_drawn, schedules_are_summed_up, other_outputs_are_refused,
+    runs_are_drawn, other_lines_are_not_drawn, schedules_are_summed_up, other_outputs_are_refused,
     inputs_are_kept, odd_names_are_borne, odd_stored_words_are_told, lockstep_is_written,
     images_are_generated, studies_are_made, studies_have_the_acts_of_schedules, endless_choices_are_rows,
     pages_are_made_again, odd_pages_are_refused, lines_of_pages_end_as_they_did, study_is_as_it_was,
     threads_are_checked,
     swept_threads_are_checked, scarce_memory_is_answered, refused_allocations_are_answered, benches_are_told,
     programs_are_held_against_each_other,
-    interrupted_plays_leave_nothing,
 )

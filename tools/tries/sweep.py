@@ -7,10 +7,9 @@ import pathlib
 from tries.files import files_of, picture_in, rows_in
 from tries.place import Answer, Place, expect, one_sentence_each
 
-# A program that answers `run` and `load`, with the status that its number of tasks leads to.
+# A program that answers `run`, with the status that its number of tasks leads to.
 LOAD = """cat >/dev/null
 case $1 in
-    load) printf 'load %s %s %s\\ncommits 200\\noutput 41\\nwindow 10000000 00000007\\nend normal\\n' "$2" "$3" "$4" ;;
     *) echo 'fault usage'; exit 1 ;;
 esac
 """
@@ -55,24 +54,24 @@ def files_are_written_through(place: Place) -> None:
     (place.root / "link.csv").symlink_to("target.csv")
     words = ["fractal sweep", image, "--budget", "1,2"]
     for _ in range(2):
-        expect(place.call(*words, "--csv", "link.csv") == Answer(0, b"", ""), "rows through a link")
+        expect(place.call(*words, "--output", "link.csv") == Answer(0, b"", ""), "rows through a link")
         expect((place.root / "link.csv").is_symlink(), "a link", list(place.root.iterdir()))
         expect(len(rows_in((place.root / "target.csv").read_bytes())) == 2, "two rows behind the link")
     for device in ("/dev/null", "/dev/stdout"):
-        answer = place.call(*words, "--csv", device)
+        answer = place.call(*words, "--output", device)
         expect((answer.status, answer.errors) == (0, ""), f"rows to {device}", answer)
         expect(pathlib.Path("/dev/null").is_char_device(), "the device")
         expect(len(rows_in(answer.output)) == (2 if device == "/dev/stdout" else 0), "rows", answer)
-    answer = place.by_shell('"$0" sweep "$1" --budget 1,2 --csv /dev/stdout >own.csv', image)
+    answer = place.by_shell('"$0" sweep "$1" --budget 1,2 --output /dev/stdout >own.csv', image)
     expect(len(rows_in((place.root / "own.csv").read_bytes())) == 2, "rows in the file that is standard output", answer)
     (place.root / "kept.csv").write_text("old")
     (place.root / "kept.csv").chmod(0o640)
-    place.call(*words, "--csv", "kept.csv")
+    place.call(*words, "--output", "kept.csv")
     expect((place.root / "kept.csv").stat().st_mode & 0o777 == 0o640, "the file's own mode")
-    answer = place.call(*words, "--csv", "/dev/full")
+    answer = place.call(*words, "--output", "/dev/full")
     answer.sentence("no space")
     expect(len(rows_in(answer.output)) == 2, "the rows on standard output", answer)
-    for words in (["fractal sweep", "nowhere"], ["fractal sweep", image, "--csv", "nowhere/x"]):
+    for words in (["fractal sweep", "nowhere"], ["fractal sweep", image, "--output", "nowhere/x"]):
         expect(place.call(*words).output == b"", "nothing before a refusal", words)
 
 
@@ -82,7 +81,8 @@ def shards_are_joined(place: Place) -> None:
     image = files_of(place, "hello")[0]
     words = ["fractal sweep", image, "--commits", "1..7"]
     whole = place.call(*words).output
-    parts = [place.call(*words, "--shard", f"{place_of}/3", "--csv", f"part {place_of}.csv") for place_of in (1, 2, 3)]
+    parts = [place.call(*words, "--shard", f"{place_of}/3", "--output", f"part {place_of}.csv")
+             for place_of in (1, 2, 3)]
     expect(all(part == Answer(0, b"", "") for part in parts), "three files", parts)
     joined = b"".join((place.root / f"part {place_of}.csv").read_bytes() for place_of in (1, 2, 3))
     names = ("--commits", "status", "output")
@@ -92,16 +92,6 @@ def shards_are_joined(place: Place) -> None:
     answer = place.call("fractal sweep", "--rows", "joined.csv", "--plot", "seconds,commits,joined.svg")
     expect(answer.status == 0, "a plot", answer)
     picture_in((place.root / "joined.svg").read_bytes())
-
-
-def loads_are_swept(place: Place) -> None:
-    """a generated load is swept, its words are counted, and its text, which has no journal, isn't checked"""
-    place.stub(place.program, LOAD)
-    answer = place.call("fractal sweep", "--load", "walk,7,100", "--budget", "1..3")
-    place.call("fractal sweep", "--load", "walk,7").sentence("KIND,SEED,SIZE")
-    place.call("fractal sweep", "--load", "walk,7,100", "--check").sentence("fractal generate")
-    cells = [(row["input"], row["status"], row["commits"]) for row in rows_in(answer.output)]
-    expect(cells == [("load walk 7 100", "0", "200")] * 3, "three rows", answer)
 
 
 def progress_is_shown(place: Place) -> None:
@@ -119,16 +109,16 @@ def sweeps_keep_their_own_files(place: Place) -> None:
     image = place.root / os.fsdecode(b"\xff.bin")
     image.write_bytes(pathlib.Path(files_of(place, "hello")[0]).read_bytes())
     (place.root / "link").symlink_to(image)
-    words = ("fractal sweep", str(image), "--program", str(program))
-    expect(place.call(*words, "--csv", "rows.csv") == Answer(0, b"", ""), "rows")
+    words = ("fractal sweep", str(image), "--sim", str(program))
+    expect(place.call(*words, "--output", "rows.csv") == Answer(0, b"", ""), "rows")
     rows, before = place.root / "rows.csv", image.read_bytes()
     expect(b"\\udcff.bin" in rows.read_bytes(), "the image's name", rows.read_bytes())
     kept = rows.read_bytes()
-    for more in (("--csv", str(image)), ("--csv", "link"), ("--plot", f"commits,tiles,{image}"),
-                 ("--csv", str(program)), ("--csv", "new", "--plot", "commits,tiles,./new")):
+    for more in (("--output", str(image)), ("--output", "link"), ("--plot", f"commits,tiles,{image}"),
+                 ("--output", str(program)), ("--output", "new", "--plot", "commits,tiles,./new")):
         place.call(*words, *more).sentence("two outputs" if "new" in more else "isn't written too")
     place.call("fractal sweep", "--rows", "rows.csv", "--plot", "commits,tiles,rows.csv").sentence("isn't written too")
-    place.call(*words, "--csv", "").sentence("this is a folder")
+    place.call(*words, "--output", "").sentence("this is a folder")
     expect((image.read_bytes(), rows.read_bytes()) == (before, kept), "the files as they were")
     expect(not (place.root / "new").exists(), "no file")
 
@@ -148,6 +138,7 @@ def odd_rows_are_plotted_or_refused(place: Place) -> None:
 
 def sweep_refuses_bad_words(place: Place) -> None:
     """bad words, values outside an option's range and missing files are told in a sentence"""
+    place.nothing_answers()
     image, report = files_of(place, "hello")
     sweep = "fractal sweep"
     one_sentence_each([
@@ -155,7 +146,7 @@ def sweep_refuses_bad_words(place: Place) -> None:
         (place.call(sweep), ["IMAGE"]),
         (place.call(sweep, image, report), ["one image"]),
         (place.call(sweep, image, "--towers", "1"), ["--towers"]),
-        (place.call(sweep, image, "--budget"), ["value is missing"]),
+        (place.call(sweep, image, "--budget"), ["needs a value"]),
         (place.call(sweep, image, "--budget", "0"), ["1 to 65536", "`0`"]),
         (place.call(sweep, image, "--budget", "1,,2"), ["``"]),
         (place.call(sweep, image, "--budget", "5..1"), ["1 to 65536"]),
@@ -165,7 +156,7 @@ def sweep_refuses_bad_words(place: Place) -> None:
         (place.call(sweep, image, "--shard", "3/2"), ["K/N"]),
         (place.call(sweep, image, "--shard", "2"), ["K/N"]),
         (place.call(sweep, image, "--plot", "output,budget,x"), ["COLUMN,OPTION,FILE"]),
-        (place.call(sweep, image, "--program", "nowhere"), ["nowhere", "isn't built"]),
+        (place.call(sweep, image, "--sim", "nowhere"), ["nowhere", "isn't built"]),
         (place.call(sweep, "--rows", "nowhere"), ["nowhere", "no such file"]),
         (place.call(sweep, "--rows", report, "--plot", "seconds,budget,x"), ["report"]),
     ])
@@ -174,7 +165,7 @@ def sweep_refuses_bad_words(place: Place) -> None:
         (place.call(sweep, "nowhere"), ["nowhere", "no such file"]),
         (place.call(sweep, image, "--commits", "1..1000", "--budget", "1..1000"), ["1,000,000 runs"]),
         (place.call(sweep, image, "--commits", "1..100000", "--budget", "1..65536"), ["6,553,600,000 runs"]),
-        (place.call(sweep, image, "--csv", "nowhere/x.csv"), ["nowhere/x.csv", "no such folder"]),
+        (place.call(sweep, image, "--output", "nowhere/x.csv"), ["nowhere/x.csv", "no such folder"]),
         (place.call(sweep, image, "--plot", f"seconds,budget,{place.clone}"), ["this is a folder"]),
     ])
     place.is_clean()
@@ -184,7 +175,7 @@ def interrupted_sweeps_leave_nothing(place: Place) -> None:
     """a sweep that is interrupted says so, ends its runs, leaves no file, and tells what was finished"""
     mark = place.root / "started"
     image = files_of(place, "hello")[0]
-    words = ["fractal sweep", image, "--jobs", "2", "--budget", "1..9", "--csv", "x.csv"]
+    words = ["fractal sweep", image, "--jobs", "2", "--budget", "1..9", "--output", "x.csv"]
     report = ("cat >/dev/null; case $* in *budget=1\\ *) "
               "printf '\\n1 0.0 1 0\\noutput -\\nend normal\\n'; exit ;; esac\n")
     for start, finished in (("", 0), (report, 1)):
@@ -198,7 +189,7 @@ def interrupted_sweeps_leave_nothing(place: Place) -> None:
 
 
 TRIES = (
-    grids_are_swept, broken_programs_are_rows, files_are_written_through, shards_are_joined, loads_are_swept,
+    grids_are_swept, broken_programs_are_rows, files_are_written_through, shards_are_joined,
     progress_is_shown, sweeps_keep_their_own_files, odd_rows_are_plotted_or_refused, sweep_refuses_bad_words,
     interrupted_sweeps_leave_nothing,
 )

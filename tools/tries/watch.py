@@ -23,39 +23,42 @@ from tries.words import change, number, some_value
 USAGE = b'{"fault":"usage"}\n'
 # Words that are refused, and what standard error tells of each.
 REFUSED = (
-    ("watch", "behind `watch` stands steps, least or lockstep"),
-    ("watch hop", "`hop`", "steps, least or lockstep"),
-    ("watch run", "`run`"),
-    ("watch views", "behind `views` stands a number from 1 to 4294967295."),
-    ("watch views 0 least", "`0`"),
-    ("watch views 3", "behind `watch views 3` stands steps"),
-    ("watch memory", "behind `watch memory` stands steps, least or lockstep"),
-    ("watch memory memory least", "behind `watch memory` stands", "`memory`"),
-    ("watch memory views 3 least", "behind `watch memory` stands", "`views`"),
-    ("watch views 3 memory least", "behind `watch views 3` stands", "`memory`"),
-    ("watch least memory", "no file stands behind `least`"),
-    ("watch memory lockstep 5", "behind `watch memory lockstep 5` stands a number from 0"),
+    ("watch", "watch needs a mode: steps, least or lockstep."),
+    ("watch hop", "steps, least or lockstep, not hop."),
+    ("watch leest", "did you mean least?"),
+    ("watch run", "not run."),
+    ("watch views", "views needs a number from 1 to 4294967295."),
+    ("watch views 0 least", "not 0."),
+    ("watch views 3", "watch views 3 needs a mode: steps"),
+    ("watch memory", "watch memory needs a mode: steps, least or lockstep"),
+    ("watch memory memory least", "watch memory needs a mode", "not memory."),
+    ("watch memory views 3 least", "watch memory needs a mode", "not views."),
+    ("watch views 3 memory least", "watch views 3 needs a mode", "not memory."),
+    ("watch least memory", "least takes no file argument"),
+    ("watch memory lockstep 5", "watch memory lockstep 5 needs a number from 0"),
     ("watch memory steps both", "cat IMAGE SCRIPT | ", "fractal' watch memory steps"),
-    ("watch memory least --tiles 17", "`17`", "1 to 16"),
+    ("watch memory least --tiles 17", "1 to 16, not 17."),
     ("watch lockstep", "a number from 1 to 1000000"),
-    ("watch lockstep 1000001 1", "`1000001`"),
-    ("watch lockstep 5", "behind `watch lockstep 5` stands a number from 0"),
-    ("watch lockstep 5 x", "`x`"),
+    ("watch lockstep 1000001 1", "not 1000001."),
+    ("watch lockstep 5", "watch lockstep 5 needs a number from 0"),
+    ("watch lockstep 5 x", "not x."),
     ("watch lockstep 5 7 image.bin --tiles 2", "fractal' watch lockstep 5 7 --tiles 2 < image.bin"),
     ("watch steps both", "cat IMAGE SCRIPT | ", "fractal' watch steps"),
-    ("watch least --tiles 17", "`17`", "1 to 16"),
-    ("watch least --towers 1", "`--towers`", "--phase or --filter"),
-    ("watch least --filter", "a value is missing after `--filter`, which takes modulo, bloom, exact."),
-    ("watch least --filter --tiles 2", "a value is missing after `--filter`, which takes modulo", "`--tiles`"),
-    ("watch least --filter blooms", "`blooms` is no value of `--filter`, which takes modulo, bloom, exact."),
-    ("watch least --filter modulo,exact", "`modulo,exact`", "which takes modulo, bloom, exact."),
-    ("watch least --filter=bloom", "`--filter` takes modulo, bloom, exact as a word of its own"),
-    ("watch --filter exact lockstep 5 7 --filter bloom", "`--filter` stands twice", "modulo, bloom, exact"),
-    ("watch --filter exact", "behind `watch` stands steps, least or lockstep; "),
-    ("watch lockstep 5 --filter exact x", "behind `watch lockstep 5` stands a number", "`x`"),
+    ("watch least --tiles 17", "1 to 16, not 17."),
+    ("watch least --towers 1", "unknown option --towers"),
+    ("watch least --filtre exact", "did you mean --filter?"),
+    ("watch least --filter", "--filter needs a value: modulo, bloom, exact."),
+    ("watch least --filter --tiles 2", "--filter needs a value: modulo", "--tiles begins with a dash"),
+    ("watch least --filter blooms", "--filter must be one of modulo, bloom, exact, not blooms."),
+    ("watch least --filter modulo,exact", "one of modulo, bloom, exact, not modulo,exact."),
+    ("watch least --filter=blooms", "--filter must be one of modulo, bloom, exact, not blooms."),
+    ("watch --filter exact lockstep 5 7 --filter bloom", "--filter is given twice."),
+    ("watch --filter exact", "watch needs a mode: steps, least or lockstep."),
+    ("watch lockstep 5 --filter exact x", "watch lockstep 5 needs a number", "not x."),
     ("watch --filter exact steps both", "cat IMAGE SCRIPT | ", "fractal' watch steps --filter exact"),
 )
 RANDOM_CALLS = 4_000
+APART = "--filter="
 # Where the window's offset and its words stand in an image.
 WINDOW_AT = 20
 # A script at the console, what stands in its answer, and the sentences on standard error.
@@ -79,11 +82,11 @@ undo 100
 quit now
 """
 SAID = ("1: dispatch 0\nTile 0 dispatches task 0.0 to its core 0", "4: dispatch 1", "5: step 1 0",
-        "1 task is taken back. 0.0 after 5 instructions: it loaded 0 from first at task.s:",
+        "1 task is aborted. 0.0 after 5 instructions: it loaded 0 from first at task.s:",
         "and 0.1 stores there at task.s:",
-        "0.0  reader  timestamp 2  depth 1, the ordered root domain  idle, taken back", "6: advance", "mine has 6 acts",
-        "  5  advance         ok, 1 task taken back", ">  10000000           7  00000007  line 0  first", "undo [N]")
-REFUSED_LINES = ("`halt` is no act", "there is no tile 9", "mine: this is there already", "from 1 to 6", "`quit`")
+        "0.0  reader  timestamp 2  depth 1, the ordered root domain  idle, aborted", "6: advance", "mine has 6 acts",
+        "  5  advance         ok, 1 task aborted", ">  10000000           7  00000007  line 0  first", "undo [N]")
+REFUSED_LINES = ("`halt` isn't an act", "no tile 9", "mine: this is there already", "from 1 to 6", "`quit`")
 
 # What is typed of two exercises, and what is said of which task comes first: by hand, from docs/machine/MACHINE.md.
 ORDERS = {
@@ -112,15 +115,15 @@ ORDERS = {
 # What stands in a sentence when the script of a schedule is typed.
 SENTENCES = {
     "conflict": ("enqueues child 0 to its own domain: 0.0+0, `child 0 2` with the timestamp 2 and the hint 0, which",
-                 "2 tasks are taken back. 0.0 after 10 instructions: it loaded 0 from first at task.s:",
-                 " 0.0+0 with nothing done (discarded): 0.0, which made it, was taken back.",
+                 "2 tasks are aborted. 0.0 after 10 instructions: it loaded 0 from first at task.s:",
+                 " 0.0+0 with nothing done (discarded): 0.0, which made it, was aborted.",
                  "its child is 2.0 from now on."),
     "stale_leg": ("is run and held, and nothing changes.", "stale: the task doesn't run from where that leg begins."),
     "kept_trap": ("cause 5: a load from outside text and data; it keeps its core.", "stale: 0.0 is trapped there.",
                   "empty: the least task isn't finished."),
-    "commit_queue": ("1 task is taken back. 0.1 after", ": 0.0 ends, and the commit queue is full."),
+    "commit_queue": ("1 task is aborted. 0.1 after", ": 0.0 ends, and the commit queue is full."),
     "commit_wait": (" instruction, asks to end, and the reply is stall: the commit queue is full, and holds no later",),
-    "stall": ("stall: the task queue for it is full", "firm: that one is the least task, which is never taken back.",
+    "stall": ("stall: the task queue for it is full", "firm: that one is the least task, which is never aborted.",
               "busy: each of its cores holds a task", "3 tasks are spilled to the block of tile 0: 2.2, 2.1, 2.0."),
     "four_cores": ("0.3 with nothing done: 0.0 needs room in a full task queue.",
                    "stall: its task queue is full, and the first task of its block isn't the least task."),
@@ -132,14 +135,14 @@ SENTENCES = {
 
 def watch_words_are_told(place: Place) -> None:
     """wrong words behind `watch` are refused at once, built or not, with the second program's line of a fault"""
-    place.without("rt")
+    place.nothing_answers()
     for is_built in (False, True):
         if is_built:
             place.stub(place.second_program, "printf '{\"fault\":\"usage\"}\\n'; exit 1\n")
         for line, *parts in REFUSED:
             answer = place.call("fractal", *line.split())
             answer.sentence(*parts)
-            expect(answer.output == USAGE, "the second program's own words", answer)
+            expect(answer.output == USAGE, "fractal_watch's own words", answer)
     place.second_program.unlink()
     place.call("fractal", "watch", "least").sentence("isn't built", status=69)
 
@@ -156,13 +159,13 @@ def watch_hands_on(place: Place) -> None:
 def random_watch_words_agree(place: Place) -> None:
     """of 4,000 random calls of `watch` the launcher refuses those that the second program refuses, and no other"""
     need_built(SECOND_PROGRAM)
-    place.without("rt")
+    place.nothing_answers()
     table = Table()
     calls = [random_call(random.Random(seed), table) for seed in range(RANDOM_CALLS)]
     with concurrent.futures.ThreadPoolExecutor(2 * (os.cpu_count() or 1)) as pool:
         judged = list(pool.map(lambda words: judgements(place, words), calls))
     for words, (by_launcher, by_program) in zip(calls, judged):
-        expect(by_launcher == by_program, f"the second program's judgement {by_program} of", words)
+        expect(by_launcher == by_program, f"fractal_watch's judgement {by_program} of", words)
     refused = sum(by_program for _, by_program in judged)
     expect(RANDOM_CALLS / 5 < refused < RANDOM_CALLS * 4 / 5, "calls of both kinds", refused)
 
@@ -171,7 +174,9 @@ def judgements(place: Place, words: Sequence[str]) -> tuple[bool, bool]:
     """Whether the launcher and the second program refuse the words; without an image it does no more than that."""
     launched = place.call("fractal", "watch", *words)
     expect((launched.status, launched.output) in ((1, USAGE), (69, b"")), "a refusal, or that rt is missing", launched)
-    done = subprocess.run([SECOND_PROGRAM, *words], stdin=subprocess.DEVNULL, stdout=subprocess.PIPE, check=False)
+    # The launcher takes a value behind `=` apart, which the program doesn't where an option is that of `watch` alone.
+    apart = [part for word in words for part in (word.split("=", 1) if word.startswith(APART) else [word])]
+    done = subprocess.run([SECOND_PROGRAM, *apart], stdin=subprocess.DEVNULL, stdout=subprocess.PIPE, check=False)
     return launched.status == 1, done.returncode == 1
 
 
@@ -183,7 +188,7 @@ def random_call(chance: random.Random, table: Table) -> list[str]:
     words.append(course)
     if course == "lockstep":
         words += [number(chance, 1, 1_000_000), number(chance, 0, 2 ** 32 - 1)]
-        words += ["barren", number(chance, 1, 1_000_000)] if chance.random() < 0.3 else []
+        words += ["starved", number(chance, 1, 1_000_000)] if chance.random() < 0.3 else []
     for option in chance.sample(list(table.course_options.values()), chance.choice((0, 0, 1, 2))):
         pair = chance.choice(([f"--{option.name}", some_value(chance, option)],
                               [f"--{option.name}={some_value(chance, option)}"]))
@@ -200,21 +205,21 @@ def options_of_watch_alone_may_be_words(place: Place) -> None:
     launcher = place.clone / "fractal"
     row = "course-option|taste|sweet,sour,salt|sour|how it tastes\n"
     launcher.write_text(launcher.read_text().replace("seed|any|", f"{row}seed|any|"))
-    told = "--taste        how it tastes (sweet, sour, salt; sour unless given)"
+    told = "--taste        how it tastes (sweet, sour, salt; default sour)"
     expect(told in place.call("fractal help").output.decode(), "the option on the page")
     expect(told in place.call("fractal help", "watch").output.decode(), "the option of watch")
     expect(told not in place.call("fractal help", "run").output.decode(), "no such option of run")
     place.stub(place.program, "printf 'fault usage\\n'; exit 1\n")
     place.stub(place.second_program, 'echo "$@" >>"$(dirname "$0")/words"; echo \'{"fault":"usage"}\'; exit 1\n')
     one_sentence_each([
-        (place.call("fractal", "run", "--taste", "salt"), ["`--taste`, which takes sweet, sour, salt, belongs to "]),
-        (place.call("fractal", "watch", "least", "--taste", "bitter"), ["`bitter`", "sweet, sour, salt"]),
-        (place.call("fractal", "watch", "least", "--taste", "sweet,sour"), ["`sweet,sour`", "sweet, sour, salt"]),
-        (place.call("fractal", "watch", "least", "--taste=salt"), ["sweet, sour, salt as a word of its own"]),
+        (place.call("fractal", "run", "--taste", "salt"), ["--taste is an option of ./fractal watch, not of run."]),
+        (place.call("fractal", "watch", "least", "--taste", "bitter"), ["not bitter", "sweet, sour, salt"]),
+        (place.call("fractal", "watch", "least", "--taste", "sweet,sour"), ["not sweet,sour", "sweet, sour, salt"]),
+        (place.call("fractal", "watch", "least", "--taste=bitter"), ["not bitter", "sweet, sour, salt"]),
         (place.call("fractal", "watch", "least", "--taste", ""), ["sweet, sour, salt"]),
-        (place.call("fractal", "watch", "least", "--taste"), ["a value is missing", "sweet, sour, salt"]),
-        (place.call("fractal", "watch", "least", "--tastes", "salt"), ["--phase, --filter or --taste"]),
-        (place.call("fractal play", "x", "--taste", "salt"), ["`--taste` isn't known"]),
+        (place.call("fractal", "watch", "least", "--taste"), ["needs a value", "sweet, sour, salt"]),
+        (place.call("fractal", "watch", "least", "--tastes", "salt"), ["did you mean --taste?"]),
+        (place.call("fractal play", "x", "--taste", "salt"), ["unknown option --taste"]),
     ])
     image = str(place.clone / "examples" / "hello" / "image.bin")
     one_sentence_each([
@@ -244,8 +249,8 @@ def schedules_are_watched(place: Place) -> None:
         expect(answer.errors == "" and told == wanted, f"the replies of {name}", (told, wanted))
     (place.root / "both").write_bytes(image_of(place, "hello") + b"commit\nhalt\n")
     answer = place.call("/bin/sh", "-c", '"$0" watch steps < both', str(place.clone / "fractal"))
-    answer.sentence("line 2 of the script", "`halt` is no act", status=9)
-    expect(answer.output == b'{"fault":"script","line":2}\n', "the second program's own words", answer)
+    answer.sentence("line 2 of the script", "`halt` isn't an act", status=9)
+    expect(answer.output == b'{"fault":"script","line":2}\n', "fractal_watch's own words", answer)
 
 
 def memories_are_told(place: Place) -> None:
@@ -324,7 +329,7 @@ def orders_are_told(place: Place) -> None:
 
 
 def schedules_are_typed(place: Place) -> None:
-    """where the script of a schedule is typed, each act has a sentence, which says who was taken back and why"""
+    """where the script of a schedule is typed, each act has a sentence, which says who was aborted and why"""
     place.needs_second_program()
     for name in SCHEDULES:
         folder = place.clone / "examples" / name
@@ -365,7 +370,7 @@ def no_file_is_lost(place: Place) -> None:
     (place.root / "link").symlink_to("a folder/image.bin")
     typed = b"save! link\nsave a\0b\nopen a\0b\nopen notes\nopen a.html\nopen a.html\nsave mine\n"
     answer = place.call("fractal console", str(folder), stdin=typed)
-    answer.tells("link: this is read", "byte 0", "notes: this is there already, and is no page")
+    answer.tells("link: this is read", "byte 0", "notes: this is there already, and isn't a page")
     expect((answer.status, answer.errors.count("\n")) == (1, 4), "four refusals", answer)
     expect((folder / "image.bin").read_bytes() == data, "the image as it was")
     expect((place.root / "notes").read_text() == "notes\n", "the notes as they were")
@@ -384,15 +389,13 @@ def console_refuses_bad_words(place: Place) -> None:
         (place.call(console, image, "--tiles", "17"), ["1 to 16", "`17`"]),
         (place.call(console, "nowhere"), ["nowhere", "no such file"]),
         (place.call(console, str(place.clone)), ["image.bin", "no such file"]),
-        (place.call(console, str(place.clone / "README.md")), ["this is no image"]),
-        (place.call(console, image, "--script", str(place.clone / "README.md")), ["README.md:3:", "no act"]),
-        (place.call(console, image), ["the second program:1:", "no JSON"]),
+        (place.call(console, str(place.clone / "README.md")), ["this isn't an image"]),
+        (place.call(console, image, "--script", str(place.clone / "README.md")), ["README.md:3:", "isn't an act"]),
+        (place.call(console, image), ["fractal_watch:1:", "isn't JSON"]),
     ])
     shutil.rmtree(place.second_program.parent)
-    place.without("rt")
-    answer = place.call(console, image)
-    answer.tells("each act takes an unproved run", "console: the program isn't built")
-    expect(answer.status == 1 and answer.output == b"", "a refusal", answer)
+    place.nothing_answers()
+    place.call(console, image).sentence("isn't built")
     place.needs_second_program()
     place.call(console, image, stdin=b"x" * 2_000).sentence("more than 1,000 bytes")
     answer = place.by_shell('"$0" console "$1" <&-', image)

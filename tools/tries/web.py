@@ -23,43 +23,31 @@ from yotarimu.lines.orders import order_told, task_told
 from yotarimu.lines.reader import open_lines
 from yotarimu.lines.replay import Machine
 from yotarimu.lines.sentences import end_told, label_of, opening_told, sentence_of
+from yotarimu.pictures.history import History, description_of
 from yotarimu.programs.examples import EXAMPLES, SCHEDULES, words_of
 from yotarimu.programs.program import SECOND_PROGRAM
 from yotarimu.web.bundle import TABLES, constant, source, table_at
 from yotarimu.web.comparison import Call, engine, stored_calls
 from yotarimu.web.modules import (
-    COMMAND, PAGE, PROGRAMS, Modules, command_text, commit_path, module_path, modules, page_text)
+    COMMAND, PAGE, are_made, command_text, modules, page_text)
 from yotarimu.web.wasm_tables import HEADER, number, number_at
 
+from tries.assembler_forms import forms
 from tries.launcher import STUB_BUILD
 from tries.lines_text import joint_lines
-from tries.place import Omission, Place, expect, need_built, one_sentence_each
+from tries.place import Omission, Place, expect, need_built, need_command, one_sentence_each
 
 BROWSER_FOLDER = pathlib.Path(__file__).with_name("browser")
 # What the harnesses for Node are made of, in front of each.
-READER = ("texts.js", "machine.js", "labels.js", "orders.js", "lines.js", "images.js", "filters.js", "causes.js",
-          "sentences.js")
+READER = ("texts.js", "history.js", "machine.js", "labels.js", "orders.js", "lines.js", "images.js", "filters.js",
+          "causes.js", "sentences.js")
 ASSEMBLER = ("host.js", "texts.js", "machine.js", "labels.js", "images.js", "assembler.js", "sections.js", "sources.js")
 CASES = "40"
-# Behind each so many acts so many tasks are compared.
+# After so many acts so many tasks are compared.
 BETWEEN, MOST_COMPARED = 5, 6
-# The section of a module that tells its memory, and so many pages of 64 KiB as are too few for a large run.
+# The section of a module that declares its memory, and how many pages of 64 KiB are too few for a large run.
 MEMORY, LITTLE = 5, 160
 MOST_SECONDS = 600
-
-
-def need_command(*names: str) -> None:
-    """Leaves the try out where a command isn't installed."""
-    for name in names:
-        if shutil.which(name) is None:
-            raise Omission(f"it wants {name}")
-
-
-def need_modules() -> Modules:
-    """The modules; the try is left out where they aren't made."""
-    if not all(path(crate).exists() for crate in PROGRAMS.values() for path in (module_path, commit_path)):
-        raise Omission("it wants the modules: ./fractal prove --web")
-    return modules()
 
 
 class Harness:
@@ -92,7 +80,13 @@ class Harness:
 
 
 def web_words(place: Place) -> None:
-    """./fractal web without its modules, and with odd words, is a sentence"""
+    """./fractal web with invalid arguments, or without any modules, is a sentence; else it takes those of the page"""
+    shutil.copy(HOME / PAGE, place.clone / PAGE)
+    (place.root / "made").mkdir()
+    made = place.call("fractal web", str(place.root / "made"))
+    expect(made.status == 0 and (place.root / "made" / PAGE).read_text() == (place.clone / PAGE).read_text(),
+           "the page, of its own modules", made)
+    (place.clone / PAGE).unlink()
     one_sentence_each([
         (place.call("fractal web"), ["./fractal prove --web"]),
         (place.call("fractal web", "nowhere"), ["nowhere"]),
@@ -116,7 +110,8 @@ def web_wants_a_toolchain(place: Place) -> None:
 
 def web_holds(place: Place) -> None:
     """the modules answer as what is stored, and as the built programs on schedules and generated calls"""
-    need_modules()
+    if not are_made():
+        raise Omission("it wants the modules: ./fractal prove --web")
     need_command("node")
     need_built(SECOND_PROGRAM)
     answer = place.call(str(HOME / "fractal"), "web", "--hold", CASES)
@@ -127,7 +122,7 @@ def web_command(place: Place) -> None:
     """fractal.mjs answers the whole table of answers as it is stored"""
     need_command("node")
     command = place.root / COMMAND
-    command.write_text(command_text(need_modules()), encoding="utf-8")
+    command.write_text(command_text(modules()), encoding="utf-8")
     for case in stored_calls():
         done = subprocess.run(["node", command, *case.words], input=case.given, capture_output=True,
                               timeout=MOST_SECONDS)
@@ -142,7 +137,7 @@ def web_command(place: Place) -> None:
 
 def web_memory(place: Place) -> None:
     """a module whose memory has too little room answers with status 5, and writes nothing or whole lines"""
-    found = need_modules()
+    found = modules()
     need_command("node")
     paths = {name: place.root / f"{name}.wasm" for name in found.programs}
     for name, path in paths.items():
@@ -163,7 +158,7 @@ def with_most_memory(module: bytes, pages: int) -> bytes:
         size, start = number_at(module, place + 1)
         section, place = module[start:start + size], start + size
         if kind == MEMORY:
-            expect(section[:2] == b"\x01\x01", "one memory with a limit", section)
+            expect(section[:2] == b"\x01\x01", "a memory with a limit", section)
             least, _ = number_at(section, 2)
             section = section[:2] + number(min(least, pages)) + number(pages)
         made += bytes([kind]) + number(len(section)) + section
@@ -174,7 +169,7 @@ def with_most_memory(module: bytes, pages: int) -> bytes:
 
 
 def web_sentences(place: Place) -> None:
-    """the page's reader of lines tells each act, and the machine behind them, as the tools do"""
+    """the page describes each act, and the machine after it, as the tools do"""
     need_built(SECOND_PROGRAM)
     with Harness(place, "sentences", READER, tables_of("sentences", "filterTable")) as harness:
         for name, words in courses():
@@ -182,14 +177,14 @@ def web_sentences(place: Place) -> None:
 
 
 def web_causes(place: Place) -> None:
-    """the page says as the tools do why a filter of each kind took tasks back, by one access or by several together"""
+    """the page says as the tools do why a filter of each kind aborted tasks, by one access or by several together"""
     with Harness(place, "sentences", READER, tables_of("sentences", "filterTable")) as harness:
         for kind in FILTERS:
             text = joint_lines(kind)
             told, *_ = told_by_tools(text, NO_LISTING)
             seen = harness.ask(text=text.decode(), listing="", between=BETWEEN, most=MOST_COMPARED)
             expect(seen["told"] == told, f"the same sentences by the filter {kind}", (told, seen["told"]))
-            joint = sum("its filter tells the line 2,201" in sentence for sentence in told)
+            joint = sum("its filter reports the line 2,201" in sentence for sentence in told)
             expect(joint == (2 if kind == "bloom" else 0), f"the bits of several lines by the filter {kind}", told)
 
 
@@ -199,7 +194,7 @@ def tables_of(*names: str) -> str:
 
 
 def courses() -> Iterator[Tuple[str, List[str]]]:
-    """Each schedule with the words of its course, and others of the second program."""
+    """Each schedule with the arguments of its mode, and others of `fractal_watch`."""
     for name in SCHEDULES:
         words = list(words_of(name))
         yield name, words
@@ -212,17 +207,19 @@ def courses() -> Iterator[Tuple[str, List[str]]]:
 
 
 def hold_told(harness: Harness, name: str, words: List[str]) -> None:
-    """Holds what the page tells of a run against what the tools tell."""
+    """Compares what the page shows of a run with what the tools print."""
     folder = EXAMPLES_FOLDER / name
     given = (folder / "image.bin").read_bytes() + ((folder / "script").read_bytes() if words[0] == "steps" else b"")
     text = subprocess.run([SECOND_PROGRAM, *words], input=given, stdout=subprocess.PIPE, check=False).stdout
     path = folder / "listing"
     listing = read_listing(path.read_text(), path) if path.exists() else NO_LISTING
-    told, end, orders, machine = told_by_tools(text, listing)
+    told, end, orders, machine, history = told_by_tools(text, listing)
     seen = harness.ask(text=text.decode(), listing=path.read_text() if path.exists() else "", between=BETWEEN,
                        most=MOST_COMPARED)
     expect(seen["told"] == told and seen["end"] == end, f"the same sentences on {name}",
            next((pair for pair in itertools.zip_longest(told, seen["told"]) if pair[0] != pair[1]), None))
+    expect(seen["history"] == history, f"the same timeline on {name}",
+           [(key, seen["history"][key], history[key]) for key in history if seen["history"][key] != history[key]][:1])
     expect(seen["orders"] == orders, f"the same orders of tasks on {name}",
            next((pair for pair in itertools.zip_longest(orders, seen["orders"]) if pair[0] != pair[1]), None))
     tasks = sorted([task.id, label_of(task), task.state, task.work, task.pc] for task in machine.tasks.values())
@@ -231,18 +228,20 @@ def hold_told(harness: Harness, name: str, words: List[str]) -> None:
     expect([seen["machine"][name] for name in names] == state, f"the same machine behind {name} {words}")
 
 
-def told_by_tools(text: bytes, listing: Listing) -> Tuple[List[str], str, List[str], Machine]:
-    """The sentences, the end, the orders of tasks and the machine that the tools make of lines."""
+def told_by_tools(text: bytes, listing: Listing) -> Tuple[List[str], str, List[str], Machine, Dict[str, Any]]:
+    """The sentences, the end, the orders of tasks, the machine and the timeline that the tools make of lines."""
     with tempfile.NamedTemporaryFile() as lines:
         lines.write(text)
         lines.flush()
         with open_lines(lines.name) as watched:
-            told, orders = [opening_told(watched.head)], []
+            told, orders, history = [opening_told(watched.head)], [], History(watched.head)
             for it in watched:
+                history.take(it, watched.machine)
                 if it.is_act():
                     told.append(sentence_of(it, watched.machine, listing))
                     orders += orders_told(watched.machine, listing) if (len(told) - 1) % BETWEEN == 0 else []
-        return told, end_told(watched.end or {}, listing), orders, watched.machine
+        drawn = json.loads(json.dumps(description_of(history)))
+        return told, end_told(watched.end or {}, listing), orders, watched.machine, drawn
 
 
 def orders_told(machine: Machine, listing: Listing) -> List[str]:
@@ -279,7 +278,7 @@ def made_by_tools(folder: pathlib.Path) -> bytes:
 
 
 def hold_listing(harness: Harness, path: pathlib.Path) -> None:
-    """Holds the page's disassembler against a listing."""
+    """Compares the page's disassembler with a listing."""
     image = base64.b64encode((path.parent / "image.bin").read_bytes()).decode()
     rows = {address: text for address, text in harness.ask(image=image)["listing"] if address is not None}
     for address, word, told in re.findall(r"^([0-9a-f]{8})  ([0-9a-f]{8})  ([^|\n]*)", path.read_text(), re.MULTILINE):
@@ -293,8 +292,7 @@ def hold_listing(harness: Harness, path: pathlib.Path) -> None:
 
 def web_forms(place: Place) -> None:
     """the page's assembler makes of each form of each instruction and directive what GNU as makes"""
-    text = (BROWSER_FOLDER / "forms.s").read_text(encoding="utf-8")
-    path = place.root / "forms.s"
+    text, path = forms(), place.root / "forms.s"
     path.write_text(text, encoding="utf-8")
     wanted = image_bytes(describe([source_at(path)], assemble([source_at(path)])))
     with Harness(place, "assemblies", ASSEMBLER) as harness:
@@ -309,14 +307,14 @@ def web_forms(place: Place) -> None:
 
 
 ODD_LINES = (
-    ("dance a0", "odd.s:3: `dance` is no instruction"), ("mul a0, a1, a2", "no instruction"),
-    ("addi a0, a1", "3 operands"), ("addi a0, a9, 1", "no register"), ("addi a0, a1, 2048", "-2048 to 2047"),
+    ("dance a0", "odd.s:3: `dance` isn't an instruction"), ("mul a0, a1, a2", "isn't an instruction"),
+    ("addi a0, a1", "3 operands"), ("addi a0, a9, 1", "isn't a register"), ("addi a0, a1, 2048", "-2048 to 2047"),
     ("slli a0, a1, 32", "0 to 31"), ("lui a0, 0x100000", "0 to 1048575"), ("li a0, here", "known here"),
     ("beq a0, a1, nowhere", "defined nowhere"), ("j 1f", "no label `1:`"), ("addi a0, a1, (1", "bracket"),
     ("beq a0, a1, far\n.zero 8192\nfar: nop", "doesn't reach"), (".word 1/0", "divided by zero"),
     (".section .other", "no place in an image"), (".byte 256", "no place in 1 bytes"), (".ascii x", "in quotes"),
     ("here: nop", "stands twice"), (".zero 99999999", "0 to 16777216"), (".balign 3", "power of two"),
-    (".bss\n.word 1", "zeros alone"), (".bss\nnop", "no instruction stands"),
+    (".bss\n.word 1", "zeros alone"), (".bss\nnop", "no instruction may be"),
     ("# image: task nowhere", "no label `nowhere`"), ("# image: dance", "describes nothing"),
     ("# image: task here ts x", "the timestamp is a number"), ("# image: root", "root ordered"),
 )
@@ -326,12 +324,12 @@ ODD_LINES = (
 
 
 def drive_page(place: Place, browser: str, *programs: str) -> None:
-    """Drives the page in a browser; the try is left out where there is none."""
+    """Drives the page in a browser; skipped without one."""
     need_command("node")
     if not any(shutil.which(program) for program in programs):
         raise Omission(f"it wants a browser: {programs[0]}")
     page = place.root / PAGE
-    page.write_text(page_text(need_modules()), encoding="utf-8")
+    page.write_text(page_text(modules()), encoding="utf-8")
     done = subprocess.run(["node", BROWSER_FOLDER / "drive.mjs", page, EXAMPLES_FOLDER], capture_output=True, text=True,
                           timeout=MOST_SECONDS, env={**os.environ, "BROWSER": browser, "TMPDIR": str(place.temporary)})
     told = [json.loads(line) for line in done.stdout.splitlines()]

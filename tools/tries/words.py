@@ -17,59 +17,63 @@ from tries.place import Answer, Place, expect, one_sentence_each
 USAGE = b"fault usage\n"
 # An option whose values are words, as a row of the launcher's table, and what is told of it.
 OF_WORDS = "option|flavour|sweet,salt|sweet|how a task tastes"
-TOLD_OF_WORDS = {"help": "--flavour      how a task tastes (sweet, salt; sweet unless given)",
+TOLD_OF_WORDS = {"help": "--flavour      how a task tastes (sweet, salt; default sweet)",
                  "shell bash": "--flavour) words='sweet salt'", "shell zsh": ":(sweet salt)'",
-                 "shell man": "how a task tastes (one of sweet, salt; sweet unless given)"}
+                 "shell man": "how a task tastes (one of sweet, salt; default sweet)"}
 # Words that are refused, and what standard error tells of each.
 REFUSED = (
-    ("rum", "`rum` is no command", "run, check"),
-    ("--tiles 2 run", "`--tiles` is no command"),
-    ("run --tiles 99", "`99`", "`--tiles`", "1 to 16"),
-    ("run --tiles=0", "`0`", "1 to 16"),
-    ("run --tiles=00000000002", "`00000000002`", "1 to 16"),
-    ("run --line 12", "`12`", "4, 8, 16, 32, 64"),
-    ("run --commits", "missing", "`--commits`", "1 to 1000000"),
-    ("run --tiles --cores 2", "missing", "`--tiles`", "`--cores`"),
-    ("run --tiles -2", "missing", "`-2` begins with a dash"),
-    ("run --tiles 2 --tiles=2", "`--tiles` stands twice"),
-    ("run --tile 2", "`--tile` is no option", "--tiles"),
-    ("run --filter bloom", "`--filter`, which takes modulo, bloom, exact,", "./fractal watch, and not to `run`"),
-    ("load walk 7 20 --filter", "`--filter`", "modulo, bloom, exact", "not to `load`"),
-    ("run --", "`--`"),
-    ("run -t 2", "`-t`", "two dashes"),
+    ("rum", "unknown command rum; did you mean run?"),
+    ("sweeep", "did you mean sweep?"),
+    ("anything", "unknown command anything", "help lists them"),
+    ("--tiles 2 run", "unknown command --tiles"),
+    ("run --tiles 99", "--tiles must be 1 to 16, not 99."),
+    ("run --tiles=0", "1 to 16, not 0."),
+    ("run --tiles=00000000002", "1 to 16, not 00000000002"),
+    ("run --line 12", "--line must be 4, 8, 16, 32, 64, not 12."),
+    ("run --commits", "--commits needs a value: 1 to 1000000."),
+    ("run --tiles --cores 2", "--tiles needs a value", "--cores begins with a dash"),
+    ("run --tiles -2", "needs a value", "-2 begins with a dash"),
+    ("run --tiles 2 --tiles=2", "--tiles is given twice."),
+    ("run --tile 2", "unknown option --tile; did you mean --tiles?"),
+    ("run --csv x", "--csv is an option of explain, figures, study, not of run."),
+    ("run --towers 2", "unknown option --towers", "help run lists them"),
+    ("run --filter bloom", "--filter is an option of ./fractal watch, not of run."),
+    ("load walk 7 20 --filter", "--filter is an option of ./fractal watch, not of load."),
+    ("run --", "-- isn't known"),
+    ("run -t 2", "unknown option -t", "two dashes"),
     ("run image.bin", "standard input", "fractal' run < image.bin"),
     ("run --tiles 2 image.bin --line=4", "fractal' run --tiles 2 --line=4 < image.bin"),
     ("save image.bin", "fractal' save < image.bin"),
     ("check image.bin report", "cat image.bin report | ", "fractal' check"),
     ("steps both", "cat IMAGE SCRIPT | ", "fractal' steps"),
-    ("run --version", "`--version` stands alone"),
+    ("run --version", "--version stands alone"),
     ("load", "KIND SEED SIZE", "load walk 7 100"),
-    ("load hop 7 20", "`hop`", "walk or nest"),
-    ("load walk x 20", "`x`", "0 to 4294967295"),
-    ("load walk 7 100001", "`100001`", "1 to 100000"),
-    ("load nest 7 10001", "`10001`", "1 to 10000"),
-    ("load nest 7 1 1", "one word too many"),
-    ("prove now", "`prove` stands alone", "`now`"),
-    ("README.md", "no command"),
+    ("load hop 7 20", "load generates walk or nest, not hop."),
+    ("load walk x 20", "the seed must be 0 to 4294967295, not x."),
+    ("load walk 7 100001", "the size of a walk must be 1 to 100000, not 100001."),
+    ("load nest 7 10001", "1 to 10000, not 10001."),
+    ("load nest 7 1 1", "one argument too many"),
+    ("prove now", "prove takes no now"),
+    ("README.md", "unknown command README.md"),
 )
 # Lines, each with what is told of it.
 Refusals = tuple[tuple[bytes, tuple[str, ...]], ...]
 # A line of a script that is refused, and why.
 LINES: Refusals = (
     (b"step 4 0", ("`step 4 0`", "no tile 4", "0 to 3")), (b"step 0 2", ("no core 2", "0 to 1")),
-    (b"commit ", ("`commit `", "blank stands behind")), (b"commit\r", ("CRLF",)), (b"", ("is empty",)),
+    (b"commit ", ("`commit `", "blank follows")), (b"commit\r", ("CRLF",)), (b"", ("is empty",)),
     (b"step 01 0", ("leading zero",)), (b"step 0", ("a tile and a core",)), (b"commit 1", ("nothing",)),
-    (b"halt", ("`halt` is no act",)), (b"# now", ("fractal play",)), (b"step  0 0", ("two blanks",)),
-    (b"dispatch\t0", ("tab",)), (b"dispatch x", ("no number",)), (b"dispatch \xff", ("byte ff",)),
+    (b"halt", ("`halt` isn't an act",)), (b"# now", ("fractal play",)), (b"step  0 0", ("two blanks",)),
+    (b"dispatch\t0", ("tab",)), (b"dispatch x", ("isn't a number",)), (b"dispatch \xff", ("byte ff",)),
 )
 # What a report's line is changed to, and why that is refused.
 ENTRIES: Refusals = (
     (b"3 1.1 2 3", (": its timestamp is 2: status",)), (b"3 1.1 4 2", (": its depth is 2: status",)),
     (b"3 1.1 4 3", ("its depth is 2 and its timestamp is 2",)), (b"3 1.0 2 1", ("the task 1.0 took turn 2",)),
-    (b"3 1.2 2 2", ("there is no task 1.2: the task of turn 1 made 2 tasks",)),
-    (b"3 0.2 1 0", ("there is no task 0.2: the image has 2 tasks",)), (b"3 7.0 2 2", ("before turn 7 was taken",)),
+    (b"3 1.2 2 2", ("no task 1.2: the task of turn 1 made 2 tasks",)),
+    (b"3 0.2 1 0", ("no task 0.2: the image has 2 tasks",)), (b"3 7.0 2 2", ("before turn 7 was taken",)),
     (b"3 0.1 1 0", ("the task 1.1 comes before it", "a subdomain at depth 2")), (b"3 1.1 2 02", ("leading zero",)),
-    (b"4 1.1 2 2", ("3 is wanted",)), (b"3 1-1 2 2", ("no name",)), (b"3 1.1 2 2 ", ("blank stands behind",)),
+    (b"4 1.1 2 2", ("3 is wanted",)), (b"3 1-1 2 2", ("isn't a name",)), (b"3 1.1 2 2 ", ("blank follows",)),
     (b"3 1.1 2 2\r", ("CRLF",)), (b"", ("is empty",)), (b"window 1", ("an entry", "or the output")),
     (b"3 1.1 17 2", ("1 to 16",)),
 )
@@ -80,17 +84,17 @@ LONG_ENOUGH = 2
 
 def refused_words_are_told(place: Place) -> None:
     """wrong words are refused at once in a clone that isn't built, and told in a sentence, built or not"""
-    place.without("rt")
+    place.nothing_answers()
     for is_built in (False, True):
         if is_built:
             place.stub(place.program, "printf 'fault usage\\n'; exit 1\n")
         for line, *parts in REFUSED:
             answer = place.call("fractal", *line.split())
-            answer.sentence(*parts)
+            answer.sentence(*parts, status=1)
             expect(answer.output == USAGE, "the program's own words", answer)
     for words in (["run", "x\ny\x1b[2J" + "z" * 100], ["\n"], ["run", "--tiles", "\udcff"]):
         answer = place.call("fractal", *words)
-        answer.sentence("fractal: ")
+        answer.sentence("fractal: ", status=1)
         expect("\x1b" not in answer.errors and len(answer.errors) < 400, "a line that may be shown", answer)
     place.program.unlink()
     answer = place.call("/bin/sh", "-c", '"$0" rum >/dev/full', str(place.clone / "fractal"))
@@ -99,17 +103,19 @@ def refused_words_are_told(place: Place) -> None:
 
 
 def own_words_are_told(place: Place) -> None:
-    """`--version` tells version and commit, `--help` behind a command the page, and a full device is told"""
+    """`--version` names the programs, `--help` after a command prints its page, and a full device is reported"""
+    place.stub(place.program, "")
     head = subprocess.run(["git", "-C", place.clone, "rev-parse", "HEAD"], capture_output=True, text=True, check=True)
     answer = place.call("fractal", "--version")
-    version = answer.output.decode()
-    expect(version.startswith("fractal ") and f"commit {head.stdout.strip()}\n" in version, "the commit", answer)
+    parts = ("fractal 1", "fractal_sim: the proved program, digest ", f", commit {head.stdout.strip()}")
+    expect(all(part in answer.output.decode() for part in parts), "the program and its commit", answer)
     page = place.call("fractal", "help").output
-    for words in (["run", "--help"], ["run", "--tiles", "2", "--help"], ["help", "--help"]):
+    for words in (["--help"], ["-h"], ["help", "--help"], ["help", "-h"]):
         expect(place.call("fractal", *words) == Answer(0, page, ""), "the page", words)
-    (place.clone / "README.md").write_text("")
-    expect(b", with changes\n" in place.call("fractal", "--version").output, "a clone that was changed")
-    for word in ("help", "table", "--version"):
+    for words in (["run", "--help"], ["run", "--tiles", "2", "-h"], ["--help", "run"], ["-h", "run"]):
+        expect(place.call("fractal", *words) == place.call("fractal", "help", "run"), "help on one command", words)
+    place.call("fractal", "help", "run", "extra").sentence("one COMMAND, and extra is one argument", status=1)
+    for word in ("help", "dev table", "--version"):
         answer = place.call("/bin/sh", "-c", f'"$0" {word} >/dev/full', str(place.clone / "fractal"))
         answer.sentence("standard output takes no more", status=7)
 
@@ -119,7 +125,7 @@ def random_words_are_judged_alike(place: Place) -> None:
     place.needs_program()
     program = place.root / "program"
     place.program.rename(program)
-    place.without("rt")
+    place.nothing_answers()
     table = Table()
     calls = [random_call(random.Random(seed), table) for seed in range(RANDOM_CALLS)]
     with concurrent.futures.ThreadPoolExecutor(2 * (os.cpu_count() or 1)) as pool:
@@ -186,7 +192,7 @@ def options_of_words_are_known(place: Place) -> None:
     expect(answer.status == 1 and answer.output.count(b",5,") == 2, "a run of each word", answer)
     for program in (place.program, place.second_program):
         program.unlink()
-    place.without("rt")
+    place.nothing_answers()
     chance, option = random.Random(1), option_in(*OF_WORDS.split("|")[1:])
     for value in [some_value(chance, option) for _ in range(20)]:
         answer = place.call("fractal", "run", "--flavour", value)
@@ -228,7 +234,7 @@ def change(chance: random.Random, words: list[str], table: Table) -> None:
 
 
 def refused_scripts_are_told(place: Place) -> None:
-    """a script's refusal tells the line and what is wrong with it, where it comes from a file, and that from a pipe"""
+    """a script's refusal tells the line and what is wrong with it, from a file or a pipe"""
     place.needs_program()
     image = (place.clone / "examples" / "pipeline" / "image.bin").read_bytes()
     for line, parts in LINES:
@@ -239,10 +245,10 @@ def refused_scripts_are_told(place: Place) -> None:
     (place.root / "both").write_bytes(b"before" + image + b"step 2 0\n")
     start = "dd bs=6 count=1 of=/dev/null 2>/dev/null; "
     from_file(place, "trace --tiles 2", start).sentence("line 1 of the script", "0 to 1", status=9)
-    for place_of in ("fractal", "fractal refusal"):
+    for place_of in ("fractal", "fractal dev refusal"):
         (place.root / "none").write_bytes(b"FRAC")
     answer = place.call("fractal", "steps", stdin=image + b"halt\n")
-    answer.sentence("the script is refused", "< FILE", status=9)
+    answer.sentence("line 1 of the script", "`halt` isn't an act", status=9)
 
 
 def refused_reports_are_told(place: Place) -> None:
@@ -260,7 +266,7 @@ def refused_reports_are_told(place: Place) -> None:
             (report.replace(b"output -", b"output 0A"), 10, "lower case"), (b"fractal 2\n", 1, "`fractal 1` is wanted"),
             (report.replace(b"output -", b"output 0a"), 10, "the tasks before it emitted 0 bytes, and not 1"),
             (report.replace(b"00000058", b"00000059"), 11, "the memory holds 00000058 there at the end"),
-            (report.replace(b"10000004", b"10000008"), 12, "the word 1 of the window, counted from 0, stands at 1"),
+            (report.replace(b"10000004", b"10000008"), 12, "the word 1 of the window, counted from 0, is at 1"),
             (report.replace(b"window 10000008 00000002\n", b""), 13, "3 words, and the one at 10000008 is missing"),
             (report.replace(b"end", b"window 1000000c 00000002\nend"), 14, "has 3 words, so the end is wanted"),
             (report.replace(b"end normal", b"end trap 18 00010000 0.0"), 14, "1 to 17"),
@@ -270,7 +276,8 @@ def refused_reports_are_told(place: Place) -> None:
     (place.root / "both").write_bytes(image + report)
     from_file(place, "check --commits 3").sentence("line 5 of the report", "--commits allows 3 tasks", status=8)
     from_file(place, "check --budget 5").sentence("line 2 of the report", "it traps, with cause 17", status=8)
-    place.call("fractal", "check", stdin=image + report[:20]).sentence("the report is refused", "< FILE", status=8)
+    answer = place.call("fractal", "check", stdin=image + report[:20])
+    answer.sentence("line 3 of the report", "is missing", status=8)
 
 
 def other_ends_are_told(place: Place) -> None:
@@ -303,8 +310,8 @@ def from_file(place: Place, words: str, start: str = "") -> Answer:
 
 
 def refusals_want_both(place: Place) -> None:
-    """./fractal refusal refuses other words and inputs in a sentence"""
-    refusal = "fractal refusal"
+    """./fractal dev refusal refuses other words and inputs in a sentence"""
+    refusal = "fractal dev refusal"
     one_sentence_each([
         (place.call(refusal, "fault usage", "run"), ["`fault usage`"]),
         (place.call(refusal, "fault script 0", "steps"), ["`fault script 0`"]),
@@ -324,7 +331,7 @@ def each_word_is_told(place: Place) -> None:
         answer = place.call("fractal", "help", word)
         expect((answer.status, answer.errors) == (0, ""), f"a page on {word}", answer)
         expect(f"usage: ./fractal {word}".encode() in answer.output, f"how {word} is called", answer)
-    place.call("fractal", "help", "rum").sentence("`rum` is no word", "./fractal help lists them")
+    place.call("fractal", "help", "rum").sentence("unknown command rum; did you mean run?", status=1)
 
 
 def scripts_are_played_beside_their_lines(place: Place) -> None:
@@ -364,7 +371,7 @@ def play_refuses_bad_words(place: Place) -> None:
         (place.call(play, str(folder), "--image", image, "--towers", "1"), ["`--towers`"]),
         (place.call(play, str(folder), "--image", image, "--picture", ""), ["folder"]),
         (place.call(play, str(folder), "--image", image, "--picture", "nowhere/x"), ["nowhere/x", "no such folder"]),
-        (place.call(play, str(folder), "--tiles"), ["value is missing"]),
+        (place.call(play, str(folder), "--tiles"), ["needs a value"]),
     ])
     place.needs_program()
     (folder / "script").write_text("commit\n")

@@ -1,1 +1,1 @@
-"""Tools around the proved simulator: images and reports, lines of the second program, figures, pictures and courses."""
+"""Tools around the proved simulator: images and reports, event logs of `fractal_watch`, figures, pictures and modes."""

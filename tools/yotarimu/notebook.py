@@ -1,4 +1,4 @@
-"""A run as objects, for a notebook or a script of one's own; docs/guide/LIBRARY.md shows how to begin.
+"""A run as objects, for a notebook or your own script; docs/guide/LIBRARY.md shows how to begin.
 
     image = build("mine")                        # what a folder of sources makes
     report = run(image, tiles=2)                 # the journal, the output, the window and the end
@@ -13,21 +13,22 @@ import importlib
 import io
 import pathlib
 from collections.abc import Iterator, Mapping, Sequence
-from typing import Any, NamedTuple, Union
+from typing import Any, NamedTuple, Optional, Union
 
 from yotarimu.common.files import FilePath, read_bytes
 from yotarimu.common.outcome import Refusal
+from yotarimu.common.text import likely
 from yotarimu.figures.run import Figures, figures_of
 from yotarimu.figures.tables import plain_rows
-from yotarimu.images.compiler import GCC
+from yotarimu.images.compiler import GCC, Compilers
 from yotarimu.images.folder import build as build_folder
 from yotarimu.images.image import Image, image_bytes
 from yotarimu.images.image import read_image as read_image_bytes
 from yotarimu.lines.fields import Line, Shapes
 from yotarimu.lines.reader import Reader
-from yotarimu.programs.calls import Calls
-from yotarimu.programs.program import PROGRAM, SECOND_PROGRAM, STATUSES, Answer
-from yotarimu.programs.table import Value
+from yotarimu.programs.calls import calls_at
+from yotarimu.programs.program import FIRST, SECOND, STATUSES, Answer
+from yotarimu.programs.table import Table, Value
 from yotarimu.reports.report import Report
 from yotarimu.reports.report import read_report as read_report_text
 
@@ -35,9 +36,15 @@ Row = dict[str, object]
 
 
 class Lines(NamedTuple):
-    """What the second program tells of a run: its lines, as bytes. A loop over a `reader` has each act as an object,
-    while its `machine` is as it stands behind that act."""
+    """The event log of a run, as bytes. A loop over a `reader` has each act as an object, while its `machine` is as it
+    is after that act."""
     data: bytes
+
+    def __repr__(self) -> str:
+        """How many lines there are, and the last one."""
+        lines = self.data.splitlines()
+        last = lines[-1].decode("ascii", "replace")[:100] if lines else "nothing"
+        return f"an event log of {len(lines):,} lines, which ends with\n{last}"
 
     def lines(self) -> Iterator[Line]:
         """Each line by its fields, from the head to the end."""
@@ -61,27 +68,34 @@ def read_image(path: FilePath) -> Image:
 
 def build(folder: FilePath, compiler: str = GCC) -> Image:
     """Writes the image and the listing of a folder's sources, and gives the image."""
-    return build_folder(pathlib.Path(folder), compiler)[0]
+    return build_folder(pathlib.Path(folder), Compilers(compiler))[0]
 
 
-def run(image: Image, **options: Value) -> Report:
-    """The report of the image's run by the built program."""
-    answer = ask(PROGRAM, ["run"], image, options)
+def run(image: Image, program: Optional[FilePath] = None, **options: Value) -> Report:
+    """The report of the image's run, by the program at a path or the one that answers here."""
+    answer = ask(FIRST, ["run"], image, program, options)
     return read_report_text(answer.written.decode("ascii", "replace"), "run")
 
 
-def watch(image: Image, course: str = "least", **options: Value) -> Lines:
-    """What the built second program tells of a course: `least`, or `lockstep ROUNDS SEED`."""
-    return Lines(ask(SECOND_PROGRAM, course.split(), image, options).written)
+def watch(image: Image, course: str = "least", program: Optional[FilePath] = None, **options: Value) -> Lines:
+    """The event log of a run in a mode: `least`, or `lockstep ROUNDS SEED`."""
+    return Lines(ask(SECOND, course.split(), image, program, options).written)
 
 
-def ask(program: pathlib.Path, words: Sequence[str], image: Image, options: Mapping[str, Value]) -> Answer:
-    """What a program says to words on an image; refuses a status that tells no answer."""
-    given = [f"--{name.replace('_', '-')}={value}" for name, value in options.items()]
-    answer = Calls(program).call([*words, *given], image_bytes(image))
+def ask(which: str, words: Sequence[str], image: Image, program: Optional[FilePath],
+        options: Mapping[str, Value]) -> Answer:
+    """What a program answers to arguments on an image; refuses an unknown option, and a status without an answer."""
+    table = Table()
+    known = table.course_options if which == SECOND else table.options
+    for name in options:
+        if name.replace("_", "-") not in known:
+            raise Refusal(f"unknown argument {name}{likely(name, (it.replace('-', '_') for it in known))}")
+    given = [f"--{name.replace('_', '-')}" for name in options]
+    arguments = [*words, *(word for name, value in zip(given, options.values()) for word in (name, str(value)))]
+    answer = calls_at(None if program is None else str(program), which).call(arguments, image_bytes(image))
     if answer.status not in STATUSES.values():
         said = answer.written[:200].decode("ascii", "replace").strip()
-        raise Refusal(f"`{' '.join((*words, *given))}` ended with status {answer.status}{said and f': {said}'}.")
+        raise Refusal(f"`{' '.join(arguments)}` ended with status {answer.status}{said and f': {said}'}.")
     return answer
 
 

@@ -1,4 +1,4 @@
-// ---- images of sources, a line of JSON for each, to hold the page's assembler and disassembler against others
+// ---- images of sources, a line of JSON for each, to compare the page's assembler and disassembler with others
 
 import {createInterface} from "node:readline";
 

@@ -77,6 +77,9 @@ export class Page {
     return result.value;
   }
 
+  /** What the page's log has. */
+  errors() { return this.logs; }
+
   /** A key as a person presses it. */
   async press(key) {
     const codes

@@ -16,7 +16,7 @@ const KEYS = {
   End: "\uE010",
   Home: "\uE011"
 };
-const MOST_TRIES = 200, BETWEEN = 100, MOST_MILLISECONDS = 300000;
+const MOST_TRIES = 900, BETWEEN = 100, MOST_MILLISECONDS = 300000;
 const pause = (milliseconds) => new Promise((resolve) => setTimeout(resolve, milliseconds));
 
 /** Evaluates a text by a script of the page, and hands over what it comes to as JSON. */
@@ -50,7 +50,6 @@ export class Page {
       folder: mkdtempSync(join(tmpdir(), "fractal-page-")),
       number: 0,
       waiting: new Map(),
-      logs: [],
       rest: Buffer.alloc(0)
     });
     const port = await freePort();
@@ -61,12 +60,19 @@ export class Page {
           dark ? 0 : 1});\nuser_pref("browser.shell.checkDefaultBrowser", false);\n`);
     page.child = spawn(
       program,
-      ["--headless", "--marionette", "--no-remote", "--profile", page.folder, "--width", width, "--height", height],
+      [
+        "--headless", "--marionette", "--remote-allow-system-access", "--no-remote", "--profile", page.folder,
+        "--width", width, "--height", height
+      ],
       {stdio: "ignore", env: {...process.env, MOZ_DISABLE_CONTENT_SANDBOX: "1", HOME: page.folder}});
     await page.connect(port);
     await page.send("WebDriver:NewSession", {capabilities: {}});
     await page.send("WebDriver:SetTimeouts", {script: MOST_MILLISECONDS});
     await page.send("WebDriver:SetWindowRect", {width, height});
+    // That is the window with its frame; what it shows is to be so large.
+    const script = "return [outerWidth - innerWidth, outerHeight - innerHeight];";
+    const {value: [across, down]} = await page.send("WebDriver:ExecuteScript", {script, args: []});
+    await page.send("WebDriver:SetWindowRect", {width: width + across, height: height + down});
     await page.go(url);
     return page;
   }
@@ -121,6 +127,15 @@ export class Page {
     const told = JSON.parse(value);
     if ("failed" in told) throw new Error(told.failed);
     return told.value;
+  }
+
+  /** What went wrong in the page, as the browser's log has it. */
+  async errors() {
+    const script = "return Services.console.getMessageArray().map(String);";
+    await this.send("Marionette:SetContext", {value: "chrome"});
+    const {value} = await this.send("WebDriver:ExecuteScript", {script, args: []});
+    await this.send("Marionette:SetContext", {value: "content"});
+    return value.filter((it) => it.includes("JavaScript Error") && it.includes('file: "file:'));
   }
 
   async press(key) {

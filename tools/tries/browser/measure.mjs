@@ -5,7 +5,7 @@ import {pathToFileURL} from "node:url";
 
 const {Page} = await import(`./${process.env.BROWSER ?? "chromium"}.mjs`);
 const [, , file, image] = process.argv;
-const SIZES = [200, 20000], STEPS = 40, NEW_ACTS = 10;
+const SIZES = [200, 5000, 20000], STEPS = 40, NEW_ACTS = 10;
 
 // A step, up to the frame in which it is drawn.
 const STEP = `(async (place) => {
@@ -55,6 +55,14 @@ for (const size of SIZES) {
   await times("a step on", each((step) => from + step + 1));
   await times("a step back", each((step) => from + STEPS - step));
   await times("a leap", each((step) => (step * 7919) % size));
+  await page.run(`go(${from})`);
+  const pictures = [];
+  for (let number = 0; number < STEPS; number++) {
+    const before = await threadTime();
+    await page.run("timeline.drawBase(), timeline.drawTop()");
+    pictures.push(await threadTime() - before);
+  }
+  console.log(`${size} acts, the whole picture: of the thread's own time ${told(pictures)}`);
   const made = [], gaps = [];
   for (let act = 0; act < NEW_ACTS; act++) {
     const [taken, gap] = await page.run(`(async () => {

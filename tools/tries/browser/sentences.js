@@ -1,4 +1,4 @@
-// ---- sentences on texts, a line of JSON for each, to hold the page's reader against the tools'
+// ---- sentences on texts, a line of JSON for each, to compare the page's reader with the tools'
 
 import {createInterface} from "node:readline";
 
@@ -12,7 +12,8 @@ async function toldOf({text, listing, between, most}) {
     told.push(sayer.sentence(course.acts[place - 1], course.at(place - 1), course.at(place)));
     if (place % between === 0) orders.push(...ordersTold(course, place, labels, most));
   }
-  return {told, end: end && sayer.end(end), orders, machine: stateOf(course.machine)};
+  return {told, end: end && sayer.end(end), orders, machine: stateOf(course.machine),
+    history: course.history.description()};
 }
 
 /** What the first tasks by their labels are, and which comes first of each two of them. */

@@ -25,8 +25,8 @@ def problem(side: int, chance: Chance) -> Problem:
 
 
 def check(given: Network, target: int, memory: Memory) -> str:
-    """Holds the way to the target against a plain search from the target, and each other that was found against one
-    from the start."""
+    """Compares the way to the target with a plain search from the target, and each other that was found with one from
+    the start."""
     found, back, there = memory.words("distance"), shortest(given.roads, target), shortest(given.roads, 0)
     need(found[target] == back[0], f"the way to the target has {found[target]}, and {back[0]} by a plain search")
     visited = [node for node, way in enumerate(found) if way != FAR]

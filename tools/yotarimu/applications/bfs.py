@@ -21,7 +21,7 @@ def problem(side: int, chance: Chance) -> Problem:
 
 
 def check(neighbours: Neighbours, memory: Memory) -> str:
-    """Holds each level against those of the neighbours: it is one more than the least of them."""
+    """Checks each level against those of the neighbours: it is one more than the least of them."""
     levels = memory.words("level")
     need_shortest("level", [[(other, 1) for other in row] for row in neighbours], levels)
     return f"each of {len(levels):,} nodes has its level; the greatest is {max(levels):,}"

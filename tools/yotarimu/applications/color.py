@@ -17,8 +17,12 @@ def problem(bits: int, chance: Chance) -> Problem:
     neighbours = neighbours_of(1 << bits, rmat(bits, EDGES_OF_A_NODE, chance))
     order = sorted(range(len(neighbours)), key=lambda node: -len(neighbours[node]))
     first, adjacent = join_rows(neighbours)
+    turns = [0] * len(order)
+    for turn, node in enumerate(order):
+        turns[node] = turn
     given = Input({"NODES": len(neighbours), "EDGES": len(adjacent)},
-                  {"first": words(first), "adjacent": words(adjacent), "order": words(order)})
+                  {"first": words(first), "adjacent": words(adjacent), "order": words(order),
+                   "turn": words(turns)})
     return Problem(given, functools.partial(check, neighbours, order))
 
 
@@ -37,5 +41,10 @@ def check(neighbours: Neighbours, order: list[int], memory: Memory) -> str:
     return f"each of {len(colours):,} nodes has the least colour that was free; {max(colours)} colours"
 
 
-APPLICATION = Application("color", ("color/task.c",), "bits of a node's number", range(8, 17),
-                          {"small": 10, "medium": 13, "large": 16}, problem)
+def application(name: str, source: str) -> Application:
+    """One of the two programs."""
+    return Application(name, (f"color/{source}",), "bits of a node's number", range(8, 17),
+                       {"small": 10, "medium": 13, "large": 16}, problem)
+
+
+FINE, COARSE = application("color", "task.c"), application("color-coarse", "coarse.c")

@@ -49,7 +49,7 @@ class Transaction:
 
 
 def check(sizes: Sizes, transactions: list[Transaction], prices: list[int], is_ordered: bool, memory: Memory) -> str:
-    """Holds each table against the sums over all transactions; in an ordered root orders come by their numbers."""
+    """Compares each table with the sums over all transactions; in an ordered root orders come by their numbers."""
     places = order_places(sizes, transactions, is_ordered, memory)
     check_orders(sizes, transactions, prices, places, memory)
     check_payments(sizes, transactions, memory)
@@ -78,7 +78,7 @@ def order_places(sizes: Sizes, transactions: list[Transaction], is_ordered: bool
                  f"orders[{place}] is of transaction {number}, which has no order there")
             places[number] = place
     wanted = sum(not it.is_payment for it in transactions)
-    need(len(places) == wanted, f"{len(places)} orders stand there, and {wanted} should")
+    need(len(places) == wanted, f"{len(places)} orders exist, and {wanted} should")
     return places
 
 

@@ -30,7 +30,7 @@ def problem(adders: int, chance: Chance) -> Problem:
 
 
 def check(numbers: list[list[int]], memory: Memory) -> str:
-    """Holds each sum against an addition."""
+    """Compares each sum with an addition."""
     sums = memory.rows("sums", len(numbers[0]) // 2)
     for period, row in enumerate(numbers):
         for place, (one, other) in enumerate(zip(row[::2], row[1::2])):

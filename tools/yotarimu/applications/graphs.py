@@ -13,7 +13,7 @@ Neighbours = list[list[int]]
 QUARTERS = (57, 19, 19, 5)
 # How far apart crossings are, how far each is moved at most, and in which rows the main roads are.
 SPACING, MOVED, MAIN_ROADS = 100, 30, 10
-# Of a hundred roads so many are missing.
+# This percentage of roads is missing.
 MISSING = 10
 
 

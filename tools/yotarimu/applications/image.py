@@ -13,7 +13,7 @@ from yotarimu.applications.application import Application, Problem
 from yotarimu.applications.memory import Place
 from yotarimu.common.outcome import Refusal
 from yotarimu.common.places import HOME
-from yotarimu.images.compiler import need_compiler
+from yotarimu.images.compiler import Compilers, need_compiler
 from yotarimu.images.folder import build
 from yotarimu.images.image import DATA, image_bytes
 from yotarimu.images.source import tool_prefix
@@ -42,7 +42,7 @@ class Case:
 
 @dataclasses.dataclass(frozen=True)
 class ApplicationImage:
-    """The bytes of an image, and where the variables of its sources stand in the data."""
+    """The bytes of an image, and where the variables of its sources are in the data."""
     image: bytes
     places: Mapping[str, Place]
 
@@ -53,7 +53,7 @@ def make(case: Case, problem: Problem, compiler: str, folder: pathlib.Path) -> A
         shutil.copyfile(FOLDER / source, folder / pathlib.Path(source).name)
     for name, content in problem.input.files(f"./fractal applications make {case.words_text}").items():
         (folder / name).write_bytes(content)
-    image, assembled = build(folder, compiler)
+    image, assembled = build(folder, Compilers(compiler))
     places = {label.name: Place(label.address - DATA, label.size)
               for label in assembled.labels if label.section in VARIABLES}
     return ApplicationImage(image_bytes(image), places)
@@ -61,7 +61,7 @@ def make(case: Case, problem: Problem, compiler: str, folder: pathlib.Path) -> A
 
 def need_tools(compiler: str) -> None:
     """Refuses what couldn't be built, before anything is made."""
-    need_compiler(compiler)
+    need_compiler(compiler, compiler)
     tool_prefix()
 
 
@@ -80,7 +80,7 @@ def whole_folder(folder: pathlib.Path) -> Iterator[pathlib.Path]:
     if folder.is_symlink() or folder.exists() and (not folder.is_dir() or any(folder.iterdir())):
         raise Refusal(f"{folder}: it is there and not empty.")
     if not folder.absolute().parent.is_dir():
-        raise Refusal(f"{folder}: it can't be made, since there is no folder {folder.absolute().parent}.")
+        raise Refusal(f"{folder}: it can't be made, because {folder.absolute().parent} isn't a folder.")
     with tempfile.TemporaryDirectory(prefix=f".{folder.name}.", dir=folder.absolute().parent) as unfinished:
         inside = pathlib.Path(unfinished, folder.name)
         inside.mkdir()

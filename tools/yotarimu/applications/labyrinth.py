@@ -3,6 +3,7 @@ from __future__ import annotations
 
 import dataclasses
 import functools
+from collections.abc import Mapping
 from typing import Iterator
 
 from yotarimu.applications.application import Application, Problem
@@ -79,5 +80,14 @@ def check(labyrinth: Labyrinth, memory: Memory) -> str:
     return f"{count} of {len(laid)} wires are laid, over {sum(laid):,} cells, and no other could be"
 
 
-APPLICATION = Application("labyrinth", ("labyrinth/task.c",), "bits of a cell's row and column", range(3, 7),
-                          {"small": 4, "medium": 5, "large": 6}, problem)
+def application(name: str, source: str, size_range: range, sizes: Mapping[str, int]) -> Application:
+    """One of the three programs."""
+    return Application(name, ("labyrinth/wires.h", f"labyrinth/{source}"), "bits of a cell's row and column",
+                       size_range, sizes, problem)
+
+
+SIZES = {"small": 4, "medium": 5, "large": 6}
+NESTED = application("labyrinth", "task.c", range(3, 7), SIZES)
+FLAT = application("labyrinth-flat", "flat.c", range(3, 7), SIZES)
+# A search in one task has to keep to the most instructions that a task may execute.
+COARSE = application("labyrinth-coarse", "coarse.c", range(3, 5), {"small": 4, "medium": 4, "large": 4})

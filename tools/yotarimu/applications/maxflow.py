@@ -3,6 +3,7 @@ from __future__ import annotations
 
 import dataclasses
 import functools
+from collections.abc import Mapping
 
 from yotarimu.applications.application import Application, Problem
 from yotarimu.applications.chance import Chance
@@ -82,7 +83,7 @@ def check(net: Net, memory: Memory) -> str:
     need(not held, f"the nodes {held[:5]} hold flow that could reach the sink")
     passing = sum(net.room[arc] for node in range(net.nodes) if not is_before[node]
                   for arc in range(net.first[node], net.first[node + 1]) if is_before[net.to[arc]])
-    need(excess[-1] == passing, f"{excess[-1]} came to the sink, and {passing} can pass a cut")
+    need(excess[-1] == passing, f"{excess[-1]} reached the sink, and {passing} can pass a cut")
     return f"the flow of {excess[-1]:,} is the greatest; heights were set anew {memory.words('searches')[0]:,} times"
 
 
@@ -108,5 +109,14 @@ def before_sink(net: Net, room: tuple[int, ...]) -> bytearray:
     return is_before
 
 
-APPLICATION = Application("maxflow", ("maxflow/task.c",), "nodes along each side of a frame", range(2, 14),
-                          {"small": 5, "medium": 10, "large": 13}, problem)
+def application(name: str, source: str, size_range: range, sizes: Mapping[str, int]) -> Application:
+    """One of the three programs."""
+    return Application(name, ("maxflow/flow.h", f"maxflow/{source}"), "nodes along each side of a frame", size_range,
+                       sizes, problem)
+
+
+SIZES = {"small": 5, "medium": 10, "large": 13}
+NESTED = application("maxflow", "task.c", range(2, 14), SIZES)
+FLAT = application("maxflow-flat", "flat.c", range(2, 14), SIZES)
+# A search in one task has to keep to the most instructions that a task may execute.
+COARSE = application("maxflow-coarse", "coarse.c", range(2, 7), {"small": 5, "medium": 6, "large": 6})

@@ -31,5 +31,11 @@ def check(neighbours: Neighbours, memory: Memory) -> str:
     return f"{states.count(TAKEN):,} of {len(states):,} nodes are taken, no two are neighbours, and no more could be"
 
 
-APPLICATION = Application("mis", ("mis/task.c",), "nodes", range(100, 240_001),
-                          {"small": 2_000, "medium": 16_000, "large": 240_000}, problem)
+def application(name: str, source: str) -> Application:
+    """One of the three programs."""
+    return Application(name, ("mis/nodes.h", f"mis/{source}"), "nodes", range(100, 240_001),
+                       {"small": 2_000, "medium": 16_000, "large": 240_000}, problem)
+
+
+NESTED, FLAT, COARSE = (application(*it) for it in (
+    ("mis", "task.c"), ("mis-flat", "flat.c"), ("mis-coarse", "coarse.c")))

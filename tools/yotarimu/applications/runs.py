@@ -8,9 +8,8 @@ from typing import Sequence
 from yotarimu.applications.application import Problem
 from yotarimu.applications.image import ApplicationImage
 from yotarimu.applications.memory import Memory, WrongMemory
-from yotarimu.common.outcome import Refusal
+from yotarimu.common.outcome import Difference
 from yotarimu.programs.calls import Calls
-from yotarimu.programs.comparison import answer_of
 from yotarimu.programs.final_memory import memory_left
 from yotarimu.programs.program import end_of
 
@@ -30,13 +29,21 @@ def run(calls: Calls, made: ApplicationImage, options: Sequence[str]) -> Run:
     seconds = time.monotonic() - start
     if end_of(report) != "normal":
         how = f"`end {end_of(report)}`" if end_of(report) else f"with status {status}"
-        raise Refusal(f"the run ended otherwise: {how}.")
+        raise Difference(f"the run ended otherwise: {how}.")
     start = time.monotonic()
     commits = commits_of(report)
     judged = answer_of(calls, ["check", *options], made.image + report)
     if judged != b"check ok %d\n" % commits:
-        raise Refusal(f"the report is refused: {judged.decode('ascii', 'replace').strip()}.")
+        raise Difference(f"the report is refused: {judged.decode('ascii', 'replace').strip()}.")
     return Run(commits, seconds, time.monotonic() - start)
+
+
+def answer_of(calls: Calls, words: Sequence[str], data: bytes) -> bytes:
+    """What the program writes to a call that has to go well."""
+    status, written = calls.call(words, data)
+    if status != 0 or written.startswith(b"fault"):
+        raise Difference(f"`{' '.join(words)}` ended with status {status}.")
+    return written
 
 
 def commits_of(report: bytes) -> int:
@@ -49,8 +56,8 @@ def check(second: Calls, made: ApplicationImage, problem: Problem) -> str:
     """Holds the memory that a run leaves against plain programs, and says what was found right."""
     left = memory_left(second, made.image)
     if left.end != "normal":
-        raise Refusal(f"the run ended otherwise: {left.end}.")
+        raise Difference(f"the run ended otherwise: {left.end}.")
     try:
         return problem.check(Memory(left.data, made.places))
     except WrongMemory as wrong:
-        raise Refusal(f"what the run left is wrong: {wrong}.") from None
+        raise Difference(f"what the run left is wrong: {wrong}.") from None

@@ -1,4 +1,4 @@
-"""Transactions of a database: new orders and payments, in a flat order or as subdomains of an unordered root."""
+"""Transactions of a database: new orders and payments, in a flat order, as subdomains, or as one task each."""
 from __future__ import annotations
 
 import dataclasses
@@ -58,10 +58,11 @@ def given_of(sizes: Sizes, transactions: list[Transaction], prices: list[int]) -
 
 
 def application(name: str, source: str, is_ordered: bool) -> Application:
-    """One of the two programs."""
+    """One of the three programs."""
     return Application(name, ("silo/transactions.h", f"silo/{source}"), "transactions", range(1, 32_001),
                        {"small": 600, "medium": 4_000, "large": 32_000}, functools.partial(problem, is_ordered))
 
 
 FLAT = application("silo", "flat.c", True)
 NESTED = application("silo-nested", "nested.c", False)
+COARSE = application("silo-coarse", "coarse.c", False)

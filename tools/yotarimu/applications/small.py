@@ -10,15 +10,15 @@ from yotarimu.applications.runs import check, run
 from yotarimu.applications.words import SEED_UNLESS_TOLD, SIZE_UNLESS_TOLD
 from yotarimu.common.outcome import Refusal
 from yotarimu.images.compiler import GCC
-from yotarimu.programs.calls import Calls, need_program
-from yotarimu.programs.program import PROGRAM, SECOND_PROGRAM
+from yotarimu.programs.calls import calls_at
+from yotarimu.programs.program import SECOND
 
 
 def why_left_out() -> Optional[str]:
     """A sentence on what is missing to play applications; None where nothing is."""
     try:
-        need_program(PROGRAM)
-        need_program(SECOND_PROGRAM)
+        calls_at()
+        calls_at(which=SECOND)
         need_tools(GCC)
     except Refusal as refused:
         return str(refused)
@@ -34,8 +34,8 @@ def fault_of(application: Application) -> Optional[str]:
     """What is wrong with the memory that a small input leaves, or with its report; None where nothing is."""
     made, problem = made_elsewhere(Case(application, application.sizes[SIZE_UNLESS_TOLD], SEED_UNLESS_TOLD), GCC)
     try:
-        check(Calls(SECOND_PROGRAM), made, problem)
-        run(Calls(PROGRAM), made, [])
+        check(calls_at(which=SECOND), made, problem)
+        run(calls_at(), made, [])
     except Refusal as refused:
         return str(refused)
     return None

@@ -20,7 +20,7 @@ def problem(side: int, chance: Chance) -> Problem:
 
 
 def check(given: Network, memory: Memory) -> str:
-    """Holds each distance against those of the crossings around."""
+    """Checks each distance against those of the crossings around."""
     distances = memory.words("distance")
     need_shortest("distance", given.roads, distances)
     reached = [distance for distance in distances if distance != FAR]

@@ -2,7 +2,6 @@
 from __future__ import annotations
 
 import dataclasses
-import pathlib
 from typing import Optional, Sequence
 
 from yotarimu.applications.application import Application
@@ -18,14 +17,14 @@ SIZE_UNLESS_TOLD, SEED_UNLESS_TOLD = "small", 1
 
 @dataclasses.dataclass(frozen=True)
 class Words:
-    """What stands in a call: names and folders, the size as a word, the seed, compilers, and the paths of programs that
-    are named. The other options are `rest`."""
+    """The arguments of a call: names and folders, the size as a word, the seed, compilers, and the paths of programs
+    that are named. The other options are `rest`."""
     names: Sequence[str]
     size: str
     seed: int
     compilers: Sequence[str]
-    program: Optional[pathlib.Path]
-    second_program: Optional[pathlib.Path]
+    sim: Optional[str]
+    watch: Optional[str]
     rest: Sequence[str]
 
 
@@ -33,24 +32,23 @@ def read_words(words: Sequence[str]) -> Words:
     """The words that all commands know, up to the first option that they don't."""
     size, words = take_option(words, "--size")
     seed, words = take_option(words, "--seed")
-    program, words = take_option(words, "--program")
-    second, words = take_option(words, "--second-program")
+    sim, words = take_option(words, "--sim")
+    watch, words = take_option(words, "--watch")
     is_clang, is_both = "--clang" in words, "--both" in words
     if is_clang and is_both:
-        raise Refusal("--both has clang already, so --clang doesn't stand beside it.")
+        raise Refusal("--both has clang already, so --clang can't be given with it.")
     words = [word for word in words if word not in ("--clang", "--both")]
     count = next((place for place, word in enumerate(words) if word.startswith("-")), len(words))
     return Words(words[:count], SIZE_UNLESS_TOLD if size is None else size,
                  SEED_UNLESS_TOLD if seed is None else need_number("--seed", seed, 0, MOST_SEED),
                  (GCC, CLANG) if is_both else (CLANG if is_clang else GCC,),
-                 None if program is None else pathlib.Path(program), None if second is None else pathlib.Path(second),
-                 words[count:])
+                 sim, watch, words[count:])
 
 
 def need_application(name: str) -> Application:
     """The application of a name."""
     if name not in APPLICATIONS:
-        raise Refusal(f"`{name}` is no application, which is {', '.join(APPLICATIONS)}.")
+        raise Refusal(f"unknown application `{name}`; they are {', '.join(APPLICATIONS)}.")
     return APPLICATIONS[name]
 
 

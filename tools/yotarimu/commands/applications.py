@@ -5,24 +5,26 @@ usage: ./fractal applications list
        ./fractal applications make NAME [FOLDER] [--size SIZE] [--seed N] [--clang]
        ./fractal applications run NAME [--size SIZE] [--seed N] [--clang] [--OPTION VALUE]...
        ./fractal applications check [NAME]... [--size SIZES] [--seed N] [--clang | --both] [--workers NUMBERS]
-       ./fractal applications table [NAME]... [--size SIZE] [--seed N] [--clang] [FURTHER]...
+       ./fractal applications table [NAME]... [--size SIZE] [--seed N] [--clang] [ARGUMENT]...
 
-`list` tells the names, what the size of each counts, and which sizes there are. SIZE is small, medium, large or a
-number; it is small unless told. --seed makes other input (1 unless told), --clang compiles by clang in place of gcc.
+`list` prints the names, what the size of each counts, and which sizes there are.
 
-`make` writes the sources and their input, image.bin and listing to FOLDER, which is NAME-SIZE unless told. It must be
-empty or not be there. `run` makes them elsewhere, runs the image with the program's options, and has the report
-checked.
+`make` writes the sources and their input, image.bin and listing to FOLDER, by default NAME-SIZE. It must be empty or
+not exist. `run` makes them elsewhere, runs the image with the program's options, and has the report checked.
 
-`check` takes all that there are where none is named. SIZES are sizes with commas between, and --both compiles by gcc
-and then by clang. It holds the memory that the run leaves against what a plain program finds. Then it runs the image
-with each of the NUMBERS of workers (0 unless told), and has each report checked.
+`check` takes all applications if none is named, and compares the memory that the run leaves with what a plain program
+finds. Then it runs the image with each of the NUMBERS of workers (default 0), and has each report checked.
 
-`table` plays them in lockstep, and tells what `./fractal study` tells. FURTHER are words of that: options of the
+`table` plays them in lockstep, and prints what `./fractal study` prints. ARGUMENT is one of that: options of the
 program, --columns, --rounds, --csv and --jobs.
 
---program FILE names a built program in place of the one of this clone, and --second-program FILE a built second
-program."""
+  --size SIZE   small, medium, large or a number; for `check` several with commas between (default small)
+  --seed N      makes other input (0 to 4,294,967,295; default 1)
+  --clang       compiles by clang in place of gcc
+  --both        compiles by gcc, and then by clang
+  --sim FILE    a built fractal_sim in place of the one that answers here
+  --watch FILE  a built fractal_watch in place of the one that answers here
+"""
 from __future__ import annotations
 
 import contextlib
@@ -41,12 +43,12 @@ from yotarimu.common.outcome import Refusal
 from yotarimu.common.tables import table
 from yotarimu.common.words import take_option
 from yotarimu.courses.grid import program_options, values_of
-from yotarimu.images.compiler import compiler_told
-from yotarimu.programs.calls import Calls
-from yotarimu.programs.program import PROGRAM, SECOND_PROGRAM
+from yotarimu.images.compiler import told_by
+from yotarimu.programs.calls import calls_at
+from yotarimu.programs.program import SECOND
 from yotarimu.programs.table import Table
 
-HELP = "./fractal applications --help tells more"
+HELP = "./fractal applications --help says more"
 
 
 def main(words: Sequence[str]) -> Optional[int]:
@@ -86,7 +88,7 @@ def run_one(words: list[str]) -> None:
     case = one_case(asked, "run")
     options, rest = program_options(asked.rest, Table().options)
     need_no_more(dataclasses.replace(asked, rest=rest))
-    calls = Calls(asked.program or PROGRAM)
+    calls = calls_at(asked.sim)
     made, _ = made_elsewhere(case, asked.compilers[0])
     told = run(calls, made, options)
     print(f"{case.words_text}: {told.commits:,} tasks took their turns in {told.seconds:.1f} s; `check` accepts the "
@@ -100,14 +102,14 @@ def check_all(words: list[str]) -> None:
     numbers = values_of(Table().options["workers"], "0" if workers is None else workers)
     need_no_more(dataclasses.replace(asked, rest=rest))
     cases = cases_of(asked)
-    calls, second = Calls(asked.program or PROGRAM), Calls(asked.second_program or SECOND_PROGRAM)
+    calls, second = calls_at(asked.sim), calls_at(asked.watch, SECOND)
     for case in cases:
         for compiler in asked.compilers:
             made, problem = made_elsewhere(case, compiler)
             right = check(second, made, problem)
             runs = [run(calls, made, [f"--workers={number}"]) for number in numbers]
-            print(f"{case.words_text} by {compiler_told(compiler)}: {runs[0].commits:,} tasks; {right}. Reports with "
-                  f"{', '.join(map(str, numbers))} workers are accepted.", flush=True)
+            print(f"{case.words_text} by {told_by(compiler, compiler)}: {runs[0].commits:,} tasks; {right}. Reports "
+                  f"with {', '.join(map(str, numbers))} workers are accepted.", flush=True)
 
 
 def table_of_all(words: list[str]) -> Optional[int]:
@@ -116,8 +118,8 @@ def table_of_all(words: list[str]) -> Optional[int]:
     path, rest = take_option(asked.rest, "--csv")
     if "," in asked.size or len(asked.compilers) > 1 or any(word.startswith("--plot") for word in rest):
         raise Refusal(f"`table` takes one size and one compiler, and draws no plot; {HELP}.")
-    second = Calls(asked.second_program or SECOND_PROGRAM)
-    further = [*rest, f"--program={second.program}", *([] if path is None else [f"--csv={os.path.abspath(path)}"])]
+    files = {"watch": asked.watch, "csv": path}
+    further = [*rest, *(f"--{name}={os.path.abspath(file)}" for name, file in files.items() if file is not None)]
     with tempfile.TemporaryDirectory() as folder:
         names = [case.application.name for case in cases_of(asked)]
         for case in cases_of(asked):

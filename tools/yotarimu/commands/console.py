@@ -2,10 +2,12 @@
 
 usage: ./fractal console IMAGE [--script FILE] [--OPTION VALUE]...
 
-IMAGE may be a folder that has an image.bin; then the options that its file words has hold too. --script begins with the
-acts of a script; the further options are the second program's. A listing beside the image gives labels to addresses.
-Each line of the input is an act of a script, in the words of docs/guest/FORMATS.md, or one of these. `#` begins a
-comment.
+IMAGE may be a folder that has an image.bin; then the options that its file words has hold too. The options are those of
+fractal_watch. A listing beside the image gives labels to addresses.
+
+  --script FILE  begins with the acts of a script
+
+Each line of the input is an act of a script, as in docs/guest/FORMATS.md, or one of these. `#` begins a comment.
 
   undo [N]     takes the last N acts back; 1 unless given
   run N        does N acts `advance`, each the event for the least task, or fewer where the run ends
@@ -20,38 +22,34 @@ comment.
 
 A task without a name yet has a label: `0.1+2` is child 2 of 0.1. `>` marks the task and the word of the last act. Each
 act is played by `./fractal watch steps`, from the start. A line that can't be done is told and changes nothing; where
-the input is no terminal, the status is then 1.
+the input isn't a terminal, the status is then 1.
 """
 from __future__ import annotations
 
 import pathlib
 import sys
 
-from yotarimu.common.outcome import note
 from yotarimu.common.words import Words
 from yotarimu.courses.console import NAME, Console, typed_lines, write
 from yotarimu.courses.growth import Schedule
 from yotarimu.courses.scripts import acts_in, options_beside, options_of, read_lines
-from yotarimu.programs.program import SECOND_PROGRAM
 from yotarimu.programs.table import Table
 
 
 def main(words: list[str]) -> int:
     """Does what the words of the call ask for, and gives the status."""
     table = Table()
-    given = Words(NAME, ["script", *table.course_options]).read(words)
+    given = Words(NAME, table.course_options, page=__doc__).read(words)
     options = options_of(given.values, table)
     word, = given.need("one IMAGE, or a folder that has an image.bin", 1)
     path = pathlib.Path(word)
     if path.is_dir():
         options = {**options_beside(path, table), **options}
         path = path / "image.bin"
-    if not SECOND_PROGRAM.exists():
-        note("the second program isn't built, so each act takes an unproved run; ./fractal prove builds it.")
     schedule, script = Schedule(path, options, table), given.values["script"]
     acts = acts_in(read_lines(script), script, options, table) if script else []
-    # What the words of the console are stands in the last part but one of the page.
-    console = Console(schedule, [act.text for act in acts], (__doc__ or "").strip().split("\n\n")[3], script)
+    # What the words of the console are is in the last part but one of the page.
+    console = Console(schedule, [act.text for act in acts], (__doc__ or "").strip().split("\n\n")[5], script)
     if schedule.remark:
         write([schedule.remark])
     write([*console.performance.text_lines(), ""])

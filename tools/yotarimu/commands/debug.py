@@ -1,16 +1,19 @@
 """Goes along a run with gdb, forth and back: breakpoints, steps, variables, watchpoints, tasks as threads.
 
 usage: ./fractal debug IMAGE [REPORT | LINES] [--gdb PROGRAM | --port N | --pipe] [--elf FILE]
+                       [--gcc PATH] [--clang PATH]
 
-LINES is what `./fractal watch` told: each dispatch is a thread, those too that are taken back, and each leg is held
+LINES is what `./fractal watch` told: each dispatch is a thread, those too that are aborted, and each leg is held
 against its line. REPORT is what `run` or `steps` wrote: the tasks run whole, in its order. Where none is named, the
 image is run by `./fractal watch least`. The sources beside the image are made anew, with what gdb wants, and refused
 where they make another image.
 
   --gdb PROGRAM      starts this gdb, in place of gdb-multiarch or riscv64-unknown-elf-gdb
-  --port N           waits for a gdb at this port of the own machine; 0 takes a free one, and tells it
+  --port N           waits for a gdb at this port of this machine; 0 takes a free one, and prints it (0 to 65,535)
   --pipe             serves over standard input and output: `target remote | ./fractal debug IMAGE LINES --pipe`
   --elf FILE         writes the linked file, which a gdb that isn't started here wants to read
+  --gcc PATH         the compiler that made the image, if it isn't the one in the path
+  --clang PATH       the same for clang
 
 Beside gdb's own words, `goto 3.1` goes to a task's start and `goto e17` to an event, `writes distance[3]` tells all
 stores to a word, and `monitor help` what else may be asked.
@@ -20,7 +23,6 @@ from __future__ import annotations
 import contextlib
 import gc
 import pathlib
-import subprocess
 import tempfile
 from typing import Iterator, Optional, Sequence
 
@@ -33,10 +35,14 @@ from yotarimu.debugger.lines_track import LinesTrack
 from yotarimu.debugger.linked_file import LinkedFile, linked_file_for, source_folder
 from yotarimu.debugger.report_track import ReportTrack
 from yotarimu.debugger.track import Track
+from yotarimu.images.compiler import Compilers
+from yotarimu.images.compiler_options import take_compilers
 from yotarimu.images.image import Image, read_image
 from yotarimu.images.labels import listing_for
 from yotarimu.images.listing import Listing
-from yotarimu.programs.launcher import launch, pass_on, why_no_answer
+from yotarimu.programs.calls import calls_at
+from yotarimu.programs.program import SECOND
+from yotarimu.programs.table import why_no_answer
 from yotarimu.reports.report import read_report
 
 NAME = "debug"
@@ -47,13 +53,13 @@ FAULT_OF_LINES = b'{"fault":'
 WHOLE = (0, 3, 4)
 
 
-def linked_beside(path: str, image: Image) -> tuple[Optional[LinkedFile], Listing]:
+def linked_beside(path: str, image: Image, how: Compilers) -> tuple[Optional[LinkedFile], Listing]:
     """The linked file of the sources beside an image, and a listing. Without sources gdb shows addresses alone."""
     folder = source_folder(pathlib.Path(path))
     if folder is None:
         note(f"no sources are beside {path}, so gdb shows instructions and addresses alone.")
         return None, listing_for(path, image, None)[0]
-    linked = linked_file_for(image, folder)
+    linked = linked_file_for(image, folder, how)
     return linked, linked.listing
 
 
@@ -71,12 +77,11 @@ def track_of(image: Image, path: str, listing: Listing) -> Track:
 
 def track_of_run(image: Image, path: str, listing: Listing) -> Track:
     """The track of the image's run, brought on for the least task."""
-    status, lines, said = launch(["watch", "least"], read_bytes(path), subprocess.PIPE)
+    status, lines = calls_at(which=SECOND).call(["least"], read_bytes(path))
     if not lines:
-        raise Refusal(why_no_answer(status, said))
-    pass_on(said)
+        raise Refusal(why_no_answer(status))
     if status not in WHOLE:
-        raise Refusal(f"{path}: the second program told no whole run, but ended with status {status}.")
+        raise Refusal(f"{path}: fractal_watch printed no whole run, but ended with status {status}.")
     with tempfile.NamedTemporaryFile(prefix="lines-") as file:
         file.write(lines)
         file.flush()
@@ -128,7 +133,8 @@ def serve(track: Track, linked: Optional[LinkedFile], gdb: Optional[str], port: 
 
 def main(words: Sequence[str]) -> int:
     """Does what the words of the call ask for, and gives the status."""
-    given = Words(NAME, values=("gdb", "port", "elf"), flags=("pipe",)).read(words)
+    how, words = take_compilers(words, lambda _: False)
+    given = Words(NAME, page=__doc__).read(words)
     gdb, port, path = (given.values[name] for name in ("gdb", "port", "elf"))
     is_pipe = "pipe" in given.flags
     if (gdb is not None) + (port is not None) + is_pipe > 1:
@@ -138,7 +144,7 @@ def main(words: Sequence[str]) -> int:
     if port is None and not is_pipe:
         connections.find_gdb(gdb)
     image = read_image(read_bytes(image_path), image_path)
-    linked, listing = linked_beside(image_path, image)
+    linked, listing = linked_beside(image_path, image, how)
     with nothing_collected():
         track = track_of(image, more[0], listing) if more else track_of_run(image, image_path, listing)
     return serve(track, linked, gdb, port, is_pipe, path)

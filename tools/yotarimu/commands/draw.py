@@ -1,26 +1,40 @@
-"""Draws a played schedule as SVG: a lane for each tile and one for what concerns the least task, a mark for each act.
+"""Draws a run as SVG: a row per core, a bar per attempt at a task, arrows to aborted tasks, commits along the bottom.
 
-usage: ./fractal draw SCRIPT OUTPUT > PICTURE
+usage: ./fractal draw LINES [LISTING] [--by AXIS] [--cut] [--output PICTURE]
 
-OUTPUT is what `./fractal steps` wrote when it played SCRIPT; - is standard input. Each mark tells its act, the reply
-and how many tasks were taken back; a commit is named as in the report. What the output doesn't tell isn't drawn, such
-as which tasks were taken back. Up to 160 acts have words at their marks, and up to 400 have small marks that tell them
-when pointed at. Of a longer schedule the picture shows how much was done, stalled and taken back in each tile, and how
-much committed, by rounds; of a script without rounds by acts.
+LINES is the event log that `./fractal watch` wrote; - is standard input. LISTING is that of the image, as ./fractal
+build wrote it: its labels are those of tasks and of arrows. A bar goes from a task's dispatch to its fate: green with a
+check mark if it commits, red with slanted lines if it is aborted; a thin bar below is an attempt that is finished and
+waits to commit. An arrow goes from the access to each task that it aborts, dashed to those aborted along with these.
+Each bar shows its task in words when pointed at. The page draws the same picture.
 
-    cat IMAGE SCRIPT | ./fractal steps --tiles 2 --cores 1 > said
-    ./fractal draw SCRIPT said > picture.svg
+  --by AXIS          what the axis counts; rounds for lockstep, acts otherwise, unless given (rounds or acts)
+  --cut              draws a log that breaks off before its end; otherwise such a log is refused
+
+    cat IMAGE SCRIPT | ./fractal watch steps --tiles 2 --cores 1 > lines
+    ./fractal draw lines LISTING --output picture.svg
 """
 from __future__ import annotations
 
-from yotarimu.common.files import read_text
+from yotarimu.common.outcome import Refusal
 from yotarimu.common.words import Words
-from yotarimu.courses.schedules import read_played, read_script
-from yotarimu.pictures import lanes
+from yotarimu.images.listing import NO_LISTING
+from yotarimu.lines.reader import open_lines
+from yotarimu.pictures import timeline
+from yotarimu.pictures.history import history_of
+from yotarimu.pictures.page import read_rows
+
+ROUNDS, ACTS = "rounds", "acts"
 
 
 def main(words: list[str]) -> None:
-    """Does what the words of the call ask for."""
-    script, output = Words("draw").read(words).need("a SCRIPT and the OUTPUT of its playing", 2)
-    acts = read_script(read_text(script), script)
-    print(lanes.draw(read_played(acts, read_text(output), output)), end="")
+    """Does what the arguments ask for."""
+    given = Words("draw", page=__doc__).read(words)
+    path, *listing = given.need("LINES and perhaps a LISTING", 1, 2)
+    by = given.values["by"]
+    with open_lines(path, "cut" in given.flags) as watched:
+        names = read_rows(listing[0], watched.head)[0] if listing else NO_LISTING
+        history = history_of(watched)
+    if by == ROUNDS and watched.head["course"] != "lockstep":
+        raise Refusal(f"{path}: only a run in lockstep has rounds; leave --by out.")
+    print(timeline.draw(history, names, watched.head["course"] == "lockstep" and by != ACTS), end="")

@@ -4,9 +4,11 @@ usage: ./fractal exercise journal FILE             FILE has the lines of the jou
        ./fractal exercise abort|stall FILE         FILE is a script; it may have comments and blank lines
        ./fractal exercise false_conflict|order|domains FOLDER
                                                   FOLDER has the task.s that you changed; it is built there
-       ./fractal exercise why FILE                 FILE has a line for each task that was taken back, and why
+       ./fractal exercise why FILE                 FILE has a line for each task that was aborted, and why
        ./fractal exercise EXERCISE ANSWER          EXERCISE is a folder of your own, whose file `wanted` says what an
                                                   answer is and what has to hold of it
+
+The program has 4 GiB of memory to run what an answer makes; YOTARIMU_MEMORY=N gives it N GiB.
 
 The numbers 1 to 7 stand for the names in this order. The status is 0 for a right answer, and 1 for a wrong one.
 """
@@ -40,5 +42,5 @@ def verdict_on(name: str, answer: str) -> str:
     if judge is not None:
         return judge(answer)
     if not pathlib.Path(name).is_dir():
-        raise Refusal(f"`{name}` is no exercise; they are {', '.join(JUDGES)}, and folders of one's own.")
+        raise Refusal(f"`{name}` isn't an exercise; they are {', '.join(JUDGES)}, and folders of your own.")
     return judge_own(pathlib.Path(name), answer)

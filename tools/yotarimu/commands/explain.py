@@ -1,29 +1,40 @@
 """Turns a report into text for people: tasks with labels, the output as text, the window in decimal, the end in words.
 
-usage: ./fractal explain IMAGE REPORT [SOURCE] [--picture | --json | --csv | --registers]
-       ./fractal explain IMAGE REPORT [SOURCE] --task NAME [--json | --registers] [--OPTION VALUE]... [--program FILE]
+usage: ./fractal explain IMAGE REPORT [SOURCE] [--picture | --json | --csv | --registers | --poison]
+       ./fractal explain IMAGE REPORT [SOURCE] --task NAME [--json | --registers] [--OPTION VALUE]... [--sim FILE]
        ./fractal explain IMAGE LINES [SOURCE] [--json | --csv]
+
+  --picture    the tree of tasks, as SVG
+  --json       what it finds, for other programs
+  --csv        the tasks alone
+  --registers  all registers of a task that traps, and not only those that aren't 0
+  --poison     checks every task for reads before writes, and for accesses that leave their label
+  --task NAME  one task alone, named as in the report
+  --sim FILE   a built fractal_sim in place of the one that answers here
 
 REPORT may be - for standard input; it may be what `steps` wrote, replies and all. SOURCE is a listing of
 ./fractal build, a source, or the folder of the sources; where none is named the listing beside the image serves, if
-there is one. With --picture the tree of tasks is written as SVG. --json writes what it tells for other programs, and
---csv the tasks alone. What the report doesn't tell is found by running its tasks again, with the registers of one that
-traps: those that aren't 0, or with --registers all. A report of another image is refused; ./fractal check judges
-whether one is a run's.
+there is one. What isn't in the report is found by running its tasks again, with the registers of one that traps. A
+report of another image is refused; ./fractal check judges whether one is a run's.
 
-With --task it tells of one task alone, which the report names so, what it asked for: loads and stores of the data,
+--poison changes nothing: it lists each instruction that reads a register
+or a word of the stack before the task wrote it, and each access that leaves the label its address started from. Saving
+a register in the stack isn't a read, and an argument counts for the child that reads it. The hint of a child, addresses
+that were loaded from data, and those that instructions alone make aren't checked. The status is 1 if something was
+found. A listing gives the labels and source lines.
+
+With --task it lists what one task asked for: loads and stores of the data,
 children, a subdomain, bytes, and its trap. The built program makes the run again by the OPTIONs, which are those of
 `run` that the report comes from, and saves it as near before the task as it can; only the turns from there on are run
-again here. Where the program isn't built, makes another run or can't save it, all turns before the task are, and that
-is told. --program names a built program in place of the one of this clone.
+again here. Where no program answers here, or it makes another run or can't save it, all turns before the
+task are, and that is told.
 
-LINES is what `./fractal watch` told; of these it tells each task that was taken back, and why: the access or the need
+LINES is what `./fractal watch` told; of these it tells each task that was aborted, and why: the access or the need
 of room behind it, and what both share.
 """
 from __future__ import annotations
 
 import json
-import pathlib
 import re
 import sys
 from typing import NamedTuple, Optional, Union
@@ -40,19 +51,18 @@ from yotarimu.images.serial_machine import Machine
 from yotarimu.lines import taken_tasks
 from yotarimu.pictures import tree
 from yotarimu.pictures.tree import nodes_of
-from yotarimu.programs.calls import Calls
-from yotarimu.programs.program import PROGRAM, why_not_started
+from yotarimu.programs.calls import Calls, calls_at
 from yotarimu.programs.table import Table
 from yotarimu.programs.turns import WrittenRun, shown
-from yotarimu.reports import one_task, plain_data
+from yotarimu.reports import one_task, plain_data, poison
 from yotarimu.reports.explanation import text_of
 from yotarimu.reports.meanings import told_without_report
 from yotarimu.reports.plain_data import other_run
 from yotarimu.reports.refusals import count_of
-from yotarimu.reports.report import NUMBER, Name, read_report
+from yotarimu.reports.report import NUMBER, Name, Report, read_report
 
-REGISTERS = "registers"
-FORMS = ("picture", "json", "csv", REGISTERS)
+REGISTERS, POISON = "registers", "poison"
+FORMS = ("picture", "json", "csv", REGISTERS, POISON)
 # So lines of the second program begin.
 LINES = b"{"
 
@@ -79,12 +89,12 @@ def read_words(words: list[str]) -> Request:
     given = Words("explain", flags=FORMS).read_known(words)
     unknown = [word for word in given.others if word.startswith("--")]
     if unknown or len(given.flags) > 1 or not 2 <= len(given.others) <= 3:
-        raise Refusal("it wants IMAGE REPORT [SOURCE] and one of --picture, --json, --csv and --registers, or none; "
-                      "./fractal explain --help tells more.")
+        raise Refusal("it wants IMAGE REPORT [SOURCE] and one of --picture, --json, --csv, --registers and --poison, "
+                      "or none; ./fractal explain --help says more.")
     image, report, *source = given.others
     form = next(iter(given.flags), None)
-    if task is not None and form in ("picture", "csv"):
-        raise Refusal(f"--{form} tells of all tasks, so --task has no place beside it.")
+    if task is not None and form in ("picture", "csv", POISON):
+        raise Refusal(f"--{form} shows all tasks, so --task can't be given with it.")
     return Request(image, report, source[0] if source else None, form, task)
 
 
@@ -96,34 +106,35 @@ def take_task(words: list[str]) -> tuple[Optional[TaskRequest], list[str]]:
     found = re.fullmatch(rf"{NUMBER}\.{NUMBER}", text)
     if not found:
         raise Refusal(f"--task takes a name as reports have it, such as 2.0, and not `{text}`.")
-    program, words = take_option(words, "--program")
+    program, words = take_option(words, "--sim")
     options, words = program_options(words, Table().options)
     if any(option.startswith("--commits=") for option in options):
-        raise Refusal("the report tells how many tasks committed, so --commits has no place here.")
+        raise Refusal("the report says how many tasks committed, so --commits has no place here.")
     return TaskRequest(Name(int(found[1]), int(found[2])), options, calls_of(program)), words
 
 
 def calls_of(program: Optional[str]) -> Union[Calls, str]:
-    """The calls of a program that is named, which is refused where it can't be called; or those of this clone's
-    program, or why that can't be called."""
-    if program is not None:
-        return Calls(pathlib.Path(program))
-    if not PROGRAM.is_file():
-        return "the program isn't built"
-    return Calls(PROGRAM) if why_not_started(PROGRAM) is None else "this system can't start the program"
+    """The calls of a program that is named, which is refused where it can't be called; or those of the one that answers
+    here, or why none does."""
+    try:
+        return calls_at(program)
+    except Refusal as refused:
+        if program is not None:
+            raise
+        return str(refused).rstrip(".")
 
 
 def explain_no_report(text: str, sentence: str, form: Optional[str]) -> None:
     """What the program said in a report's place."""
-    if form in ("picture", "csv"):
+    if form in ("picture", "csv", POISON):
         raise Refusal(f"`{text.strip()}` has no tasks. {sentence}")
     print(json.dumps({"said": text.strip(), "meaning": sentence}, indent=2) if form == "json" else sentence)
 
 
 def explain_lines(image_path: str, image: Image, lines_path: str, source: Optional[str], form: Optional[str]) -> None:
-    """Prints why the tasks of a run were taken back: as text, or in a form for other programs."""
-    if form in ("picture", REGISTERS):
-        what = "tree of tasks" if form == "picture" else "registers of a trap"
+    """Prints why the tasks of a run were aborted: as text, or in a form for other programs."""
+    if form in ("picture", REGISTERS, POISON):
+        what = {"picture": "tree of tasks", REGISTERS: "registers of a trap"}.get(form, "tasks to check")
         raise Refusal(f"lines have no {what}; the report of the run has.")
     listing, remark = listing_for(image_path, image, source)
     run = taken_tasks.Run(lines_path, image, listing)
@@ -144,6 +155,23 @@ def explain_task(run: WrittenRun, name: Name, listing: Listing, remark: Optional
         print(*one_task.text_of(told, listing, form == REGISTERS), *([f"\n{remark}"] if remark else []), sep="\n")
 
 
+def check_poison(image: Image, report: Report, listing: Listing, remark: Optional[str], of: str) -> int:
+    """Prints reads before writes and accesses out of bounds of all tasks of a report; the status."""
+    machine = poison.CheckedMachine(image, listing)
+    need_same_run(report, machine, of)
+    if report.trap:
+        machine.check_trap(report.trap)
+    print(*poison.text_of(machine, listing), *([f"\n{remark}"] if remark else []), sep="\n")
+    return 1 if machine.findings else 0
+
+
+def need_same_run(report: Report, machine: Machine, of: str) -> None:
+    """Takes the turns of a report; refuses one of another image."""
+    wrong_turn = machine.follow(shown(report.entries))
+    if why := other_run(report, machine, wrong_turn):
+        raise Refusal(f"{of}: {why}.")
+
+
 def begins_as_lines(path: str) -> bool:
     """Whether a file is what the second program told; standard input is a report."""
     if path == "-":
@@ -152,8 +180,8 @@ def begins_as_lines(path: str) -> bool:
         return file.read(1) == LINES
 
 
-def main(words: list[str]) -> None:
-    """Does what the words of the call ask for."""
+def main(words: list[str]) -> int:
+    """Does what the words of the call ask for, and returns the status."""
     image_path, report_path, source, form, task = read_words(words)
     data = read_bytes(image_path)
     image = read_image(data, image_path)
@@ -161,22 +189,23 @@ def main(words: list[str]) -> None:
         if task is not None:
             raise Refusal("--task wants a report, and not lines; ./fractal show goes through these act by act.")
         explain_lines(image_path, image, report_path, source, form)
-        return
+        return 0
     text = read_bytes(report_path).decode("ascii", "replace")
     if sentence := told_without_report(text):
         explain_no_report(text, sentence, form)
-        return
+        return 0
     replies = read_replies(text)
     report = read_report(text, report_path, len(replies))
     listing, remark = listing_for(image_path, image, source)
     if task is not None:
         run = WrittenRun(data, image, text, report, task.calls, task.options, count_of("budget", task.options))
         explain_task(run, task.name, listing, remark, form)
-        return
+        return 0
+    of = f"{report_path}: this isn't a report of a run of {image_path}"
+    if form == POISON:
+        return check_poison(image, report, listing, remark, of)
     machine = Machine(image)
-    wrong_turn = machine.follow(shown(report.entries))
-    if why := other_run(report, machine, wrong_turn):
-        raise Refusal(f"{report_path}: this is no report of a run of {image_path}: {why}.")
+    need_same_run(report, machine, of)
     remarks = [remark] if remark else []
     if form == "picture":
         print(tree.draw(nodes_of(report, machine, listing), len(report.entries)), end="")
@@ -188,3 +217,4 @@ def main(words: list[str]) -> None:
         told = text_of(image_path, image, replies, report, machine, listing, form == REGISTERS)
         print(*told, sep="\n")
         print(*(f"\n{sentence}" for sentence in remarks), sep="\n", end="\n" if remarks else "")
+    return 0

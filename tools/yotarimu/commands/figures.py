@@ -1,17 +1,22 @@
-"""Sums up runs that `./fractal watch` told: which work was wasted, what took tasks back, and how far a run is parallel.
+"""Sums up event logs of runs: which work was wasted, what aborted tasks, and how parallel a run is.
 
 usage: ./fractal figures LINES... [--image IMAGE] [--listing LISTING] [--csv FILE] [--plot FILE] [--log AXES]
                          [--histogram NAME,FILE]
+       ./fractal figures --script SCRIPT OUTPUT... [--csv FILE] [--plot FILE]
 
-Each LINES is a whole text that `./fractal watch` wrote; - is standard input. docs/machine/FIGURES.md says what each
-figure is, and what of a text is held against the lines before it.
+Each LINES is a whole event log that `./fractal watch` wrote; - is standard input. docs/machine/FIGURES.md says what
+each figure is, and what of a log is checked against the lines before it.
 
-  --image IMAGE          the image of the run: each leg is replayed on its text, and each byte of its data is known
-  --listing LISTING      that of the image, as ./fractal build wrote it: addresses are told by their labels
+  --image IMAGE          the image of the run: each leg is replayed on its text, and each byte of its data is known;
+                         settings that no line confirms are named, since an edit of them isn't noticed
+  --listing LISTING      that of the image, as ./fractal build wrote it: addresses are shown by their labels
   --csv FILE             the same numbers as CSV, a row for each figure, with all lines, addresses, values and curves
-  --plot FILE            a plot (SVG) of how many tasks are where, over rounds in lockstep and else over events
-  --log AXES             the plot's axes that are logarithmic: x, y or xy; none unless told
-  --histogram NAME,FILE  a histogram (SVG) of what tasks have that committed: {names}
+  --plot FILE            a plot (SVG) of how many tasks are where, over rounds in lockstep and otherwise over events
+  --log AXES             the plot's axes that are logarithmic (x, y or xy)
+  --histogram NAME,FILE  a histogram (SVG) of what tasks have that committed: instructions, loads, stores, lines read,
+                         lines written, children
+  --script SCRIPT        sums up what `./fractal steps` wrote, each OUTPUT, when it played this script: acts by reply,
+                         tasks aborted and by which act, dispatches, stalls, commits; the plot is of commits over acts
 """
 from __future__ import annotations
 
@@ -19,50 +24,50 @@ import csv
 import dataclasses
 import io
 import time
+from collections.abc import Iterable
 from typing import Optional
 
-from yotarimu.common.files import encode, need_outputs, read_bytes, read_written, write_whole
+from yotarimu.common.files import encode, need_outputs, read_bytes, read_text, read_written, write_whole
 from yotarimu.common.outcome import Refusal, is_at_terminal, say
-from yotarimu.common.words import need_words, take_option
+from yotarimu.common.text import without_controls
+from yotarimu.common.words import GivenWords, Words
+from yotarimu.courses.schedules import acts_a_round, read_played, read_script
 from yotarimu.figures import feeders, tables
+from yotarimu.figures.tally import Tally, acts_by_reply, plain_rows, summary
 from yotarimu.figures.run import Figures, read_figures
 from yotarimu.figures.tasks import SPREADS
 from yotarimu.images.image import read_image
 from yotarimu.images.listing import NO_LISTING, Listing, read_listing
+from yotarimu.lines.replay import unconfirmed_sentence
 from yotarimu.pictures import histogram, plot
-
-__doc__ = __doc__.replace("{names}", ", ".join(SPREADS))
 
 
 @dataclasses.dataclass
 class Request:
-    """What the words ask for."""
+    """What the arguments ask for."""
     names: list[str]
-    image: Optional[str] = None
-    listing: Optional[str] = None
-    csv: Optional[str] = None
-    plot: Optional[str] = None
-    axes: str = ""
+    image: Optional[str]
+    listing: Optional[str]
+    csv: Optional[str]
+    plot: Optional[str]
+    axes: str
     histogram: Optional[str] = None
     histogram_of: str = ""
 
 
-def read_words(words: list[str]) -> Request:
-    """The request that the words are."""
-    found = {}
-    for name in ("image", "listing", "csv", "plot", "log", "histogram"):
-        found[name], words = take_option(words, f"--{name}")
-    names = need_words(words, max(1, len(words)), "figures", "LINES, one text or more")
+def read_request(given: GivenWords) -> Request:
+    """The request that the arguments make."""
+    names, told = given.need("LINES, one log or more", 1, max(1, len(given.others))), given.values
     if len(set(names)) < len(names):
-        raise Refusal("a text of LINES stands twice.")
-    if found["log"] is not None and (found["log"] not in plot.AXES or found["plot"] is None):
-        raise Refusal(f"--log takes {', '.join(plot.AXES)} beside --plot, and not `{found['log']}`.")
-    request = Request(names, found["image"], found["listing"], found["csv"], found["plot"], found["log"] or "")
-    if found["histogram"] is not None:
-        request.histogram_of, comma, path = found["histogram"].partition(",")
+        raise Refusal("a log of LINES is given twice.")
+    if told["log"] is not None and told["plot"] is None:
+        raise Refusal("--log needs --plot.")
+    request = Request(names, told["image"], told["listing"], told["csv"], told["plot"], told["log"] or "")
+    if told["histogram"] is not None:
+        request.histogram_of, _, path = told["histogram"].partition(",")
         if request.histogram_of not in SPREADS or not path or len(names) > 1:
-            raise Refusal(f"--histogram takes NAME,FILE beside one text, with a NAME of {', '.join(SPREADS)}, and not "
-                          f"`{found['histogram']}`.")
+            raise Refusal(f"--histogram must be NAME,FILE with one log, where NAME is {', '.join(SPREADS)}, not "
+                          f"{told['histogram']}.")
         request.histogram = path
     need_outputs((request.csv, request.plot, request.histogram), (*names, request.image, request.listing))
     return request
@@ -85,9 +90,9 @@ def print_tables(runs: dict[str, Figures], listing: Listing) -> None:
     for name, it in runs.items():
         of_run = f" of {name}" if len(runs) > 1 else ""
         if causes := tables.causes(it):
-            print("", f"What took tasks back themselves{of_run}, and what that goes back to:", "", *causes, sep="\n")
+            print("", f"Direct causes of aborts{of_run}, and their root causes:", "", *causes, sep="\n")
         if it.taken_back.lines:
-            print("", f"Where loads and stores took tasks back{of_run}:", "",
+            print("", f"Where loads and stores aborted tasks{of_run}:", "",
                   *tables.places(it, listing), sep="\n")
         print("", f"What the tasks{of_run} are like:", "", *tables.spreads(it), "", *tables.domains(it), "",
               *tables.entries(it, listing), "", *tables.accesses(it), sep="\n")
@@ -100,9 +105,15 @@ def print_tables(runs: dict[str, Figures], listing: Listing) -> None:
             print("", f"{name}: {told}" if len(runs) > 1 else told, sep="\n")
 
 
+def print_unconfirmed(runs: dict[str, Figures]) -> None:
+    """Prints which settings of each run the reader can't know."""
+    for name, it in runs.items():
+        print("", unconfirmed_sentence(it.unconfirmed, name if len(runs) > 1 else ""), sep="\n")
+
+
 def files_of(request: Request, runs: dict[str, Figures]) -> dict[str, bytes]:
     """The files that are asked for."""
-    files = {}
+    files: dict[str, bytes] = {}
     first = runs[request.names[0]]
     if request.plot is not None:
         picture = plot.draw(tables.curves(runs), first.occupancy.over(), "tasks", request.axes)
@@ -111,19 +122,51 @@ def files_of(request: Request, runs: dict[str, Figures]) -> dict[str, bytes]:
         bars = list(first.tasks.spreads[request.histogram_of].bars())
         files[request.histogram] = encode(histogram.draw(bars, f"{request.histogram_of} of a task", "tasks"))
     if request.csv is not None:
-        text = io.StringIO()
-        csv.writer(text, lineterminator="\n").writerows(tables.plain_rows(runs))
-        files[request.csv] = encode(text.getvalue())
+        files[request.csv] = csv_text(tables.plain_rows(runs))
     return files
 
 
+def csv_text(rows: Iterable[Iterable[object]]) -> bytes:
+    """Rows as the bytes of a file of CSV."""
+    text = io.StringIO()
+    csv.writer(text, lineterminator="\n").writerows(rows)
+    return encode(text.getvalue())
+
+
+def sum_up_script(script: str, given: GivenWords) -> None:
+    """Sums up what was written when a script was played."""
+    outputs = given.need("one OUTPUT of the script or more", 1, max(1, len(given.others)))
+    if len(set(outputs)) < len(outputs):
+        raise Refusal("an OUTPUT is given twice.")
+    path, csv_path = given.values["plot"], given.values["csv"]
+    need_outputs((path, csv_path), (script, *outputs))
+    acts = read_script(read_text(script), script)
+    if not acts:
+        raise Refusal(f"{script}: this script has no act, so there is nothing to sum up.")
+    rounds = acts_a_round(acts)
+    tallies = {without_controls(name): Tally(read_played(acts, read_text(name), name), rounds) for name in outputs}
+    print(*summary(tallies), sep="\n")
+    for name, tally in tallies.items():
+        print("", f"Acts of {name} by reply:" if len(tallies) > 1 else "Acts by reply:", "", *acts_by_reply(tally),
+              sep="\n")
+    curves = {name if len(tallies) > 1 else "": tally.curve for name, tally in tallies.items()}
+    made = {path: plot.draw(curves, "acts", "commits").encode(), csv_path: csv_text(plain_rows(tallies))}
+    write_whole({file: data for file, data in made.items() if file is not None})
+
+
 def main(words: list[str]) -> None:
-    """Does what the words of the call ask for."""
-    request = read_words(words)
+    """Does what the arguments ask for."""
+    given = Words("figures", page=__doc__).read(words)
+    if given.values["script"] is not None:
+        sum_up_script(given.values["script"], given)
+        return
+    request = read_request(given)
     listing = NO_LISTING if request.listing is None else read_listing(read_written(request.listing), request.listing)
     runs = read_runs(request)
     if request.plot is not None and len({it.occupancy.over() for it in runs.values()}) > 1:
         raise Refusal("one plot has no place for rounds and events: --plot takes texts in lockstep, or none of them.")
     files = files_of(request, runs)
     print_tables(runs, listing)
+    if request.image is not None:
+        print_unconfirmed(runs)
     write_whole(files)

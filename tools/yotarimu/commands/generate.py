@@ -22,5 +22,5 @@ def main(words: list[str]) -> None:
         raise Refusal(f"it generates {' and '.join(SIZES)}, and not `{kind}`.")
     numbers = need_number("SEED", seed, 0, MOST_SEED), need_number("SIZE", size, 1, SIZES[kind])
     if sys.stdout.isatty():
-        raise Refusal("an image is no text for a terminal: > FILE writes it to a file.")
+        raise Refusal("an image isn't text for a terminal: > FILE writes it to a file.")
     sys.stdout.buffer.write(image_bytes(generate(kind, *numbers)))

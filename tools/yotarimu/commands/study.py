@@ -1,63 +1,85 @@
-"""Plays images in lockstep up to the end of their runs, once for each choice of options, and tells in a table where
-tasks were taken back, and what came of it.
+"""Plays images in lockstep up to the end of their runs, once for each choice of options, and prints a table of how fast
+each was, which tasks were aborted, and where core time went.
 
 usage: ./fractal study IMAGE... [--OPTION VALUES]... [WORDS]
-       ./fractal study --join CSV... [--csv FILE] [--plot COLUMN,OPTION,FILE] [--log AXES]
+       ./fractal study --join CSV... [--csv FILE] [--columns NAMES] [--plot COLUMN,OPTION,FILE] [--bars FILE]
        ./fractal study --page PAGE [--write]
 
-OPTION is one of the second program's, as `./fractal help watch` lists them. VALUES are numbers with commas between, or
-FROM..TO, or FROM..TO..STEP; of --filter they are words with commas between. The table has a line for each image and
-each choice of one value an option, which comes as soon as it is known, in the order of the choices. Each is played by
-`./fractal watch lockstep`. Further words:
+OPTION is one of the second program's, as `./fractal help watch` lists them, or one of
 
-  --seed N                   the acts of a round are shuffled by this seed; 0 unless told, which shuffles nothing
-  --rounds N                 so many rounds at most; 1,000,000 unless told
+  --seed VALUES              seeds that shuffle the acts of each round; 0, the default, shuffles nothing. With several
+                             seeds a line has the mean and the sample standard deviation
+  --starved VALUES           starved rounds after which the least task is advanced by force; 16 unless given
+
+VALUES are numbers with commas between, or FROM..TO, or FROM..TO..STEP; of --filter they are words with commas between.
+The table has a line for each image and each choice of one value for each option, which is printed as soon as it is
+known. Each choice is played by `./fractal watch lockstep`. Further words:
+
+  --machines LIST            TILESxCORES with commas between, such as 1x1,1x4,4x4,16x4, in place of --tiles and --cores
+  --time UNIT                what takes a round: `rounds`, a step of each core, which is the default; or `instructions`,
+                             one instruction of each core, which is the same as --quantum 1
+  --rounds N                 at most so many rounds; 1,000,000 unless given
   --columns NAMES            columns of the table, with commas between
-  --csv FILE                 all columns as CSV, a number each but for the image, the filter and the end. Where the
-                             study is ended early, FILE has the rows that were known by then
-  --jobs N                   so many choices are played at once, in processes; 1 unless told
+  --counts                   reads counts instead of the event log, for columns that need no more
+  --csv FILE                 all columns as CSV, a row for each run. If the study is ended early, FILE has the rows that
+                             were known by then. With --counts the columns that need the log are empty
+  --jobs N                   so many choices are played at once, in processes; 1 unless given
   --shard K/N                only each N-th choice, from the K-th on
-  --plot COLUMN,OPTION,FILE  a plot (SVG) of a column against an option, a line for each choice of the rest
-  --log AXES                 the plot's axes that are logarithmic: x, y or xy; none unless told
-  --program FILE             a built second program in place of the one of this clone
+  --plot COLUMN,OPTION,FILE  a plot of a column against an option, or against all-cores; a line for each choice of the
+                             rest, with error bars of one standard deviation over seeds. FILE ends in .svg or, if
+                             rsvg-convert is installed, in .pdf. Of several images each has a panel of its own
+  --bars FILE                stacked bars of where core time went, a bar for each choice
+  --log AXES                 the plot's axes that are logarithmic: x, y or xy; none unless given
+  --watch FILE               a built fractal_watch in place of the one that answers here
   --join                     joins the CSV of shards 1 to N, given in this order, or takes that of a whole study
 
-NAMES are:
+NAMES are the following. Those marked (log) need the event log of the run, which is read line by line: 10,000 to 100,000
+lines a second, and a line for each act that is made. All others come from counts, which the program makes as it goes:
+about a million acts a second. One marked column makes a choice read the log.
+
 {columns}
 
-A run without an end is a line that says so, with its numbers up to there. The status is 1 where no run came to an end.
-`fewer` is held against the first row of the same image, and is told where both runs came equally far. A shard doesn't
-tell it; the join does. --workers makes no difference: no host thread makes an act of lockstep. docs/machine/FIGURES.md
-says what each column is.
+The program has 4 GiB of memory for each run; YOTARIMU_MEMORY=N gives it N GiB. A run that wants more has a line that
+says `none: status 5`.
 
-With --page the commands of a page such as docs/machine/STUDY.md are called, one after another, and each table that
-stands behind some is held against what they tell; with --write it is replaced. The status is 1 where one differs.
+A run without an end has a line that says so, with its numbers up to there. The status is 1 if no run ended.
+`fewer` compares the rounds with the first row of the same image and seed, and `speedup` with the same choice on one
+core, if the grid has it; both need runs that came equally far. A shard doesn't compare; the join does. A row in which
+the least task was advanced by force is marked, and so is a comparison of runs that committed other work. --workers
+makes no difference. docs/machine/FIGURES.md defines each column.
+
+With --page the commands of a page such as docs/machine/STUDY.md are called, one after another, and each table after
+some of them is compared with what they print; with --write it is replaced. The status is 1 if one differs.
 """
 from __future__ import annotations
 
-import pathlib
-from collections.abc import Mapping, Sequence
-from typing import Optional
+from collections.abc import Collection, Mapping, Sequence
+from typing import Optional, Union
 
 from yotarimu.common.files import need_outputs, read_bytes, write_whole
 from yotarimu.common.outcome import Refusal, say
 from yotarimu.common.text import likely
 from yotarimu.common.words import need_number, take_option
 from yotarimu.courses import page_tables
-from yotarimu.courses.grid import MOST_RUNS, cells_of, picture_of, shard_of, values_of
+from yotarimu.courses.grid import MOST_RUNS, cells_of, shard_of, values_of
+from yotarimu.courses.row_pictures import BarPicture, Picture, picture_of
 from yotarimu.courses.shards import join_shards
-from yotarimu.courses.study import Choice, StudyRows, Study, csv_of, rows_in, tell
+from yotarimu.courses.study import PlayedRows, Study, grid_options, table_lines, tell
+from yotarimu.courses.study_rows import Choice, csv_of, rows_in, rows_of_csv
 from yotarimu.figures.columns import COLUMNS, END, UNLESS_TOLD
 from yotarimu.figures.counted import COUNTED
 from yotarimu.programs.calls import Calls
-from yotarimu.programs.program import SECOND_PROGRAM
-from yotarimu.programs.table import Table
+from yotarimu.programs.program import SECOND, program_at
+from yotarimu.programs.table import NO_MEMORY, Option, Table, Value, why_no_answer
 
 MOST_ROUNDS, MOST_JOBS = 1_000_000, 1_024
-MOST_SEED = 2 ** 32 - 1
-__doc__ = __doc__.replace("{columns}", "\n".join(f"  {name:<19}{it.head}" for name, it in COLUMNS.items()))
-OWN_OPTIONS = ("seed", "jobs", "program", "rounds", "csv", "columns", "shard", "plot", "log")
-HELP = "./fractal study --help tells the words, ./fractal help the options."
+__doc__ = __doc__.replace("{columns}", "\n".join(
+    f"  {name:<23}{it.head}{'' if name in COUNTED else ' (log)'}" for name, it in COLUMNS.items()))
+OWN_OPTIONS = ("jobs", "watch", "rounds", "csv", "columns", "shard", "plot", "log", "bars", "machines", "time")
+TIMES = ("rounds", "instructions")
+# The values of options that are words of this command, by their names.
+Seen = Mapping[str, Optional[str]]
+HELP = "./fractal study --help lists the arguments, ./fractal help the options."
 
 
 def take_options(words: Sequence[str], names: Sequence[str]) -> tuple[dict[str, Optional[str]], list[str]]:
@@ -75,7 +97,7 @@ def need_paths(words: Sequence[str], what: str) -> list[str]:
     if unknown is not None:
         raise Refusal(f"`{unknown}` isn't known; {HELP}")
     if not words:
-        raise Refusal(f"it wants {what}; ./fractal study --help tells more.")
+        raise Refusal(f"it wants {what}; ./fractal study --help says more.")
     if len(set(words)) < len(words):
         raise Refusal(f"{what} stands twice.")
     return list(words)
@@ -92,69 +114,116 @@ def columns_of(text: Optional[str]) -> list[str]:
     names = list(UNLESS_TOLD) if text is None else text.split(",")
     unknown = next((name for name in names if name not in COLUMNS and name != END), None)
     if unknown is not None:
-        raise Refusal(f"--columns: there is no column `{unknown}`{likely(unknown, [*COLUMNS, END])}; "
-                      "./fractal study --help lists all.")
+        raise Refusal(f"--columns: unknown column {unknown}{likely(unknown, [*COLUMNS, END])}")
     return names
 
 
-def study_of(words: Sequence[str], grid: Table) -> tuple[StudyRows, list[str], dict[str, Optional[str]]]:
-    """The study that the words ask for, the options that vary, and the values of the other words."""
-    seen, rest = take_options(words, OWN_OPTIONS)
-    texts, rest = take_options(rest, list(grid.course_options))
-    paths = need_paths(rest, "an IMAGE")
-    values = {name: values_of(grid.course_options[name], text) for name, text in texts.items() if text is not None}
-    cells = [(path, cell) for path in paths for cell in cells_of(grid.course_options, values, "choices")]
+def machines_of(text: Optional[str], grid: Mapping[str, Option]) -> list[dict[str, list[Value]]]:
+    """The values of --tiles and --cores for each machine of a list such as `1x1,4x2`; nothing without a list."""
+    if text is None:
+        return [{}]
+    found = []
+    for piece in text.split(","):
+        tiles, cross, cores = piece.partition("x")
+        if not cross:
+            raise Refusal(f"--machines takes TILESxCORES with commas between, such as 1x1,4x4, and not `{piece}`.")
+        found.append({name: values_of(grid[name], value) for name, value in (("tiles", tiles), ("cores", cores))})
+    return found
+
+
+def values_in_words(texts: Mapping[str, Optional[str]], grid: Mapping[str, Option],
+                    time: Optional[str]) -> dict[str, list[Value]]:
+    """The values of each option that is given; time in instructions has a quantum of one."""
+    values = {name: values_of(grid[name], text) for name, text in texts.items() if text is not None}
+    if time not in (None, *TIMES):
+        raise Refusal(f"--time takes {' or '.join(TIMES)}, and not `{time}`.")
+    if time == "instructions" and values.setdefault("quantum", [1]) != [1]:
+        raise Refusal("--time instructions has a quantum of 1, so it takes no other --quantum.")
+    return values
+
+
+def choices_of(paths: Sequence[str], texts: Mapping[str, Optional[str]], seen: Mapping[str, Optional[str]],
+               grid: Mapping[str, Option]) -> list[Choice]:
+    """The choices of a study: each image with each choice of one value for each option."""
+    values, machines = values_in_words(texts, grid, seen["time"]), machines_of(seen["machines"], grid)
+    if seen["machines"] is not None and {"tiles", "cores"} & set(values):
+        raise Refusal("--machines has the tiles and the cores, so it takes neither --tiles nor --cores beside it.")
+    cells = [(path, cell) for path in paths for machine in machines
+             for cell in cells_of(grid, {**values, **machine}, "choices")]
     if len(cells) > MOST_RUNS:
         raise Refusal(f"the grid has {len(cells):,} choices, and {MOST_RUNS:,} are the most.")
-    choices = [Choice(number, *cell) for number, cell in enumerate(cells, 1)]
+    return [Choice(number, *cell) for number, cell in enumerate(cells, 1)]
+
+
+def study_of(words: Sequence[str], grid: Mapping[str, Option]) -> tuple[PlayedRows, list[str], Seen]:
+    """The study that the words ask for, the options that vary, and the values of the other words."""
+    is_counted, words = "--counts" in words, [word for word in words if word != "--counts"]
+    seen, rest = take_options(words, OWN_OPTIONS)
+    texts, rest = take_options(rest, list(grid))
+    paths = need_paths(rest, "an IMAGE")
+    choices = choices_of(paths, texts, seen, grid)
     shard = shard_of(seen["shard"])
     if not shard.of(choices):
         raise Refusal(f"shard {shard.number} has nothing to do, as there are {len(choices)} choices.")
-    calls = Calls(SECOND_PROGRAM if seen["program"] is None else pathlib.Path(seen["program"]))
+    program = program_at(seen["watch"], SECOND)
     columns = columns_of(seen["columns"])
-    # A file and a plot may have each column.
-    is_counted = seen["csv"] is None and seen["plot"] is None and set(columns) <= set(COUNTED)
-    study = Study({path: read_bytes(path) for path in paths}, number_of(seen, "seed", 0, MOST_SEED, 0),
-                  number_of(seen, "rounds", 1, MOST_ROUNDS, MOST_ROUNDS), columns, calls, shard, is_counted)
-    return StudyRows(study, choices), [name for name in grid.course_options if len(values.get(name, [])) > 1], seen
+    is_enough = {*columns} <= {*COUNTED, END}
+    if is_counted and not is_enough:
+        lacking = next(name for name in columns if name not in (*COUNTED, END))
+        raise Refusal(f"--counts has no column {lacking}, which needs the event log.")
+    # Without --counts a file and a plot may have each column.
+    is_counted |= is_enough and all(seen[name] is None for name in ("csv", "plot", "bars"))
+    study = Study({path: read_bytes(path) for path in paths},
+                  number_of(seen, "rounds", 1, MOST_ROUNDS, MOST_ROUNDS), columns, Calls(program.command),
+                  program.identity, shard, is_counted)
+    varying = [name for name in grid if len({choice.options[name] for choice in choices}) > 1]
+    return PlayedRows(study, choices), varying, seen
+
+
+def pictures_of(seen: Mapping[str, Optional[str]], options: Collection[str]) -> list[Union[Picture, BarPicture]]:
+    """The pictures that the words ask for."""
+    plot, bars = picture_of(seen["plot"], seen["log"], COLUMNS, options), seen["bars"]
+    return [*([plot] if plot else []), *([BarPicture(bars)] if bars else [])]
 
 
 def play(words: Sequence[str]) -> int:
     """Plays the choices of a study, or the rest of them, and prints the table."""
-    grid = Table()
+    grid = grid_options(Table())
     played, varying, seen = study_of(words, grid)
-    picture, path = picture_of(seen["plot"], seen["log"], COLUMNS, grid.course_options), seen["csv"]
-    need_outputs([path, picture.path if picture else None], list(played.study.images))
+    pictures, path = pictures_of(seen, grid), seen["csv"]
+    need_outputs([path, *(picture.path for picture in pictures)], list(played.study.images))
     jobs = number_of(seen, "jobs", 1, MOST_JOBS, 1)
     played.study.need_images()
     try:
         tell(played, varying, jobs)
     finally:
         if path is not None and played.rows:
-            write_whole({path: csv_of(played.cells(list(grid.course_options)))})
+            write_whole({path: csv_of(played.known_cells(list(grid)))})
             if len(played.rows) < len(played.choices):
                 say("study", f"{path} has {len(played.rows)} of {len(played.choices)} rows.")
-    if picture is not None:
-        write_whole({picture.path: picture.draw(rows_in(played.cells(list(grid.course_options))), "this study")})
+    for picture in pictures:
+        write_whole(picture.files(rows_in(played.known_cells(list(grid))), "this study"))
+    if any(row.end == f"none: status {NO_MEMORY}" for row in played.rows.values()):
+        say("study", why_no_answer(NO_MEMORY))
     if all(row.end.startswith("none") for row in played.rows.values()):
-        say("study", "no run came to an end.")
+        say("study", "no run ended.")
         return 1
     return 0
 
 
 def join(words: Sequence[str]) -> int:
     """Joins what shards wrote."""
-    seen, rest = take_options([word for word in words if word != "--join"], ("csv", "plot", "log"))
+    seen, rest = take_options([word for word in words if word != "--join"], ("csv", "plot", "log", "bars", "columns"))
     paths = need_paths(rest, "a CSV")
-    picture = picture_of(seen["plot"], seen["log"], COLUMNS, Table().course_options)
-    need_outputs([seen["csv"], picture.path if picture else None], paths)
+    pictures, path = pictures_of(seen, grid_options(Table())), seen["csv"]
+    need_outputs([path, *(picture.path for picture in pictures)], paths)
     cells = join_shards(paths)
-    files = {}
-    if picture is not None:
-        files[picture.path] = picture.draw(rows_in(cells), ", ".join(paths))
-    if seen["csv"] is not None:
-        files[seen["csv"]] = csv_of(cells)
-    if not files:
+    files = {} if path is None else {path: csv_of(cells)}
+    for picture in pictures:
+        files.update(picture.files(rows_in(cells), ", ".join(paths)))
+    if seen["columns"] is not None:
+        print(*table_lines(rows_of_csv(cells), columns_of(seen["columns"])), sep="\n")
+    elif not files:
         print(csv_of(cells).decode(), end="")
     write_whole(files)
     return 0

@@ -1,15 +1,15 @@
 """Plays the project's examples, its schedules and its table of answers, and compares what the program answers with what
 is stored. Each report is handed back to be checked. Small applications are played too.
 
-usage: ./fractal test [NAME]...     `./fractal test` is the same; it takes all where no NAME is told
+usage: ./fractal test [NAME]...     all where no NAME is given
 
 NAME is one of the examples or schedules, or `answers`: calls for each status of each command, and for each fault of
-docs/guest/FORMATS.md; and each schedule once more, told act by act by the second program, where that is built, and
-line by line as in the file `worked` where its folder has one. Where the program isn't built, one unproved run plays all
-but what reads more than a megabyte, wants memory, or reads from and writes to devices that fail.
+docs/guest/FORMATS.md; and each schedule once more, reported act by act by fractal_watch, and compared line by line with
+the file `worked` where its folder has one. Where Node or Deno runs the program, calls that want little memory or
+devices that fail are left out.
 
 NAME may also be `applications`: each of these leaves what a plain program finds from its small input, and its report is
-accepted. That wants both programs built, and a compiler of C for RISC-V; else they are left out, which the end tells.
+accepted. That wants a compiler of C for RISC-V; without one they are left out, and the last line says so.
 
 It writes nothing, and names what it accepts. The last line counts; the status is 0 where all went as stored.
 """
@@ -20,9 +20,9 @@ from typing import Optional
 
 from yotarimu.applications.small import small_faults, why_left_out
 from yotarimu.common.outcome import Refusal
-from yotarimu.programs.check import ANSWERS, BUILT, UNPROVED, check, lines_of
+from yotarimu.programs.check import ANSWERS, PROVED, REMARKS, check, lines_of
 from yotarimu.programs.examples import EXAMPLES, SCHEDULES
-from yotarimu.programs.program import PROGRAM
+from yotarimu.programs.program import answering_program
 
 APPLICATIONS = "applications"
 
@@ -45,19 +45,19 @@ def main(words: list[str]) -> int:
 
 
 def are_right() -> bool:
-    """Plays the small applications and tells of them; whether all are right."""
+    """Plays the small applications and reports on them; returns whether all are right."""
     faults = small_faults()
     print(*lines_of(APPLICATIONS, faults, "right"), sep="\n", flush=True)
     return not any(fault for _, fault in faults)
 
 
 def are_as_stored(names: list[str], left_out: Optional[str]) -> bool:
-    """Plays examples, schedules and answers, and tells of them, and why applications were left out where they were;
-    whether all went as stored."""
-    start, is_built = time.monotonic(), PROGRAM.exists()
-    count, failed = check(names, is_built)
-    remarks = [BUILT if is_built else UNPROVED]
-    if is_built and left_out is not None:
+    """Plays examples, schedules and answers, and reports on them, and why applications were skipped; returns whether
+    all went as stored."""
+    start, kind = time.monotonic(), answering_program().kind
+    count, failed = check(names)
+    remarks = [REMARKS.get(kind, PROVED)]
+    if left_out is not None:
         remarks.insert(0, f"Applications were left out: {left_out}")
     print(f"{count - failed} of {count} answers are as stored, in {time.monotonic() - start:.0f} s.", *remarks)
     return not failed

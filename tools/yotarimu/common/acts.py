@@ -1,6 +1,6 @@
 """The acts of a script in one table, from which all lists of acts in the tools come: docs/guest/FORMATS.md has them.
 
-An act is at most one event. `.ci/lint` holds the table against that page, the grammar of the crates, the sentences, and
+An act is at most one event. `.ci/lint` compares the table with that page, the grammar of the crates, the sentences, and
 the page's own lists.
 """
 from __future__ import annotations
@@ -12,15 +12,15 @@ ENDED = "ended"
 
 
 class ActKind(NamedTuple):
-    """Of an act: how many numbers come after its word, a tile and a core of it; whether lines tell it as an event of
-    its own; what a script is answered to it before the run's end, and what its own line may tell."""
+    """The properties of an act: how many numbers follow its word, a tile and a core of it; whether event logs have it
+    as an event of its own; its replies before the run's end, and the fields of its own line."""
     numbers: int
     is_event: bool
     replies: tuple[str, ...]
     told: tuple[str, ...]
 
 
-# A step may also stall, where its task asks for a child or for its end. A leg that is given is told as a step, and what
+# A step may also stall, if its task requests a child or its end. A leg that is given is logged as a step, and what
 # `advance` does under the word of the event.
 ACTS = {
     "dispatch": ActKind(1, True, ("ok", "empty", "busy"), ("ok", "empty", "busy")),
@@ -33,7 +33,7 @@ ACTS = {
     "split": ActKind(1, True, ("ok", "empty", "stall"), ("ok", "empty", "stall")),
     "advance": ActKind(0, False, ("moved", "committed"), ()),
 }
-# What is told of all acts that were done, and of those that weren't.
+# The replies of all acts that were done, and of those that weren't.
 DONE = ("ok", "moved", "committed")
 REFUSALS = ("empty", "busy", "stall", "stale", "firm", ENDED)
 NAMES_OF_NUMBERS = ("T", "C")
@@ -45,5 +45,5 @@ def replies_of(word: str) -> tuple[str, ...]:
 
 
 def form_of(word: str) -> str:
-    """An act as people are told to type it, with a tile T and a core C."""
+    """An act as people type it, with a tile T and a core C."""
     return " ".join((word, *NAMES_OF_NUMBERS[:ACTS[word].numbers]))

@@ -1,19 +1,17 @@
 """Work that several processes share: what came of each item as it comes, news in between, and nothing left behind."""
 from __future__ import annotations
 
-import multiprocessing
-import multiprocessing.connection
 import signal
 import sys
 from collections.abc import Callable, Iterator, Sequence
-from typing import Any, NamedTuple
+from typing import TYPE_CHECKING, Any, NamedTuple
 
 from yotarimu.common.outcome import Refusal, Interruption
 
-# Each process begins with what this one knows.
-CONTEXT = multiprocessing.get_context("fork")
+if TYPE_CHECKING:
+    from multiprocessing.connection import Connection
+
 Tell = Callable[[Any], None]
-Connection = multiprocessing.connection.Connection
 
 
 class News(NamedTuple):
@@ -33,32 +31,37 @@ class Crew:
     def each(self, items: Sequence[Any]) -> Iterator[News]:
         """What is told of the items, as it comes. When it is left early, by an interrupt too, all processes are
         ended. What an item is refused for is raised."""
+        # What imports this often needs no process, and the module takes time to import.
+        from multiprocessing.connection import wait
         waiting = list(enumerate(items))[::-1]
         try:
             while waiting or self.running:
                 while waiting and len(self.running) < self.jobs:
                     self.start(*waiting.pop())
-                for connection in multiprocessing.connection.wait(list(self.running)):
+                for connection in wait(list(self.running)):
                     yield self.receive(connection)  # type: ignore[arg-type]
         finally:
             self.end()
 
     def start(self, place: int, item: Any) -> None:
         """Starts a process for the item at a place."""
-        mine, theirs = CONTEXT.Pipe(duplex=False)
-        process = CONTEXT.Process(target=do, args=(self.work, item, theirs, [mine, *self.running]))
+        from multiprocessing import get_context
+        # Each process begins with what this one knows.
+        context = get_context("fork")
+        mine, theirs = context.Pipe(duplex=False)
+        process = context.Process(target=do, args=(self.work, item, theirs, [mine, *self.running]))
         process.start()
         theirs.close()
         self.running[mine] = place, process
 
     def receive(self, connection: Connection) -> News:
-        """What a process tells next; refuses one that ended and told nothing."""
+        """What a process tells next; refuses one that ended and reported nothing."""
         place, process = self.running[connection]
         try:
             is_last, what = connection.recv()
         except EOFError:
             process.join()
-            raise Refusal(f"a process ended with status {process.exitcode}, and told nothing.") from None
+            raise Refusal(f"a process ended with status {process.exitcode}, and reported nothing.") from None
         if is_last:
             del self.running[connection]
             connection.close()

@@ -33,6 +33,15 @@ def read_bytes(path: FilePath) -> bytes:
     return data
 
 
+def need_plain(path: FilePath) -> pathlib.Path:
+    """The path of a file in a folder; refuses one that isn't a plain file, such as a pipe that nobody writes to,
+    before it is read. What a person names may be a pipe."""
+    path = pathlib.Path(path)
+    if path.exists() and not path.is_file():
+        raise Refusal(f"{path}: this isn't a plain file, so it isn't read.")
+    return path
+
+
 def read_text(path: FilePath) -> str:
     """The whole of a file as text; bytes that are no text are told apart by nothing."""
     return read_bytes(path).decode("utf-8", "replace")
@@ -45,7 +54,7 @@ def read_written(path: FilePath) -> str:
 
 def write_whole(files: Mapping[AnyPath, bytes]) -> None:
     """Writes bytes to paths, given as a dictionary. A plain file is there whole, or as it was before, and a symbolic
-    link to it stays one. What is no plain file, such as a device, is written to and never replaced."""
+    link to it stays one. What isn't a plain file, such as a device, is written to and never replaced."""
     with contextlib.ExitStack() as cleanup:
         renames, streams = [], []
         for named, data in files.items():
@@ -78,7 +87,7 @@ def write_stream(path: pathlib.Path, data: bytes) -> None:
 
 
 def is_stream(path: pathlib.Path) -> bool:
-    """Whether writing to a path is no matter of a plain file's bytes alone."""
+    """Whether writing to a path isn't a matter of a plain file's bytes alone."""
     if not path.exists():
         return False
     found = path.stat()
@@ -93,13 +102,24 @@ def need_writable(path: FilePath) -> pathlib.Path:
         raise Refusal(f"{path}: this is a folder, so no file can be written there.")
     if not path.exists() or stat.S_ISREG(path.stat().st_mode):
         named, path = path, pathlib.Path(os.path.realpath(path))
+        if leads_outside(named):
+            raise Refusal(f"{named}: this is a symbolic link that leads out of its folder, so it isn't written; name "
+                          f"{path} itself, or remove the link.")
         if not path.parent.is_dir():
-            raise Refusal(f"{named}: it can't be written, since there is no such folder.")
+            raise Refusal(f"{named}: it can't be written, because no such folder exists.")
         if not os.access(path.parent, os.W_OK | os.X_OK):
             raise Refusal(f"{named}: it can't be written: permission denied.")
     if path.exists() and not os.access(path, os.W_OK):
         raise Refusal(f"{path}: it can't be written: permission denied.")
     return path
+
+
+def leads_outside(path: pathlib.Path) -> bool:
+    """Whether a path is a symbolic link to another folder than its own and those in it. Those of the system for what a
+    process has open lead anywhere."""
+    folder = os.path.realpath(path.parent)
+    is_of_process = folder == "/dev" or folder.startswith("/proc/")
+    return path.is_symlink() and not is_of_process and not is_within(path, folder)
 
 
 def need_outputs(outputs: Iterable[Optional[FilePath]], inputs: Iterable[Optional[FilePath]]) -> None:
@@ -120,6 +140,11 @@ def is_same_file(one: FilePath, other: FilePath) -> bool:
         found = os.stat(one)
         return stat.S_ISREG(found.st_mode) and os.path.samestat(found, os.stat(0 if str(other) == "-" else other))
     return not os.path.exists(one) and os.path.realpath(one) == os.path.realpath(other)
+
+
+def is_within(path: FilePath, folder: FilePath) -> bool:
+    """Whether a path leads into a folder, wherever symbolic links lead."""
+    return pathlib.Path(os.path.realpath(path)).is_relative_to(os.path.realpath(folder))
 
 
 def encode(text: str) -> bytes:

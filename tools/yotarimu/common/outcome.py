@@ -11,7 +11,8 @@ from typing import Callable, NoReturn, Optional, Union
 
 from yotarimu.common.text import without_controls
 
-REFUSED = 1
+# Of a command whose arguments or files don't serve; and of one that compared things which differ, where 0 is for equal.
+REFUSED, DIFFERS = 2, 1
 # As a shell tells that a signal ended a command: here the one for a reader that went away.
 NO_READER = 128 + signal.SIGPIPE
 SIGNALS = (signal.SIGINT, signal.SIGTERM, signal.SIGHUP)
@@ -21,6 +22,10 @@ Main = Callable[[list[str]], Optional[int]]
 
 class Refusal(Exception):
     """What was asked for can't be done. Its text is the sentence, or the few lines, for the person who asked."""
+
+
+class Difference(Refusal):
+    """A comparison failed: what was run isn't what it is to be."""
 
 
 class Interruption(BaseException):
@@ -59,6 +64,7 @@ def answer(name: str, main: Main, words: list[str]) -> int:
         return status
     except Refusal as refused:
         say(name, refused)
+        return DIFFERS if isinstance(refused, Difference) else REFUSED
     except BrokenPipeError:
         # Whoever reads has enough, as `head` has, so nothing is said.
         return NO_READER
@@ -68,7 +74,7 @@ def answer(name: str, main: Main, words: list[str]) -> int:
 
 
 def end(status: int) -> NoReturn:
-    """Ends the script. What can't be written is dropped, since the interpreter would try, and tell, once more."""
+    """Ends the script. What can't be written is dropped, since the interpreter would try, and complain, once more."""
     try:
         sys.stdout.flush()
     except (AttributeError, OSError):
@@ -100,7 +106,7 @@ def say(name: str, sentence: object) -> None:
 
 
 def note(sentence: str) -> None:
-    """Tells what may be wrong, and stops nothing."""
+    """Prints what may be wrong, and stops nothing."""
     say("note", sentence)
 
 

@@ -1,12 +1,13 @@
-"""Words of a call: numbers, options with a value, flags, and the words between them."""
+"""Arguments of a call: numbers, options with a value, flags, and the arguments between them."""
 from __future__ import annotations
 
-import argparse
 import dataclasses
 from collections.abc import Iterable, Sequence
 from typing import NoReturn, Optional
 
 from yotarimu.common.outcome import Refusal
+from yotarimu.common.pages import declared_in, number_of, places_of
+from yotarimu.common.text import likely
 
 DOOR = "./fractal "
 
@@ -22,89 +23,112 @@ def number_in(word: str, least: int, most: int) -> Optional[int]:
 
 
 def need_number(what: str, word: str, least: int, most: int) -> int:
-    """The number that a word is; else a refusal that tells what may stand there."""
+    """The number that an argument is; otherwise a refusal with the range."""
     number = number_in(word, least, most)
     if number is None:
-        raise Refusal(f"{what} takes a number from {least} to {most}, and not `{word}`.")
+        raise Refusal(f"{what} must be {least} to {most}, not {word or 'empty'}.")
     return number
-
-
-class Once(argparse.Action):
-    """An option with a value, which may stand once."""
-
-    def __call__(self, parser: argparse.ArgumentParser, namespace: argparse.Namespace, values: object,
-                 option_string: Optional[str] = None) -> None:
-        if getattr(namespace, self.dest) is not None:
-            raise Refusal(f"`{option_string}` stands twice.")
-        setattr(namespace, self.dest, values)
 
 
 @dataclasses.dataclass(frozen=True)
 class GivenWords:
-    """What the words of a call give: a value, or None, for each option, the flags that stand there, and the words
-    between them."""
-    call: str
+    """What the arguments of a call give: a value, or None, for each option, the flags, and the arguments between."""
+    parser: Words
     values: dict[str, Optional[str]]
     flags: frozenset[str]
     others: list[str]
 
     def need(self, what: str, least: int, most: Optional[int] = None) -> list[str]:
-        """The words between options, of which there are to be so many."""
+        """The arguments between options, if there are that many."""
         if not least <= len(self.others) <= (least if most is None else most):
-            raise Refusal(f"it wants {what}; {self.call} --help tells more.")
+            raise Refusal(f"it needs {what}; {self.parser.call} --help has more.")
         return self.others
 
-    def number(self, name: str, least: int, most: int, unless_given: int) -> int:
-        """The number that an option has."""
-        text = self.values[name]
-        return unless_given if text is None else need_number(f"--{name}", text, least, most)
+    def number(self, name: str, least: Optional[int] = None, most: Optional[int] = None,
+               unless_given: Optional[int] = None) -> int:
+        """The number that an option has, within the range that its page or the caller states."""
+        declared, text = self.parser.declared.get(name), self.values[name]
+        if least is None or most is None:
+            assert declared is not None and isinstance(declared.values, range), f"--{name} has no range"
+            least, most = declared.values[0], declared.values[-1]
+        if text is None:
+            return unless_given if unless_given is not None else number_of(declared.default if declared else "")
+        return need_number(f"--{name}", text, least, most)
 
 
-class Words(argparse.ArgumentParser):
-    """The words that a command takes: options with a value each, flags, and what stands between them. A word is never
-    cut short; `--help` is answered before these are read, by the page that the command's module begins with."""
+class Words:
+    """The arguments that a command takes: the options that its page declares, and others that are named. No name is
+    cut short; `--help` is answered before these are read, by the page."""
 
     def __init__(self, command: str, values: Iterable[str] = (), flags: Iterable[str] = (), door: str = DOOR,
-                 more_help: str = "") -> None:
-        super().__init__(prog=f"{door}{command}", add_help=False, allow_abbrev=False, exit_on_error=False)
-        self.value_names, self.flag_names, self.more_help = list(values), list(flags), more_help
-        for name in self.value_names:
-            self.add_argument(f"--{name}", dest=name, action=Once)
-        for name in self.flag_names:
-            self.add_argument(f"--{name}", dest=name, action="store_true")
-
-    def error(self, message: str) -> NoReturn:
-        """Refuses the words, in the way that the parser tells."""
-        raise Refusal(f"{message}.")
+                 more_help: str = "", page: str = "") -> None:
+        self.call, self.more_help, self.declared = f"{door}{command}", more_help, declared_in(page)
+        self.value_names = [*(name for name, it in self.declared.items() if it.value), *values]
+        self.flag_names = [*(name for name, it in self.declared.items() if not it.value), *flags]
 
     def read_known(self, words: Sequence[str]) -> GivenWords:
-        """What the words give; what isn't known stays among the words between options."""
-        try:
-            found, others = self.parse_known_args(list(words))
-        except argparse.ArgumentError as error:
-            name = error.argument_name or ""
-            is_flag = name.removeprefix("--") in self.flag_names
-            self.error(f"`{name}` takes no value" if is_flag else f"a value is missing after `{name}`")
-        values = {name: getattr(found, name) for name in self.value_names}
-        flags = frozenset(name for name in self.flag_names if getattr(found, name))
-        return GivenWords(self.prog, values, flags, others)
+        """What the arguments give; what isn't known stays among those between options."""
+        values: dict[str, Optional[str]] = dict.fromkeys(self.value_names)
+        flags, others, left = set[str](), list[str](), list(words)
+        while left:
+            word = left.pop(0)
+            name, mark, value = word[2:].partition("=") if word.startswith("--") else ("", "", "")
+            if name in self.flag_names:
+                if mark:
+                    raise Refusal(f"--{name} takes no value.")
+                flags.add(name)
+            elif name in values:
+                if values[name] is not None:
+                    raise Refusal(f"--{name} is given twice.")
+                if not mark and (not left or left[0].startswith("--")):
+                    raise Refusal(f"--{name} needs a value{self.value_text(name)}.")
+                values[name] = value if mark else left.pop(0)
+            else:
+                others.append(word)
+        return GivenWords(self, values, frozenset(flags), others)
+
+    def value_text(self, name: str) -> str:
+        """What the value of an option may be, if its page says so."""
+        declared = self.declared.get(name)
+        return f": {declared.range_text()}" if declared and declared.values else ""
 
     def read(self, words: Sequence[str]) -> GivenWords:
-        """What the words give, where each option among them is known."""
+        """What the arguments give, if each option is known and has a value that its page allows."""
         given = self.read_known(words)
-        unknown = next((word for word in given.others if word.startswith("--")), None)
+        unknown = next((word for word in given.others if is_option(word)), None)
         if unknown is not None:
-            self.error(f"`{unknown}` isn't known; {self.prog} --help tells the words{self.more_help}")
+            self.refuse(unknown)
+        for name, it in self.declared.items():
+            text = given.values.get(name)
+            if text is not None and it.values and not isinstance(it.values, range) and text not in it.values:
+                raise Refusal(f"--{name} must be {it.range_text()}, not {text or 'empty'}.")
+            if text is not None and isinstance(it.values, range):
+                need_number(f"--{name}", text, it.values[0], it.values[-1])
         return given
+
+    def refuse(self, word: str) -> NoReturn:
+        """Refuses an unknown option, with those that it may be, or the commands that have it."""
+        name = word.lstrip("-").partition("=")[0]
+        near = likely(name, [*self.value_names, *self.flag_names], "--")
+        if near == "." and name and (places := places_of(name)):
+            near = f", which belongs to {', '.join(places)}."
+        if near == ".":
+            near = f"; {self.call} --help lists them{self.more_help}."
+        raise Refusal(f"unknown option {word.partition('=')[0]}{near}")
+
+
+def is_option(word: str) -> bool:
+    """Whether an argument is an option: one that begins with a dash, other than a dash alone or a number below 0."""
+    return word.startswith("-") and word != "-" and not word[1:2].isdigit()
 
 
 def take_option(words: Sequence[str], name: str) -> tuple[Optional[str], list[str]]:
-    """The value of an option that may stand once, as `NAME VALUE` or `NAME=VALUE`, and the other words."""
+    """The value of an option, given as `NAME VALUE` or `NAME=VALUE`, and the other arguments."""
     option = name.removeprefix("--")
     given = Words("", [option]).read_known(words)
     return given.values[option], given.others
 
 
 def need_words(words: Sequence[str], count: int, command: str, what: str, door: str = DOOR) -> list[str]:
-    """Words of which there are to be so many, none of them an option."""
+    """A number of arguments, none of them an option."""
     return Words(command, door=door).read(words).need(what, count)

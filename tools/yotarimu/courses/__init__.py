@@ -1,1 +1,1 @@
-"""Schedules, scripts that people write, courses in lockstep, and sweeps over grids of options."""
+"""Schedules, scripts that people write, modes in lockstep, and sweeps over grids of options."""

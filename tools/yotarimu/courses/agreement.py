@@ -5,7 +5,6 @@ from __future__ import annotations
 import itertools
 import json
 import pathlib
-import subprocess
 from collections.abc import Iterable
 from typing import Optional
 
@@ -13,8 +12,9 @@ from yotarimu.common.files import read_text
 from yotarimu.common.outcome import Refusal
 from yotarimu.common.places import EXAMPLES_FOLDER
 from yotarimu.lines.fields import Line
+from yotarimu.programs.calls import Calls, calls_at
 from yotarimu.programs.examples import SCHEDULES, watched_words_of
-from yotarimu.programs.program import SECOND_PROGRAM, STATUSES, end_of
+from yotarimu.programs.program import SECOND, STATUSES, end_of
 from yotarimu.reports.report import read_report
 
 # What `steps` says of an event that `advance` made, where a line has the reply to that event.
@@ -29,11 +29,11 @@ def replies_said(said: str, name: str) -> list[tuple[str, int]]:
     try:
         return [("ok" if reply in MADE else reply, int(count)) for reply, count in pairs]
     except ValueError:
-        raise Refusal(f"{name}: what is stored isn't what `steps` says: a line is no reply with a number.") from None
+        raise Refusal(f"{name}: what is stored isn't what `steps` says: a line isn't a reply with a number.") from None
 
 
 def lines_in(told: bytes) -> Optional[list[Line]]:
-    """What each line of a text tells; None where there is none, or one that is no object in JSON."""
+    """What each line of a text tells; None where there is none, or one that isn't an object in JSON."""
     try:
         lines = [json.loads(line) for line in told.splitlines()]
     except (ValueError, RecursionError):
@@ -54,11 +54,11 @@ def worked_fault(folder: pathlib.Path, told: bytes) -> Optional[str]:
     for number, (line, wanted) in enumerate(pairs, 1):
         if line != wanted:
             shown = line.decode("ascii", "backslashreplace").strip() or "nothing"
-            return f"line {number} isn't the one worked out by hand: the second program tells {shown}"
+            return f"line {number} isn't the one worked out by hand: fractal_watch prints {shown}"
     return None
 
 
-def retold_fault(name: str) -> Optional[str]:
+def retold_fault(calls: Calls, name: str) -> Optional[str]:
     """What is wrong with what the second program tells of a schedule; None where it agrees with the first one, and with
     what was worked out by hand."""
     folder = EXAMPLES_FOLDER / name
@@ -66,22 +66,23 @@ def retold_fault(name: str) -> Optional[str]:
     words, given = watched_words_of(name), (folder / "image.bin").read_bytes()
     if STEPS in words:
         given += (folder / "script").read_bytes()
-    made = subprocess.run([SECOND_PROGRAM, *words], input=given, stdout=subprocess.PIPE, check=False)
-    if fault := worked_fault(folder, made.stdout):
+    status, written = calls.call(words, given)
+    if fault := worked_fault(folder, written):
         return fault
-    lines = lines_in(made.stdout)
+    lines = lines_in(written)
     if lines is None:
-        return f"the second program, of status {made.returncode}, tells what is no line of JSON for each act"
+        return f"fractal_watch, with status {status}, doesn't print a line of JSON for each act"
     if replies_told(lines) != replies_said(said, name):
-        return "the second program tells other replies than steps says"
+        return "fractal_watch prints other replies than steps"
     report = "fractal 1\n" + said.partition("fractal 1\n")[2]
     end, entries = end_of(report.encode()), read_report(report, f"{name}: its report").entries
     if (lines[-1].get("end"), lines[-1].get("journal")) != (end, len(entries)):
-        return "the second program tells another end than steps says"
-    status = STATUSES.get(end, 0)
-    return None if made.returncode == status else f"the second program has the status {made.returncode}, not {status}"
+        return "fractal_watch prints another end than steps"
+    wanted = STATUSES.get(end, 0)
+    return None if status == wanted else f"fractal_watch has the status {status}, not {wanted}"
 
 
 def retold_schedules() -> list[tuple[str, Optional[str]]]:
-    """Each schedule with what is wrong with its lines; none where the second program isn't built."""
-    return [(f"{name}, told act by act", retold_fault(name)) for name in SCHEDULES] if SECOND_PROGRAM.exists() else []
+    """Each schedule with what is wrong with its lines."""
+    calls = calls_at(which=SECOND)
+    return [(f"{name}, as an event log", retold_fault(calls, name)) for name in SCHEDULES]

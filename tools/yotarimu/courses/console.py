@@ -71,7 +71,7 @@ class Console:
             self.words[word](list(rest))
             return
         if word not in ACTS:
-            raise Refusal(f"`{word[:40]}` is no act and no word of the console; `help` tells them.")
+            raise Refusal(f"`{word[:40]}` isn't an act or a command of the console; `help` lists them.")
         act = " ".join((word, *rest))
         fault = script_fault(act.encode("utf-8", "replace"), self.schedule.tiles, self.schedule.cores)
         if fault:
@@ -225,7 +225,7 @@ def need_task(label: str, machine: Machine) -> Task:
 def need_none(word: str, words: Sequence[str]) -> None:
     """Refuses words behind one that takes none."""
     if words:
-        raise Refusal(f"nothing stands behind `{word}`.")
+        raise Refusal(f"`{word}` takes no argument.")
 
 
 def new_page() -> pathlib.Path:
@@ -234,11 +234,11 @@ def new_page() -> pathlib.Path:
 
 
 def need_page(path: pathlib.Path) -> None:
-    """Refuses a file that is there and is no page, which the reader would miss."""
+    """Refuses a file that is there and isn't a page, which the reader would miss."""
     if path.is_file():
         with open(path, "rb") as file:
             if file.read(len(PAGE_START)) not in (PAGE_START, b""):
-                raise Refusal(f"{path}: this is there already, and is no page.")
+                raise Refusal(f"{path}: this is there already, and isn't a page.")
 
 
 # ---- the input

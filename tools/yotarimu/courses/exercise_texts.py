@@ -1,4 +1,5 @@
-"""What judges of exercises say: the texts stand in `exercises.json`, which the page with the machine reads too."""
+"""The sentences of the judges of exercises: the texts are in `exercises.json`, which the page with the machine reads
+too."""
 from __future__ import annotations
 
 import json

@@ -1,6 +1,6 @@
 """Judges of answers to the exercises of docs/guide/EXERCISES.md.
 
-What they say stands in `exercises.json`, which the page with the machine inside reads too.
+Their sentences are in `exercises.json`, which the page with the machine inside reads too.
 """
 from __future__ import annotations
 
@@ -16,7 +16,6 @@ from yotarimu.courses.exercise_texts import MOST_SHOWN, TEXTS, hold
 from yotarimu.courses.reasons import judge_reasons
 from yotarimu.courses.schedules import Act, ActAnswer
 from yotarimu.courses.scripts import acts_in, ask, options_beside, play, read_lines
-from yotarimu.images.compiler import GCC
 from yotarimu.images.folder import build
 from yotarimu.images.image import Image, read_image
 from yotarimu.programs.table import Table
@@ -79,7 +78,7 @@ def played_of(name: str, path: str) -> tuple[list[PlayedAct], str]:
 
 
 def judge_abort(path: str) -> str:
-    """Judges a script that is to take a task back by a conflict."""
+    """Judges a script that has to abort a task by a conflict."""
     (played, end), said = played_of("abort", path), TEXTS["abort"]
     back = [it for it in played if it.said.taken_back]
     hold(back, said["none"])
@@ -105,8 +104,8 @@ def build_image(folder: str) -> tuple[pathlib.Path, Image]:
     """The image that the source of a folder makes."""
     place = pathlib.Path(folder)
     if not folder or not place.is_dir():
-        raise Refusal(f"{folder}: there is no such folder; copy that of the exercise.")
-    build(place, GCC)
+        raise Refusal(f"{folder}: no such folder; copy that of the exercise.")
+    build(place)
     path = place / "image.bin"
     return path, read_image(read_bytes(path), path)
 

@@ -1,9 +1,8 @@
-"""A script that grows act by act: it is played anew by the second program each time, which tells what it did."""
+"""A script that grows act by act: `fractal_watch` plays it again each time, and its log shows what the new acts did."""
 from __future__ import annotations
 
 import io
 import pathlib
-import subprocess
 from collections.abc import Iterator, Sequence
 from typing import Optional
 
@@ -17,8 +16,9 @@ from yotarimu.lines.display import Display
 from yotarimu.lines.reader import Reader
 from yotarimu.lines.replay import Machine, ToldLine
 from yotarimu.lines.sentences import end_told, name_told, opening_told, sentence_of
-from yotarimu.programs.launcher import launch, why_no_answer
-from yotarimu.programs.table import Table, option_words, size_of
+from yotarimu.programs.calls import calls_at
+from yotarimu.programs.program import SECOND
+from yotarimu.programs.table import Table, option_words, size_of, why_no_answer
 
 # The statuses of a script that was played.
 PLAYED = (0, 3, 4)
@@ -31,20 +31,20 @@ class Schedule:
 
     def __init__(self, path: pathlib.Path, options: Options, table: Table) -> None:
         self.path, self.options = path, options
-        # Whether the first program plays it too.
+        # Whether `fractal_sim` plays it too.
         self.is_of_both = all(name in table.options for name in options)
-        self.data = read_bytes(path)
+        self.data, self.calls = read_bytes(path), calls_at(which=SECOND)
         self.image = read_image(self.data, path)
         self.listing, self.remark = listing_for(path, self.image, None)
         self.tiles, self.cores = (size_of(name, options, table) for name in ("tiles", "cores"))
 
     def lines_of(self, acts: Sequence[str]) -> bytes:
-        """What the second program tells of these acts."""
-        words = ["watch", "steps", *option_words(self.options)]
+        """The event log of these acts."""
+        words = ["steps", *option_words(self.options)]
         script = "".join(f"{act}\n" for act in acts).encode()
-        status, written, said = launch(words, self.data + script, subprocess.PIPE)
+        status, written = self.calls.call(words, self.data + script)
         if status not in PLAYED:
-            raise Refusal(why_not_played(status, written, said or b""))
+            raise Refusal(written.decode("utf-8", "replace").strip() or why_no_answer(status))
         return written
 
     def play(self, acts: Sequence[str], first: Optional[int] = None) -> Performance:
@@ -53,7 +53,7 @@ class Schedule:
 
 
 class Performance:
-    """Acts that were played: the sentences of those from one on, and what stands behind the last."""
+    """Acts that were played: the sentences of those from one on, and the machine after the last."""
 
     def __init__(self, schedule: Schedule, acts: Sequence[str], first: int) -> None:
         self.schedule, self.acts, self.lines = schedule, list(acts), schedule.lines_of(acts)
@@ -62,16 +62,16 @@ class Performance:
         self.entries: list[str] = []
         self.output = b""
         self.last: Optional[ToldLine] = None
-        watched = Reader(io.BytesIO(self.lines), "the second program")
+        watched = Reader(io.BytesIO(self.lines), "fractal_watch")
         for told in watched:
             if told.is_act():
                 self.note(told, watched.machine, len(self.replies) >= first)
         self.machine, self.end = watched.machine, watched.end
 
     def note(self, told: ToldLine, machine: Machine, is_new: bool) -> None:
-        """Notes what an act came to; a new one is told in a sentence."""
+        """Notes the result of an act; that of a new one is described in a sentence."""
         line, limits = told.line, self.schedule.image.limits
-        taken = f", {count_text(len(told.taken), 'task')} taken back" if told.taken else ""
+        taken = f", {count_text(len(told.taken), 'task')} aborted" if told.taken else ""
         self.replies.append(line["reply"] + taken)
         self.last = told
         if told.committed:
@@ -95,9 +95,3 @@ class Performance:
     def machine_lines(self) -> Iterator[str]:
         """The machine behind the last act, for people."""
         return Display(self.machine, self.last, self.entries, self.output, self.schedule.listing).lines()
-
-
-def why_not_played(status: int, written: bytes, said: bytes) -> str:
-    """Why the launcher or the program played nothing."""
-    fault = written.decode("utf-8", "replace").strip()
-    return why_no_answer(status, said) if said.strip() or not fault else fault

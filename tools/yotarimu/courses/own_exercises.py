@@ -1,4 +1,4 @@
-"""An exercise of one's own: a folder whose file `wanted` says what an answer is, and what has to hold of it.
+"""Your own exercise: a folder whose file `wanted` says what an answer is, and what has to hold of it.
 
 docs/guide/LESSON.md has the lines of that file, under "An exercise of your own".
 """
@@ -11,7 +11,7 @@ from collections.abc import Sequence
 from typing import NamedTuple, Optional
 
 from yotarimu.common.acts import DONE, REFUSALS
-from yotarimu.common.files import read_written
+from yotarimu.common.files import need_plain, read_written
 from yotarimu.common.outcome import Refusal
 from yotarimu.common.sentences import fill
 from yotarimu.common.text import printable
@@ -27,7 +27,7 @@ ANSWERS = ("script", "source", "journal", "why")
 # Of these the conditions alone say what is right.
 CONDITIONED = ("script", "source")
 ENDS = ("normal", "trap", "limit", "open")
-# Conditions that want a script, and how many words stand behind each condition; of `output` the rest of its line.
+# Conditions that need a script, and how many words follow each condition; of `output` the rest of its line.
 OF_SCRIPTS = ("acts", "reply", "taken")
 WORDS_BEHIND = {"acts": 1, "reply": 2, "taken": 1, "commits": 1, "depth": 1, "end": 1, "output": 0}
 RANGE = re.compile(r"(\d{1,7})?(\.\.)?(\d{1,7})?")
@@ -47,7 +47,7 @@ class Wanted(NamedTuple):
 
 
 class Facts(NamedTuple):
-    """What came of an answer: its report, and what its acts were answered where it was played."""
+    """The results of an answer: its report, and the replies to its acts if it was played."""
     report: Report
     said: Optional[Sequence[ActAnswer]]
 
@@ -84,10 +84,10 @@ def read_wanted(path: pathlib.Path) -> Wanted:
 
 
 def need_condition(words: Sequence[str], place: str) -> None:
-    """Refuses a line that is no condition."""
+    """Refuses a line that isn't a condition."""
     word, *further = words
     if word not in WORDS_BEHIND:
-        raise Refusal(f"{place}: `{word}` is no condition, which is {', '.join(WORDS_BEHIND)}.")
+        raise Refusal(f"{place}: `{word}` isn't a condition, which is {', '.join(WORDS_BEHIND)}.")
     if word == "output":
         return
     right = len(further) == WORDS_BEHIND[word]
@@ -125,7 +125,7 @@ def is_met(condition: Condition, seen: str) -> bool:
 
 
 def facts_of(wanted: Wanted, folder: pathlib.Path, answer: str) -> Facts:
-    """What comes of an answer."""
+    """The results of an answer."""
     table, image, script = Table(), folder / "image.bin", folder / "script"
     if wanted.answer == "script":
         script = pathlib.Path(answer)
@@ -143,6 +143,8 @@ def facts_of(wanted: Wanted, folder: pathlib.Path, answer: str) -> Facts:
 def judge_own(folder: pathlib.Path, answer: str) -> str:
     """Judges an answer, named by its path, to the exercise of a folder: gives the sentence that it is right, raises
     WrongAnswer where it isn't, and refuses a folder or an answer that can't be judged."""
+    for name in ("wanted", "image.bin", "script", "words"):
+        need_plain(folder / name)
     wanted, texts = read_wanted(folder / "wanted"), TEXTS["own"]
     if wanted.answer == "journal":
         return judge_entries(answer, folder / "image.bin")

@@ -12,13 +12,15 @@ import tempfile
 from collections.abc import Iterator, Sequence
 from typing import NamedTuple, Optional
 
-from yotarimu import commands
 from yotarimu.common.files import need_writable, read_bytes, write_whole
 from yotarimu.common.outcome import Refusal, say
+from yotarimu.common.pages import command_names
 from yotarimu.common.words import need_words
 from yotarimu.programs.program import LAUNCHER
 
 FENCE, DOOR, INTO = "```", "./fractal", ">"
+# So many cells of a line say which one it is.
+NAMING_CELLS = 3
 
 
 class Table(NamedTuple):
@@ -36,7 +38,7 @@ class Page:
         try:
             text = self.data.decode()
         except UnicodeDecodeError:
-            raise Refusal(f"{path}: this is no text in UTF-8.") from None
+            raise Refusal(f"{path}: this isn't text in UTF-8.") from None
         self.newline = "\r\n" if 0 < text.count("\n") == text.count("\r\n") else "\n"
         self.lines = text.split(self.newline)
 
@@ -63,6 +65,22 @@ class Page:
         """Whether a table stands in the page otherwise than it was made now."""
         return self.lines[table.first:table.end] != table.rows
 
+    def differences(self, table: Table) -> Iterator[str]:
+        """Each cell that a table has now and the page has otherwise, by its line and column; or that their sizes
+        differ."""
+        old = self.lines[table.first:table.end]
+        heads = cells_of(table.rows[0])
+        if len(old) != len(table.rows) or cells_of(old[0]) != heads:
+            yield (f"{self.path}:{table.first + 1}: the table has {len(old)} lines and {len(cells_of(old[0]))} "
+                   f"columns, and now {len(table.rows)} lines and {len(heads)} columns, or other heads")
+            return
+        for place, (before, after) in enumerate(zip(old, table.rows), table.first + 1):
+            cells, others = cells_of(before), cells_of(after)
+            for head, cell, other in zip(heads, cells, others):
+                if cell != other:
+                    row = ", ".join(others[:min(NAMING_CELLS, heads.index(head))]) or "it"
+                    yield f"{self.path}:{place}: `{head}` of {row} is {cell}, and {other} now"
+
     def write(self) -> None:
         """Writes the lines, unless someone else wrote the page meanwhile."""
         if read_bytes(self.path) != self.data:
@@ -70,10 +88,15 @@ class Page:
         write_whole({self.path: self.newline.join(self.lines).encode()})
 
 
+def cells_of(line: str) -> list[str]:
+    """The cells of a line of a table."""
+    return [cell.strip() for cell in line.strip().strip("|").split("|")]
+
+
 def is_call(line: str) -> bool:
     """Whether a line calls a tool."""
     door, _, further = line.partition(" ")
-    return door == DOOR and further.partition(" ")[0] in commands.names()
+    return door == DOOR and further.partition(" ")[0] in command_names()
 
 
 def words_of(line: str) -> list[str]:
@@ -105,11 +128,11 @@ def call_line(line: str, folder: pathlib.Path) -> list[str]:
 
 
 def told_lines(line: str, data: bytes) -> list[str]:
-    """The lines that a command wrote; refuses what is no text."""
+    """The lines that a command wrote; refuses what isn't text."""
     try:
         return data.decode().splitlines()
     except UnicodeDecodeError:
-        raise Refusal(f"`{line}` tells no text; `{INTO} FILE` behind it writes that to a file.") from None
+        raise Refusal(f"`{line}` prints no text; `{INTO} FILE` after it writes that to a file.") from None
 
 
 def make_tables(page: Page, folder: pathlib.Path) -> list[Table]:
@@ -122,7 +145,7 @@ def make_tables(page: Page, folder: pathlib.Path) -> list[Table]:
             continue
         place = page.table_behind(end)
         if place is None:
-            raise Refusal(f"{page.path}:{end + 1}: no table stands behind these commands.")
+            raise Refusal(f"{page.path}:{end + 1}: no table follows these commands.")
         tables.append(Table(*place, rows))
         print(f"{page.path}:{place[0] + 1}: {'differs' if page.differs_from(tables[-1]) else 'as it was'}", flush=True)
     return tables[::-1]
@@ -147,6 +170,7 @@ def main(path: str, words: Sequence[str]) -> int:
             page.lines[table.first:table.end] = table.rows
         page.write()
     if different and not is_written:
+        print(*(told for table in different for told in page.differences(table)), sep="\n")
         say("study", f"{len(different)} of {len(tables)} tables differ; --write replaces them.")
         return 1
     return 0

@@ -1,4 +1,4 @@
-"""An answer that says why tasks were taken back, held against the lines of the second program."""
+"""An answer that says why tasks were aborted, held against the lines of the second program."""
 from __future__ import annotations
 
 import io
@@ -31,13 +31,13 @@ class Reason(NamedTuple):
 
 
 def reasons_in(folder: pathlib.Path) -> list[Reason]:
-    """Why each task was taken back, in a play of the script of a folder."""
+    """Why each task was aborted, in a play of the script of a folder."""
     table = Table()
     options = options_beside(folder, table)
     script = folder / "script"
     acts = acts_in(read_lines(script), script, options, table)
     lines = Schedule(folder / "image.bin", options, table).lines_of([act.text for act in acts])
-    reader = Reader(io.BytesIO(lines), "the second program")
+    reader = Reader(io.BytesIO(lines), "fractal_watch")
     return [reason_of(cause, told.line["at"]) for told in reader if told.taken
             for cause in causes_of(told, rule_of(reader.head))]
 
@@ -65,7 +65,7 @@ def reasons_given(path: str) -> list[tuple[int, Reason]]:
 
 
 def judge_reasons(path: str, folder: pathlib.Path) -> str:
-    """Judges why tasks were taken back by the script of a folder, as it was worked out by hand."""
+    """Judges why tasks were aborted by the script of a folder, as it was worked out by hand."""
     said, given = TEXTS["why"], reasons_given(path)
     wanted = {(reason.act, reason.task): reason for reason in reasons_in(folder)}
     seen = set()

@@ -30,7 +30,7 @@ class Act:
 
 @dataclasses.dataclass(frozen=True)
 class ActAnswer:
-    """What an act was answered, and how many tasks it took back."""
+    """The reply to an act, and how many tasks it aborted."""
     reply: str
     taken_back: int
 
@@ -69,7 +69,7 @@ def read_act(line: str, place: str) -> Act:
     """The act of a line of a script; refuses other lines."""
     word, *numbers = line.split(" ")
     if word not in ACTS or len(numbers) != ACTS[word].numbers or not all(re.fullmatch(NUMBER, it) for it in numbers):
-        raise Refusal(f"{place}: `{line[:40]}` is no line of a script; docs/guest/FORMATS.md tells which are.")
+        raise Refusal(f"{place}: `{line[:40]}` isn't a line of a script; docs/guest/FORMATS.md lists them.")
     tile, core = ([int(it) for it in numbers] + [None, None])[:2]
     if (tile or 0) >= MOST_TILES or (core or 0) >= MOST_CORES:
         raise Refusal(f"{place}: `{line}` is for none of {MOST_TILES} tiles with {MOST_CORES} cores each.")
@@ -105,7 +105,7 @@ def read_said(line: str, place: str) -> ActAnswer:
     """What a line says that an act was answered; refuses other lines."""
     found = re.fullmatch(r"([a-z]+) ([0-9]{1,10})", line)
     if not found or found[1] not in DONE + REFUSALS:
-        raise Refusal(f"{place}: this is no answer to an act; `{line[:40]}` stands where one is wanted.")
+        raise Refusal(f"{place}: this isn't an answer to an act, but one is wanted: `{line[:40]}`.")
     return ActAnswer(found[1], int(found[2]))
 
 
@@ -113,7 +113,7 @@ def read_trace(text: str, name: FilePath) -> list[list[int]]:
     """The numbers of each tap, from what the program says to `trace`."""
     lines = iter(text.removesuffix("\n").split("\n"))
     if next(lines) != "trace 1":
-        raise Refusal(f"{name}: this is no trace, which begins with `trace 1`.")
+        raise Refusal(f"{name}: this isn't a trace, which begins with `trace 1`.")
     taps: list[list[int]] = []
     for line in lines:
         if line == "end trace" and next(lines, None) is None:
@@ -123,7 +123,7 @@ def read_trace(text: str, name: FilePath) -> list[list[int]]:
         if not found or len(numbers) < int(found[1]) or not all(re.fullmatch("[0-9]{1,20}", it) for it in numbers):
             break
         taps.append([int(it) for it in numbers])
-    raise Refusal(f"{name}: this is no trace: after {len(taps)} taps it has something else.")
+    raise Refusal(f"{name}: this isn't a trace: after {len(taps)} taps it has something else.")
 
 
 def lockstep(tiles: int, cores: int, rounds: int, seed: int = 0) -> Iterator[Act]:
@@ -135,7 +135,7 @@ def lockstep(tiles: int, cores: int, rounds: int, seed: int = 0) -> Iterator[Act
 
 
 class Shuffle:
-    """The order of rounds by a seed, as docs/guest/FORMATS.md has it for the second program."""
+    """The order of rounds by a seed, as docs/guest/FORMATS.md defines it for `fractal_watch`."""
 
     def __init__(self, seed: int) -> None:
         self.seed, self.x = seed, seed

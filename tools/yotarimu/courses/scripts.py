@@ -1,8 +1,7 @@
-"""Scripts as people write them, with comments and blank lines, and how they are played by the launcher."""
+"""Scripts as people write them, with comments and blank lines, and how they are played."""
 from __future__ import annotations
 
 import pathlib
-import subprocess
 from collections.abc import Iterator, Mapping, Sequence
 from typing import NamedTuple, Optional
 
@@ -10,8 +9,8 @@ from yotarimu.common.files import FilePath, read_bytes, read_text
 from yotarimu.common.outcome import Refusal
 from yotarimu.common.words import Words
 from yotarimu.courses.schedules import PlayedScript, ActAnswer, read_played, read_script
-from yotarimu.programs.launcher import launch, pass_on, why_no_answer
-from yotarimu.programs.table import Table, Value, size_of
+from yotarimu.programs.calls import calls_at
+from yotarimu.programs.table import Table, Value, size_of, why_no_answer
 from yotarimu.reports.refusals import script_fault, quote
 
 # The width up to which a reply stands right behind its line.
@@ -44,7 +43,7 @@ def options_of(values: Mapping[str, Optional[str]], table: Table) -> Options:
 
 
 def options_beside(place: pathlib.Path, table: Table) -> Options:
-    """The options that the file `words` of a folder has, if there is one, all of the first program; it may begin with a
+    """The options in the file `words` of a folder, if it has one, all of `fractal_sim`; the file may begin with a
     command."""
     file = place / "words"
     words = read_text(file).split() if file.is_file() else []
@@ -83,7 +82,7 @@ def acts_in(lines: Sequence[bytes], name: FilePath, options: Options, table: Tab
 
 
 def play(image: FilePath, acts: Sequence[NumberedAct], options: Options, name: str) -> Outcome:
-    """What comes of acts that the program plays."""
+    """The result of acts that the program plays."""
     words = ["steps", *(f"--{option}={value}" for option, value in options.items())]
     script = "".join(f"{text}\n" for _, text in acts)
     status, text = ask(words, image, script.encode())
@@ -91,15 +90,14 @@ def play(image: FilePath, acts: Sequence[NumberedAct], options: Options, name: s
 
 
 def ask(words: Sequence[str], image: FilePath, behind: bytes = b"") -> tuple[int, str]:
-    """The status of a call on an image and what comes behind it, and what the program wrote; a refusal in place of a
+    """The status of a call on an image and the bytes after it, and what the program wrote; a refusal in place of a
     fault."""
-    status, written, said = launch(words, read_bytes(image) + behind, subprocess.PIPE)
+    status, written = calls_at().call(words, read_bytes(image) + behind)
     text = written.decode("utf-8", "replace")
     if text.startswith("fault"):
         raise Refusal(f"{image}: the program refused it: {text.strip()}.")
     if not text:
-        raise Refusal(why_no_answer(status, said))
-    pass_on(said)
+        raise Refusal(why_no_answer(status))
     return status, text
 
 
@@ -113,5 +111,5 @@ def lines_beside(lines: Sequence[bytes], acts: Sequence[NumberedAct], said: Sequ
         if answer is None:
             yield f"{number:>5}  {text}".rstrip()
             continue
-        back = f", {answer.taken_back} taken back" if answer.taken_back else ""
+        back = f", {answer.taken_back} aborted" if answer.taken_back else ""
         yield f"{number:>5}  {text:<{width}}  {answer.reply}{back}"

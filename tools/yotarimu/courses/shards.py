@@ -10,11 +10,9 @@ from yotarimu.common.files import read_written
 from yotarimu.common.outcome import Refusal
 from yotarimu.common.words import number_in
 from yotarimu.courses.grid import MOST_RUNS
-from yotarimu.courses.study import SHARD_COLUMNS, rows_in
-from yotarimu.figures.columns import END, Reach, number_cell
+from yotarimu.courses.study_rows import SHARD_COLUMNS, rows_in, rows_of_csv
+from yotarimu.figures.columns import COLUMNS, END, plain_cell
 
-# What a cell may count.
-MOST_COUNT = 1 << 63
 Rows = list[dict[str, str]]
 
 
@@ -34,10 +32,14 @@ def read_study(path: str) -> tuple[list[str], Rows]:
     try:
         cells = list(csv.reader(io.StringIO(text)))
     except csv.Error as error:
-        raise Refusal(f"{path}: this is no CSV: {error}.") from None
+        raise Refusal(f"{path}: this isn't CSV: {error}.") from None
     if not cells or tuple(cells[0][:len(SHARD_COLUMNS)]) != SHARD_COLUMNS:
-        raise Refusal(f"{path}: this is no CSV of ./fractal study: it doesn't begin with "
+        raise Refusal(f"{path}: this isn't CSV of ./fractal study: it doesn't begin with "
                       f"{', '.join(SHARD_COLUMNS)}.")
+    lacking = next((name for name in (*COLUMNS, END) if cells[0].count(name) != 1), None)
+    if lacking is not None:
+        raise Refusal(f"{path}: its first line has the column `{lacking}` {cells[0].count(lacking)} times, and once is "
+                      "right.")
     for number, row in enumerate(cells[1:], 2):
         if len(row) != len(cells[0]):
             raise Refusal(f"{path}:{number}: this row has {len(row)} columns, and the first line has {len(cells[0])}.")
@@ -69,9 +71,13 @@ def join_shards(paths: Sequence[str]) -> list[list[str]]:
         need_whole(part)
     if len(parts) < first.shards:
         raise Refusal(f"shard {len(parts) + 1} of {first.shards} is missing.")
+    programs = list(dict.fromkeys(row["program"] for part in parts for row in part.rows))
+    if len(programs) > 1:
+        raise Refusal(f"these rows come from different programs: {' and '.join(programs)}.")
     rows = sorted((row for part in parts for row in part.rows), key=lambda row: int(row["choice"]))
-    hold_against_first(rows)
-    return [first.head, *([row[name] for name in first.head] for row in rows)]
+    for row in rows:
+        row["shard"], row["shards"] = "1", "1"
+    return with_comparisons([first.head, *([row[name] for name in first.head] for row in rows)])
 
 
 def need_whole(part: Part) -> None:
@@ -84,12 +90,12 @@ def need_whole(part: Part) -> None:
         raise Refusal(f"{part.path}: it isn't the whole of shard {part.shard} of {part.shards}: {told}.")
 
 
-def hold_against_first(rows: Rows) -> None:
-    """Fills the columns that are held against the first row of an image which has figures, as one study has them."""
-    first: dict[str, Reach] = {}
-    for row in rows:
-        row["shard"], row["shards"] = "1", "1"
-        rounds, commits = (number_in(row[name], 0, MOST_COUNT) for name in ("rounds", "commits"))
-        if rounds is not None and commits is not None:
-            reach = Reach(row[END], commits, rounds)
-            row["fewer"] = number_cell(reach.fewer_than(first.setdefault(row["image"], reach)), ".6g")
+def with_comparisons(cells: list[list[str]]) -> list[list[str]]:
+    """The rows of a whole study, with the columns that compare one with another."""
+    played = rows_of_csv(cells)
+    places = {name: cells[0].index(name) for name, it in COLUMNS.items() if it.is_comparison}
+    for row, choice in zip(cells[1:], played.choices):
+        numbers = played.numbers(choice)
+        for name, place in places.items():
+            row[place] = plain_cell(numbers[name])
+    return cells

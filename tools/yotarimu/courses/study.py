@@ -1,52 +1,54 @@
-"""Images that are played in lockstep, once for each choice of options, and a table of what came of it."""
+"""Images that are played in lockstep, once for each choice of options."""
 from __future__ import annotations
 
-import csv
 import dataclasses
 import functools
-import io
 from collections.abc import Iterator, Mapping, Sequence
 from typing import BinaryIO, Optional
 
 from yotarimu.common.crew import Crew, Tell
-from yotarimu.common.files import encode
 from yotarimu.common.outcome import Refusal, is_at_terminal
 from yotarimu.common.progress import show_line
-from yotarimu.common.tables import row_of, table
 from yotarimu.courses.grid import Shard
-from yotarimu.figures.columns import COLUMNS, END, Row, heads
-from yotarimu.figures.counted import figures_of_counts
+from yotarimu.courses.study_rows import SEED, Choice, StudyRows, StudyTable, head_of
+from yotarimu.figures.columns import COLUMNS, Row, row_of_figures
+from yotarimu.figures.counted import COUNTED, figures_of_counts
 from yotarimu.figures.run import Figures, figures_of
 from yotarimu.lines.counts_text import CountsText
 from yotarimu.lines.reader import Reader
 from yotarimu.programs.calls import Calls
-from yotarimu.programs.table import Value, option_words
+from yotarimu.programs.table import Option, Table, option_words
 
 # The statuses of a run that was told to its end.
 TOLD = (0, 3, 4)
 # How far a choice has come is counted once in so many rounds.
 ROUNDS_BETWEEN = 1_000
-# The columns of CSV before those of the options: of how many shards which one a row is of, and of how many choices.
-SHARD_COLUMNS = ("shard", "shards", "choice", "choices", "image")
+STARVED = "starved"
 
 
-@dataclasses.dataclass(frozen=True)
-class Choice:
-    """An image with a value for each option, and its number among all choices, from 1."""
-    number: int
-    image: str
-    options: Mapping[str, Value]
+def grid_options(table: Table) -> dict[str, Option]:
+    """The options of a study's grid: those of the program, and two arguments of its lockstep mode."""
+    return {**table.course_options,
+            STARVED: Option(STARVED, table.numbers[STARVED], 16, "starved rounds before the least task is advanced"),
+            SEED: Option(SEED, table.numbers["SEED"], 0, "the seed that shuffles the acts of each round")}
+
+
+def lockstep_words(rounds: int, choice: Choice) -> list[str]:
+    """The words of a call that plays a choice."""
+    options = {name: value for name, value in choice.options.items() if name not in (SEED, STARVED)}
+    starved = [STARVED, str(choice.options[STARVED])] if STARVED in choice.options else []
+    return ["lockstep", str(rounds), str(choice.options.get(SEED, 0)), *starved, *option_words(options)]
 
 
 @dataclasses.dataclass
 class Study:
-    """Images that are played, and how. The first row of an image that has figures is the one that others of the same
-    image are held against; a shard may lack it, and then none is."""
+    """Images that are played, and how."""
     images: Mapping[str, bytes]
-    seed: int
     rounds: int
     columns: Sequence[str]
     calls: Calls
+    # Which program plays them.
+    program: str
     shard: Shard = Shard()
     # Whether counts are enough for all that is told of it.
     is_counted: bool = False
@@ -60,7 +62,7 @@ class Study:
 
     def row(self, choice: Choice, tell: Tell) -> Row:
         """What comes of a choice. How many rounds were played is told now and then."""
-        words = ["lockstep", str(self.rounds), str(self.seed), *option_words(choice.options)]
+        words = lockstep_words(self.rounds, choice)
         if self.is_counted:
             words = ["counts", "every", str(ROUNDS_BETWEEN), *words]
         status, figures = self.calls.read(words, self.images[choice.image], functools.partial(self.figures, tell=tell))
@@ -70,27 +72,27 @@ class Study:
             raise figures
         if figures is None:
             return Row(f"none: status {status}")
-        return Row(f"none in {self.rounds:,} rounds" if figures.end == "open" else figures.end, figures)
+        end = f"none in {self.rounds:,} rounds" if figures.end == "open" else figures.end
+        return row_of_figures(end, figures, COUNTED if self.is_counted else COLUMNS)
 
     def figures(self, file: BinaryIO, tell: Tell) -> Figures:
         """The figures of a run as it is told; acts or rounds are told as they come."""
         if self.is_counted:
-            return figures_of_counts(CountsText(file, "the second program"), tell)
-        watched = Reader(file, "the second program")
+            return figures_of_counts(CountsText(file, "fractal_watch"), tell)
+        watched = Reader(file, "fractal_watch")
         rounds = watched.machine.rounds
         return figures_of(watched, lambda act: tell(act if rounds is None else rounds.number))
 
 
-class StudyRows:
-    """The rows that are known of the choices of a study, by their numbers."""
+class PlayedRows(StudyRows):
+    """The rows of a study that is played."""
 
     def __init__(self, study: Study, choices: Sequence[Choice]) -> None:
-        self.study, self.all_choices = study, choices
-        self.choices = study.shard.of(choices)
-        self.rows: dict[int, Row] = {}
+        super().__init__(study.shard.of(choices), study.shard.count == 1)
+        self.study, self.choice_count = study, len(choices)
 
-    def play(self, jobs: int) -> Iterator[tuple[Choice, Row]]:
-        """Plays the choices, so many at once, and gives each with its row, in their order."""
+    def play(self, jobs: int) -> Iterator[Choice]:
+        """Plays the choices, so many at once, and yields each in order as soon as its line can be shown."""
         progress = Progress(self)
         waiting = list(self.choices)[::-1]
         for told in Crew(self.study.row, jobs).each(self.choices):
@@ -98,41 +100,22 @@ class StudyRows:
             progress.note(choice, None if told.is_last else told.what)
             if told.is_last:
                 self.rows[choice.number] = told.what
-            while waiting and waiting[-1].number in self.rows:
-                choice = waiting.pop()
+            while waiting and self.is_ready(waiting[-1]):
                 progress.clear()
-                yield choice, self.rows[choice.number]
+                yield waiting.pop()
             progress.show()
         progress.clear()
 
-    def first(self, image: str) -> Optional[Figures]:
-        """The figures that those of an image are held against; None where they aren't known, as in a shard."""
-        if self.study.shard.count > 1:
-            return None
-        for choice in self.choices:
-            if choice.image == image:
-                row = self.rows.get(choice.number)
-                if row is None or row.figures is not None:
-                    return None if row is None else row.figures
-        return None
-
-    def cells(self, options: Sequence[str]) -> list[list[str]]:
-        """The rows that are there, with all columns of CSV, under their head."""
-        names, shard = [*COLUMNS, END], self.study.shard
-        cells: list[list[str]] = [head_of(options)]
-        for choice in self.choices:
-            row = self.rows.get(choice.number)
-            if row is not None:
-                cells.append([str(it) for it in (
-                    shard.number, shard.count, choice.number, len(self.all_choices), choice.image,
-                    *choice.options.values(), *row.cells(names, self.first(choice.image), True))])
-        return cells
+    def known_cells(self, options: Sequence[str]) -> list[list[str]]:
+        """The rows that are known, with all columns of CSV, under their head."""
+        shard = self.study.shard
+        return self.cells(head_of(options), self.study.program, (shard.number, shard.count), self.choice_count)
 
 
 class Progress:
     """How far the choices have come, on one line of a terminal that shows no rows itself."""
 
-    def __init__(self, played: StudyRows) -> None:
+    def __init__(self, played: PlayedRows) -> None:
         self.played = played
         self.is_shown = is_at_terminal()
         self.rounds: dict[int, int] = {}
@@ -156,34 +139,23 @@ class Progress:
             show_line("")
 
 
-def head_of(options: Sequence[str]) -> list[str]:
-    """The names of all columns of a study with these options."""
-    return [*SHARD_COLUMNS, *(f"--{name}" for name in options), *COLUMNS, END]
+def tell(played: PlayedRows, varying: Sequence[str], jobs: int) -> None:
+    """Prints the table line by line, as soon as each is known."""
+    shown = StudyTable(played, played.study.columns, varying, len(played.study.images) > 1)
+    print(*shown.head(), sep="\n", flush=True)
+    groups = list(played.groups())[::-1]
+    for choice in played.play(jobs):
+        if choice is groups[-1][-1]:
+            print(shown.line(groups.pop()), flush=True)
+    for note in shown.notes():
+        print(f"\n{note}")
 
 
-def tell(played: StudyRows, varying: Sequence[str], jobs: int) -> None:
-    """Tells the table row by row, as soon as each is known."""
-    study = played.study
-    names = ["Image"] if len(study.images) > 1 else []
-    print(*table([*names, *(f"--{name}" for name in varying), *heads(study.columns)], []), sep="\n", flush=True)
-    for choice, row in played.play(jobs):
-        shown = [choice.image] if names else []
-        cells = row.cells(study.columns, played.first(choice.image), False)
-        print(row_of([*shown, *(value_text(choice.options[name]) for name in varying), *map(str, cells)]), flush=True)
-
-
-def value_text(value: Value) -> str:
-    """A value of an option as people read it."""
-    return value if isinstance(value, str) else f"{value:,}"
-
-
-def csv_of(cells: Sequence[Sequence[str]]) -> bytes:
-    """Rows as a file of CSV."""
-    text = io.StringIO()
-    csv.writer(text, lineterminator="\n").writerows(cells)
-    return encode(text.getvalue())
-
-
-def rows_in(cells: Sequence[Sequence[str]]) -> list[dict[str, str]]:
-    """The rows by their columns."""
-    return [dict(zip(cells[0], row)) for row in cells[1:]]
+def table_lines(played: StudyRows, columns: Sequence[str]) -> list[str]:
+    """The table of a study that was played, and what its marks mean."""
+    images = {choice.image for choice in played.choices}
+    names = list(played.choices[0].options) if played.choices else []
+    varying = [name for name in names if len({choice.options[name] for choice in played.choices}) > 1]
+    shown = StudyTable(played, columns, varying, len(images) > 1)
+    lines = [*shown.head(), *map(shown.line, played.groups())]
+    return lines + [line for note in shown.notes() for line in ("", note)]

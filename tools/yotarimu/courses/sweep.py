@@ -5,7 +5,6 @@ import csv
 import dataclasses
 import hashlib
 import io
-import pathlib
 import re
 import sys
 import time
@@ -17,7 +16,7 @@ from yotarimu.common.outcome import Refusal, is_at_terminal
 from yotarimu.common.progress import show_progress
 from yotarimu.courses.grid import Shard, cells_of
 from yotarimu.programs.calls import Calls
-from yotarimu.programs.program import PROGRAM
+from yotarimu.programs.program import Program, program_at
 from yotarimu.programs.table import Table, Value
 
 # The end of a report: the output, the words of the window, and the last line.
@@ -32,10 +31,10 @@ Result = dict[str, object]
 class Runner(Calls):
     """Runs one command on one input with different options."""
 
-    def __init__(self, program: pathlib.Path, command: Sequence[str], data: bytes, wants_check: bool,
+    def __init__(self, program: Program, words: Sequence[str], data: bytes, wants_check: bool,
                  shows_progress: bool) -> None:
-        super().__init__(program)
-        self.command, self.data = command, data
+        super().__init__(program.command)
+        self.words, self.data = words, data
         self.wants_check, self.shows_progress = wants_check, shows_progress
 
     def run_all(self, cells: Sequence[Cell], jobs: int) -> Iterator[tuple[Cell, Result]]:
@@ -52,7 +51,7 @@ class Runner(Calls):
         """The columns of one run."""
         options = [f"--{name}={value}" for name, value in cell.items()]
         start = time.monotonic()
-        status, written = self.call([*self.command, *options], self.data)
+        status, written = self.call([*self.words, *options], self.data)
         seconds = f"{time.monotonic() - start:.3f}"
         columns = {"status": status, "seconds": seconds, **result_of(written), "check": ""}
         if self.wants_check and columns["commits"] != "":
@@ -66,9 +65,8 @@ def result_of(written: bytes) -> Result:
     if not found:
         return {"commits": "", "output": "", "window": ""}
     before = written[:found.start()].rpartition(b"\n")[2].split(b" ")
-    # Behind an entry's number stand its name, depth and timestamp; a generated load tells `commits` and the number.
-    number = before[1] if before[0] == b"commits" else before[0]
-    commits = int(number) if number.isdigit() else 0
+    # An entry's name, depth and timestamp follow its number.
+    commits = int(before[0]) if before[0].isdigit() else 0
     emitted = b"" if found[1] == b"-" else bytes.fromhex(found[1].decode("ascii"))
     return {"commits": commits, "output": digest(emitted), "window": digest(found[2])}
 
@@ -78,6 +76,8 @@ def digest(data: bytes) -> str:
     return hashlib.sha256(data).hexdigest()[:16]
 
 
+# The column that says which program made a row.
+PROGRAM = "program"
 RESULTS = ("status", "commits", "seconds", "output", "window", "check")
 NUMBERS = ("status", "commits", "seconds", "check")
 
@@ -86,12 +86,11 @@ NUMBERS = ("status", "commits", "seconds", "check")
 class Request:
     """What the words ask for."""
     image: Optional[str] = None
-    load: Optional[list[str]] = None
     rows: Optional[str] = None
-    csv: Optional[str] = None
+    output: Optional[str] = None
     plot: Optional[str] = None
     axes: Optional[str] = None
-    program: pathlib.Path = PROGRAM
+    program: Optional[str] = None
     jobs: int = 1
     shard: Shard = Shard()
     wants_check: bool = False
@@ -100,19 +99,18 @@ class Request:
 
 def header(table: Table) -> list[str]:
     """The names of the columns of a sweep."""
-    return ["input", *(f"--{name}" for name in table.options), *RESULTS]
+    return ["input", PROGRAM, *(f"--{name}" for name in table.options), *RESULTS]
 
 
 def sweep_rows(request: Request, table: Table) -> Iterator[list[object]]:
     """The rows of the runs that are asked for, each as it comes, in the order of the grid."""
     cells = cells_of(table.options, request.values)
-    command = ["load", *request.load] if request.load else ["run"]
     data = read_bytes(request.image) if request.image is not None else b""
-    is_apart = request.csv is not None or not sys.stdout.isatty()
-    runner = Runner(request.program, command, data, request.wants_check, is_at_terminal() and is_apart)
-    name = request.image if request.image is not None else " ".join(command)
+    is_apart = request.output is not None or not sys.stdout.isatty()
+    program = program_at(request.program)
+    runner = Runner(program, ["run"], data, request.wants_check, is_at_terminal() and is_apart)
     for cell, result in runner.run_all(request.shard.of(cells), request.jobs):
-        yield [name, *cell.values(), *(result[column] for column in RESULTS)]
+        yield [request.image, program.identity, *cell.values(), *(result[column] for column in RESULTS)]
 
 
 def written_rows(request: Request, table: Table) -> list[dict[str, str]]:
@@ -120,7 +118,7 @@ def written_rows(request: Request, table: Table) -> list[dict[str, str]]:
     written, or the sweep is ended early, the rows that are there go to standard output."""
     text = io.StringIO()
     rows: list[dict[str, str]] = []
-    file = text if request.csv else sys.stdout
+    file = text if request.output else sys.stdout
     sink = csv.writer(file, lineterminator="\n")
     try:
         for row in sweep_rows(request, table):
@@ -129,10 +127,10 @@ def written_rows(request: Request, table: Table) -> list[dict[str, str]]:
             sink.writerow(row)
             file.flush()
             rows.append(dict(zip(header(table), map(str, row))))
-        if request.csv:
-            write_whole({request.csv: encode(text.getvalue())})
+        if request.output:
+            write_whole({request.output: encode(text.getvalue())})
     except BaseException:
-        if request.csv:
+        if request.output:
             sys.stdout.write(text.getvalue())
         raise
     return rows
@@ -149,7 +147,9 @@ def read_rows(path: FilePath) -> list[dict[str, str]]:
     try:
         rows = list(csv.DictReader(io.StringIO(text)))
     except csv.Error as error:
-        raise Refusal(f"{path}: this is no CSV: {error}.") from None
+        raise Refusal(f"{path}: this isn't CSV: {error}.") from None
     if any(None in row or None in row.values() for row in rows):
         raise Refusal(f"{path}: its rows haven't as many columns as its first line.")
+    if len({row.get(PROGRAM) for row in rows}) > 1:
+        raise Refusal(f"{path}: its rows come from different programs, so they can't be compared.")
     return rows

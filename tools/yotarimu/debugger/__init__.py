@@ -1,1 +1,1 @@
-"""A server for gdb: a run that is gone along forth and back, from its report or from the second program's lines."""
+"""A server for gdb: a run that can be replayed forwards and backwards, from its report or from the event log."""

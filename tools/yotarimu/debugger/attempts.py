@@ -1,4 +1,4 @@
-"""Attempts at tasks: each of them from a dispatch on, up to the commit or until the task is taken back."""
+"""Attempts at tasks: each of them from a dispatch on, up to the commit or until the task is aborted."""
 from __future__ import annotations
 
 import bisect
@@ -13,12 +13,12 @@ from yotarimu.reports.report import Name
 
 
 class Attempt:
-    """A task from one dispatch on, up to its commit or until it is taken back: a thread. `which` counts those of a
+    """A task from one dispatch on, up to its commit or until it is aborted: a thread. `which` counts those of a
     task.
 
     `stretches` has its stretches by their numbers, and `counts` how many instructions are executed behind each.
     `loaded` has what its loads found, by which it can be run once more without the memory. From the position `gone` on
-    it isn't there: it commits as a `turn`, or is taken back for a `cause` by an `event`."""
+    it isn't there: it commits as a `turn`, or is aborted for a `cause` by an `event`."""
 
     def __init__(self, number: int, task: Task, which: int, born: Position) -> None:
         self.number, self.task, self.which, self.born = number, task, which, born

@@ -1,7 +1,7 @@
 """Conditions of breakpoints, as gdb sends them: its agent expressions, a machine with a stack of 64-bit numbers.
 
-A condition that doesn't hold so costs no stop. What the bytes mean is told by the GDB manual, in the chapter "The GDB
-Agent Expression Mechanism".
+A condition that is evaluated here and doesn't hold costs no stop. The GDB manual defines the bytes in the chapter "The
+GDB Agent Expression Mechanism".
 """
 from __future__ import annotations
 
@@ -109,7 +109,7 @@ class Machine:
         self.stack.append(int(number) & WORD)
 
     def step(self, byte: int) -> None:
-        """Carries out one byte of an expression, with the operand behind it."""
+        """Carries out one byte of an expression, with the operand after it."""
         stack = self.stack
         if byte in OF_TWO:
             two = stack.pop()
@@ -140,7 +140,7 @@ class Machine:
             raise Unknown
 
     def load(self, count: int) -> None:
-        """Replaces the address on the stack by the number that stands there; raises Unknown where it can't be read."""
+        """Replaces the address on the stack by the number at it; raises Unknown if it can't be read."""
         found = self.values.memory(self.stack.pop() & ADDRESS, count)
         if len(found) < count:
             raise Unknown

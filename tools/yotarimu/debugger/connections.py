@@ -35,7 +35,7 @@ def find_gdb(named: Optional[str]) -> str:
         if path := shutil.which(name):
             return path
     if named:
-        raise Refusal(f"{named}: there is no such program.")
+        raise Refusal(f"{named}: no such program.")
     raise Refusal(f"no gdb for RISC-V is in the path: {' or '.join(GDBS[:2])} is wanted (Debian's package "
                   "gdb-multiarch has it); --port and --pipe serve one that is elsewhere.")
 
@@ -93,9 +93,11 @@ def end(process: subprocess.Popen[bytes]) -> None:
 
 
 def serve_port(track: Track, listening: socket.socket) -> None:
-    """Serves one gdb that connects."""
-    with listening.accept()[0] as one:
-        Server(track, Connection(one.fileno(), one.fileno())).serve()
+    """Serves one gdb that connects; a connection that isn't gdb's is closed."""
+    was_gdb = False
+    while not was_gdb:
+        with listening.accept()[0] as one:
+            was_gdb = Server(track, Connection(one.fileno(), one.fileno())).serve()
 
 
 def listening_at(port: int) -> socket.socket:
@@ -109,7 +111,7 @@ def listening_at(port: int) -> socket.socket:
 def serve_pipe(track: Track) -> None:
     """Serves over standard input and output."""
     with interrupts_passed():
-        # What is printed by mistake is no part of the protocol.
+        # What is printed by mistake isn't a part of the protocol.
         output = os.dup(1)
         os.dup2(2, 1)
         Server(track, Connection(0, output)).serve()

@@ -9,6 +9,7 @@ from yotarimu.common.outcome import Refusal
 from yotarimu.common.words import number_in as number_of
 from yotarimu.debugger.track import Store
 from yotarimu.images.image import DATA, DATA_BYTES
+from yotarimu.images.listing import Listing
 from yotarimu.reports.report import Name
 
 WORD = 0xFFFFFFFF
@@ -56,11 +57,16 @@ def number_in(what: str, word: str, most: int) -> int:
     return number
 
 
-def word_in(word: str) -> int:
-    """The address of the word of the data in which an address lies."""
+def word_in(word: str, listing: Listing) -> int:
+    """The address of the word of the data in which an address, or a label with a distance after it, lies."""
+    name, _, distance = word.partition("+")
+    known = next((at for at, label in listing.labels.items() if label == name and at >= DATA), None)
+    far = number_of(distance or "0", 0, DATA_BYTES)
+    if known is not None and far is not None:
+        return known + far & ~3
     address = number_of(word, DATA, DATA + DATA_BYTES - 1)
     if address is None:
-        raise Refusal(f"`{word}` is no address of the data: one from {DATA:#x} on is wanted.")
+        raise Refusal(f"`{word}` isn't a label or address of the data: one from {DATA:#x} on is wanted.")
     return address & ~3
 
 

@@ -39,7 +39,7 @@ class LegNotes:
         self.events: list[int] = []
         self.attempts: list[Attempt] = []
         self.made: dict[Task, Origin] = {}
-        # Of positions the attempts that are taken back there, or the one that traps there.
+        # Of positions the attempts that are aborted there, or the one that traps there.
         self.taken: dict[Position, list[Attempt]] = {}
         self.trapped: dict[Position, Attempt] = {}
         self.running: dict[Task, Attempt] = {}

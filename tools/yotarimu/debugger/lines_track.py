@@ -110,11 +110,13 @@ class LinesTrack(Track):
         position = self.position
         taken, trapped = self.notes.taken.get(position, []), self.notes.trapped.get(position)
         if taken:
-            text = "\n".join(f"{self.name_of(it.number)} is about to be taken back (event {it.event}): {self.cause(it)}"
+            text = "\n".join(f"{self.name_of(it.number)} is about to be aborted (event {it.event}): {self.cause(it)}"
                              for it in taken)
             return Notice(taken[0].number, text, Signal.TAKEN_BACK)
         if trapped is not None and trapped.trap is not None:
-            text = f"{self.name_of(trapped.number)} {self.trap_words(trapped)}; as the least task it ends the run."
+            then = "the run ends with it" if trapped.cause is None else (
+                "it runs speculatively and is aborted later, so the run goes on")
+            text = f"{self.name_of(trapped.number)} {self.trap_words(trapped)}; {then}."
             return Notice(trapped.number, text, signal_of(trapped.trap[0]))
         return None
 
@@ -152,7 +154,7 @@ class LinesTrack(Track):
         if here < attempt.born:
             return "isn't dispatched yet"
         if attempt.gone is not None and attempt.gone <= here:
-            return "was taken back" if attempt.turn is None else f"committed as turn {attempt.turn}"
+            return "was aborted" if attempt.turn is None else f"committed as turn {attempt.turn}"
         finished = ", finished" if self.core_of(thread).is_over else ""
         return f"{self.count_of(attempt)} instructions done{finished}"
 
@@ -175,10 +177,10 @@ class LinesTrack(Track):
     # ---- what became of an attempt
 
     def cause(self, attempt: Attempt) -> str:
-        """Why it was taken back, with what that goes back to."""
+        """Why it was aborted, with what that goes back to."""
         cause = attempt.cause
         if cause is None:
-            return "nothing tells why"
+            return "the log doesn't say why"
         told = self.sentences.sentence(cause)
         if cause.before is not None and cause.root.before is None:
             told += f"; at the root of it {self.task_told(cause.root.task)}: {self.sentences.sentence(cause.root)}"
@@ -192,11 +194,11 @@ class LinesTrack(Track):
         return f"traps with cause {cause}, {cause_told(cause, self.image.limits)[0]}, at {self.place_told(pc)}"
 
     def end_told(self, attempt: Attempt) -> str:
-        """How an attempt ends: by a trap, a commit, or by being taken back; or that it is there at the end."""
+        """How an attempt ends: by a trap, a commit, or by being aborted; or that it is there at the end."""
         if attempt.turn is not None:
             end = f"commits as turn {attempt.turn}"
         elif attempt.cause is not None:
-            end = f"is taken back (event {attempt.event}): {self.cause(attempt)}"
+            end = f"is aborted (event {attempt.event}): {self.cause(attempt)}"
         else:
             end = "is there at the end"
         return ", and ".join(filter(None, (self.trap_words(attempt), end)))
@@ -222,7 +224,7 @@ class LinesTrack(Track):
         found = self.of_name.get(name, [])
         chosen = [it for it in found if str(it.which) == which] if which else found
         if not chosen:
-            raise Refusal(f"{word}: there is no such task among the dispatched ones.")
+            raise Refusal(f"{word}: no such task is among the dispatched ones.")
         return chosen[-1]
 
     def tasks(self, first: str = "1") -> list[str]:
@@ -240,19 +242,19 @@ class LinesTrack(Track):
         return first_rows(rows, "runs", start, len(self.attempts))
 
     def why(self, word: Optional[str] = None) -> list[str]:
-        """[TASK]  how an attempt ended; of one that was taken back, why"""
+        """[TASK]  how an attempt ended; of one that was aborted, why"""
         attempt = self.attempt_named(word)
         if word is not None and "." in word and "#" not in word:
             return [f"{self.name_of(it.number)} {self.end_told(it)}" for it in self.of_task[attempt.task]]
         return [f"{self.name_of(attempt.number)} {self.end_told(attempt)}"]
 
     def stale(self) -> list[str]:
-        """all attempts that were taken back since they loaded what an earlier task stores later"""
+        """all attempts that were aborted since they loaded what an earlier task stores later"""
         found = [it for it in self.attempts if it.cause is not None and it.cause.kind is Kind.ACCESS
                  and it.cause.meeting is not None and it.cause.meeting.own is not None
                  and not it.cause.meeting.own.is_store]
         rows = [f"{self.name_of(it.number)} {self.end_told(it)}" for it in found]
-        return first_rows(rows[:MOST_TOLD], "stale", 0, len(rows)) or ["nothing was taken back for what it loaded"]
+        return first_rows(rows[:MOST_TOLD], "stale", 0, len(rows)) or ["nothing was aborted for what it loaded"]
 
     def children(self, word: Optional[str] = None) -> list[str]:
         """[TASK]  the children that an attempt makes, and where it makes each"""
@@ -308,12 +310,12 @@ class LinesTrack(Track):
         """The last instruction of the first leg that is handed in by this event or behind it."""
         stretch = bisect.bisect_left(self.notes.events, event)
         if stretch == len(self.stretches):
-            raise Refusal(f"{word}: no leg is handed in by this event or behind it.")
+            raise Refusal(f"{word}: no leg is handed in by this event or after it.")
         return Position(stretch, max(self.stretches[stretch].length - 1, 0))
 
     def writes(self, word: str) -> list[str]:
-        """ADDRESS  all stores to a word of the data, and where they are undone"""
-        address, rows = goals.word_in(word), []
+        """ADDRESS or LABEL  all stores to a word of the data, and where they are undone"""
+        address, rows = goals.word_in(word, self.listing), []
         found = self.memory.stores_touching(address, 4)
         for at in found[-MOST_TOLD:]:
             rows.append(self.write_told(at))

@@ -1,10 +1,10 @@
 """Going on and back: to the next stop, by one instruction, or through a range of addresses.
 
-What gdb wants of a stop was found by trying: RISC-V's watchpoints are told before the access, and gdb then steps over
-it alone; going back they are told right behind it. While gdb steps one thread over a breakpoint no other thread may be
-told: gdb would fail. So the last instruction of a task ends within that task, at pc 0, and the next resume goes on from
-there; and a step back stays within its task. Nor may the end of history be told then: gdb would wait for ever at its
-next word. Whether gdb is stepping over a breakpoint isn't seen from here.
+What gdb needs of a stop was found by experiment: RISC-V's watchpoints are reported before the access, and gdb then
+steps over it alone; going back they are reported right after it. While gdb steps one thread over a breakpoint no other
+thread may be reported: gdb would fail. So the last instruction of a task ends within that task, at pc 0, and the next
+resume goes on from there; and a step back stays within its task. Nor may the end of history be reported then: gdb would
+wait for ever at its next command. Whether gdb is stepping over a breakpoint isn't seen from here.
 """
 from __future__ import annotations
 
@@ -20,7 +20,7 @@ from yotarimu.images.serial_machine import TaskTrap
 
 # gdb may ask to stop after so many instructions.
 LOOK_EVERY = 4_096
-# As often may a step back from the start come to nothing.
+# A step back from the start may be in vain this often.
 MOST_HELD = 2
 WRITTEN, READ, EITHER = "2", "3", "4"
 WATCHES = {WRITTEN: "watch", READ: "rwatch", EITHER: "awatch"}
@@ -48,7 +48,7 @@ class Watch:
         return is_kind and self.address < touch.address + touch.width and touch.address < self.address + self.count
 
     def sentence(self) -> str:
-        """What a stop tells gdb of the watchpoint."""
+        """How a stop describes the watchpoint to gdb."""
         return f"{WATCHES[self.kind]}:{self.address:x};"
 
 
@@ -99,7 +99,7 @@ class Movement:
         # Of each address of a breakpoint its conditions; one without any always stops.
         self.breaks: dict[int, list[bytes]] = {}
         self.watches: dict[tuple[str, int], Watch] = {}
-        # How many steps back came to nothing since breakpoints were set or cleared, as they are around each word.
+        # How many steps back were in vain since breakpoints were set or cleared, as they are around each command.
         self.held = 0
         self.gone = 0
 
@@ -168,7 +168,7 @@ class Movement:
         return Stop(found.signal, thread=found.thread)
 
     def is_break(self) -> bool:
-        """Whether a breakpoint stands here and one of its conditions holds, if it has some."""
+        """Whether a breakpoint is here and one of its conditions holds, if it has some."""
         codes = self.breaks.get(self.track.core.pc)
         try:
             return codes is not None and (not codes or any(conditions.holds(code, self.here) for code in codes))
@@ -215,8 +215,8 @@ class Movement:
         return Stop(Signal.TRAP)
 
     def at_begin(self, thread: int) -> Stop:
-        """A step back of a thread that has nothing before: it stops in its place. Where gdb goes on and on by steps,
-        which is never over a breakpoint, it is told that history ends."""
+        """A step back of a thread that has nothing before: it stops in its place. If gdb goes on and on by steps, which
+        is never over a breakpoint, the answer is that history ends."""
         self.held += 1
         if self.held > MOST_HELD:
             return Stop(Signal.NONE, AT_BEGIN, thread)
@@ -257,7 +257,7 @@ class Movement:
 
 
 def stop_told(stop: Stop, core: Core, thread: int) -> str:
-    """A stop as gdb is told it, with the registers that it asks for anyway."""
+    """A stop as gdb receives it, with the registers that it would request anyway."""
     registers = "".join(f"{number:02x}:{register_of(core, number).to_bytes(WORD_BYTES, 'little').hex()};"
                         for number in TOLD_AT_STOPS)
     return f"T{stop.signal:02x}{registers}thread:{thread:x};{stop.more}"

@@ -1,6 +1,6 @@
-"""gdb's remote protocol below its words: packets over a pair of file descriptors.
+"""gdb's remote protocol below its commands: packets over a pair of file descriptors.
 
-The GDB manual tells it in the appendix "GDB Remote Serial Protocol".
+The GDB manual defines it in the appendix "GDB Remote Serial Protocol".
 """
 from __future__ import annotations
 
@@ -11,7 +11,9 @@ from typing import Optional
 ESCAPE, ESCAPED_BY = 0x7D, 0x20
 TO_ESCAPE = b"}$#*"
 INTERRUPT = b"\x03"
-# The most bytes of a packet; gdb is told so.
+# What gdb sends between packets: acknowledgements and interrupts.
+BETWEEN = b"+-" + INTERRUPT
+# The most bytes of a packet, which is sent to gdb.
 MOST_PACKET = 0x10000
 
 
@@ -23,8 +25,12 @@ class Connection:
         self.left, self.needs_ack = b"", True
 
     def packet(self) -> Optional[str]:
-        """The next packet whose sum is right; one that came damaged is asked for once more."""
+        """The next packet whose sum is right; one that came damaged is asked for once more. None too where something
+        else comes than gdb sends, such as a request of HTTP."""
         while True:
+            self.left = self.left.lstrip(BETWEEN)
+            if self.left[:1] not in (b"", b"$"):
+                return None
             start = self.left.find(b"$")
             end = self.left.find(b"#", start) if start >= 0 else -1
             if end >= 0 and len(self.left) >= end + 3:

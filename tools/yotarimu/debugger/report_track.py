@@ -1,7 +1,7 @@
 """The track of a report: the tasks whole, in the order of their turns, and the one that traps last.
 
-The turns are run again by a plain reading of RV32I. Each is held against what may come next, and what they leave
-against the report's output, window and trap; ./fractal check judges the report.
+The turns are run again by a plain reading of RV32I. Each is compared with what may come next, and what they leave with
+the report's output, window and trap; ./fractal check judges the report.
 """
 from __future__ import annotations
 
@@ -71,7 +71,7 @@ class ReportTrack(Track):
     """The turns of a report. Its threads are all tasks, by the order in which they are made."""
 
     core: Turn
-    elsewhere = dict.fromkeys(("runs", "why", "stale"), "a report tells no attempts; the lines of ./fractal watch do.")
+    elsewhere = dict.fromkeys(("runs", "why", "stale"), "a report has no attempts; an event log has.")
 
     def __init__(self, image: Image, report: Report, listing: Listing) -> None:
         super().__init__(image, listing)
@@ -99,7 +99,7 @@ class ReportTrack(Track):
             first = len(self.memory.stores)
             why = self.run_turn(coming)
             if why is not None:
-                raise Refusal(f"this is no report of a run of the image: {why}.")
+                raise Refusal(f"this isn't a report of a run of the image: {why}.")
             pcs = frozenset(self.core.pcs)
             last = len(self.memory.stores)
             self.stretches.append(Stretch(self.core.executed, known.setdefault(pcs, pcs), first, last))
@@ -124,7 +124,7 @@ class ReportTrack(Track):
                           "fewer --commits is shorter.")
 
     def need_report(self, report: Report) -> None:
-        """Holds what the turns leave against the report. The task that traps leaves nothing."""
+        """Compares what the turns leave with the report. The task that traps leaves nothing."""
         emitted = bytes(self.turns.output)
         if report.trap:
             self.memory.move(self.stretches[-1].first)
@@ -132,9 +132,9 @@ class ReportTrack(Track):
         window = [(address, int.from_bytes(self.bytes_at(address, 4, b""), "little")) for address, _ in report.window]
         words = range(DATA + self.image.window_offset, DATA + self.image.window_offset + 4 * self.image.window_words, 4)
         if [address for address, _ in window] != list(words):
-            raise Refusal("this is no report of a run of the image: its window is another.")
+            raise Refusal("this isn't a report of a run of the image: its window is another.")
         if emitted != report.output or window != report.window:
-            raise Refusal("the turns leave other bytes than the report tells; ./fractal check says more.")
+            raise Refusal("the turns leave other bytes than the report has; ./fractal check says more.")
 
     def store(self, place: int, new: bytes) -> None:
         """A store to the data, before the core makes it."""
@@ -222,7 +222,7 @@ class ReportTrack(Track):
         return ("waits" if self.is_made(task) else "isn't made yet") + turn
 
     def core_of(self, thread: int) -> Core:
-        """A task that doesn't run stands at its start."""
+        """A task that doesn't run is at its start."""
         return self.core if thread in (0, self.thread) else Turn(self, self.task_of(thread))
 
     def choose(self, thread: int) -> bool:
@@ -246,7 +246,7 @@ class ReportTrack(Track):
                 f"{self.listing.task_words(task.entry, task.arguments)}")
 
     def task_named(self, word: Optional[str]) -> machine.Task:
-        """The task of a name, or of the number of a thread; the one that runs where none is told."""
+        """The task of a name, or of the number of a thread; by default the one that runs."""
         if word is None:
             return self.core.task
         if word.isdigit() and 1 <= int(word) <= len(self.names):
@@ -254,7 +254,7 @@ class ReportTrack(Track):
         name = goals.name_in(word)
         task = None if name is None else self.turns.tasks.get(name)
         if task is None:
-            raise Refusal(f"{word}: there is no such task.")
+            raise Refusal(f"{word}: no such task.")
         return task
 
     def tasks(self, first: str = "1") -> list[str]:
@@ -294,7 +294,7 @@ class ReportTrack(Track):
         """TASK, TASK@N, TASK@end, TASK!  to a task's start, N instructions on, its end, or the call that made it"""
         goal = goals.goal_in(word)
         if goal.event is not None:
-            raise Refusal(f"{word}: a report tells no events; the lines of ./fractal watch do.")
+            raise Refusal(f"{word}: a report has no events; an event log of ./fractal watch has.")
         task = self.task_named(goal.what)
         if goal.is_making:
             origin = self.turns.made.get(task.name)
@@ -309,8 +309,8 @@ class ReportTrack(Track):
         return [goals.arrival_text(self.thread)]
 
     def writes(self, word: str) -> list[str]:
-        """ADDRESS  all stores to a word of the data"""
-        address, here, rows = goals.word_in(word), self.position, []
+        """ADDRESS or LABEL  all stores to a word of the data"""
+        address, here, rows = goals.word_in(word, self.listing), self.position, []
         found = self.memory.stores_touching(address, 4)
         for at in found[-MOST_TOLD:]:
             rows.append(self.write_told(at))

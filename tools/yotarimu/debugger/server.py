@@ -1,6 +1,7 @@
 """gdb's remote protocol over a track: a packet, and what is answered."""
 from __future__ import annotations
 
+import struct
 from typing import Callable, Sequence
 from xml.sax.saxutils import quoteattr
 
@@ -14,7 +15,7 @@ OK, FAILED = "OK", "E01"
 FEATURES = (f"PacketSize={MOST_PACKET:x};QStartNoAckMode+;qXfer:features:read+;qXfer:threads:read+;ReverseStep+;"
             "ReverseContinue+;ConditionalBreakpoints+;vContSupported+")
 BREAKS = ("0", "1")
-# The words of `monitor` that stand alone, and those that want something behind them.
+# The commands of `monitor` that take no argument, and those that need one.
 ALONE, NEEDING = ("stale",), ("writes",)
 
 
@@ -30,16 +31,19 @@ class Server:
         self.late = ""
         self.is_over = False
 
-    def serve(self) -> None:
-        """Answers packets until gdb leaves or is gone."""
+    def serve(self) -> bool:
+        """Answers packets until gdb leaves or is gone; whether it was gdb that was there."""
+        was_gdb = False
         try:
             while not self.is_over and (packet := self.connection.packet()) is not None:
+                was_gdb = True
                 answer = self.answer(packet)
                 if packet != "k":
                     self.connection.send(answer)
                 self.connection.needs_ack &= packet != "QStartNoAckMode"
         except (BrokenPipeError, ConnectionError):
-            return
+            pass
+        return was_gdb
 
     def answer(self, packet: str) -> str:
         """The answer to a packet; an empty one where it is unknown here."""
@@ -50,7 +54,7 @@ class Server:
                 except Refusal as refused:
                     self.late = str(refused)
                     return FAILED
-                except (ValueError, IndexError):
+                except (ValueError, IndexError, KeyError, OverflowError, struct.error):
                     return FAILED
         return ""
 
@@ -61,7 +65,7 @@ class Server:
         return FEATURES
 
     def nothing(self, _rest: str) -> str:
-        """So gdb is told that it is unknown here."""
+        """The empty answer, by which gdb knows that a command is unknown here."""
         return ""
 
     def no_acks(self, _rest: str) -> str:
@@ -86,7 +90,7 @@ class Server:
         return part(f'<?xml version="1.0"?><threads>{rows}</threads>', rest)
 
     def shown_threads(self) -> list[int]:
-        """The threads that gdb is told of, of which there may be fewer than there are."""
+        """The threads that gdb is shown, of which there may be fewer than there are."""
         return self.track.threads()[:MOST_THREADS]
 
     def first_threads(self, _rest: str) -> str:
@@ -137,25 +141,30 @@ class Server:
     def register(self, rest: str) -> str:
         """One register of the chosen thread, in hexadecimal."""
         number = int(rest, 16)
-        return word_bytes(register_of(self.core(), number)).hex() if number <= PC else FAILED
+        return word_bytes(register_of(self.core(), number)).hex() if 0 <= number <= PC else FAILED
 
     def set_registers(self, rest: str) -> str:
         """Changes all registers of the task that runs."""
         data = bytes.fromhex(rest)
+        if len(data) != WORD_BYTES * (PC + 1):
+            return FAILED
         for number in range(PC + 1):
             self.set_one(number, data[WORD_BYTES * number:WORD_BYTES * (number + 1)])
         return OK
 
     def set_register(self, rest: str) -> str:
         """Changes one register of the task that runs."""
-        number, value = rest.split("=")
-        self.set_one(int(number, 16), bytes.fromhex(value))
+        place, value = rest.split("=")
+        number, data = int(place, 16), bytes.fromhex(value)
+        if not 0 <= number <= PC or len(data) != WORD_BYTES:
+            return FAILED
+        self.set_one(number, data)
         return OK
 
     def set_one(self, number: int, data: bytes) -> None:
-        """Changes a register to what its bytes tell, where that differs."""
+        """Changes a register to the number in its bytes, if that differs."""
         core, value = self.track.core, int.from_bytes(data, "little")
-        if number == 0 or number > PC or value == register_of(self.core(), number):
+        if number == 0 or value == register_of(self.core(), number):
             return
         self.tell_change()
         self.track.mark_changed()
@@ -167,6 +176,8 @@ class Server:
     def memory(self, rest: str) -> str:
         """Bytes that the chosen thread sees, in hexadecimal."""
         address, count = (int(word, 16) for word in rest.split(","))
+        if count < 0:
+            return FAILED
         return self.track.bytes_at(address, count, bytes(self.core().stack)).hex() or FAILED
 
     def set_memory(self, rest: str) -> str:
@@ -178,7 +189,7 @@ class Server:
         return OK
 
     def tell_change(self) -> None:
-        """Tells, once, what becomes of changes by hand; of a task that doesn't run they are refused."""
+        """Says, once, what becomes of changes by hand; those of a task that doesn't run are refused."""
         if self.chosen not in (0, self.track.thread):
             raise Refusal("this task doesn't run at this position, so it can't be changed.")
         if not self.track.is_changed:
@@ -212,7 +223,7 @@ class Server:
         return self.stop_answer(Stop(Signal.TRAP))
 
     def actions(self, _rest: str) -> str:
-        """In which ways a run can be told to go on."""
+        """In which ways a run can be continued."""
         return "vCont;c;C;s;S;r"
 
     def go(self, rest: str) -> str:
@@ -224,7 +235,7 @@ class Server:
             return self.stop_answer(self.movement.on(Order()))
         thread = int(named, 16) if named not in ("", "-1", "0") else self.track.thread
         is_alone = bool(named) and len(actions) == 1
-        # gdb steps one thread alone over a breakpoint, and fails where another one is told then.
+        # gdb steps one thread alone over a breakpoint, and fails if another one is reported then.
         if not self.track.choose(thread) and is_alone or is_alone and self.track.is_stretch_over():
             return self.stop_answer(Stop(Signal.TRAP, thread=thread))
         start, end = (int(word, 16) for word in action[1:].split(",")) if action[0] == "r" else (1, 0)
@@ -237,17 +248,17 @@ class Server:
             self.late = ""
 
     def back_step(self, _rest: str) -> str:
-        """Goes back by one instruction, and tells the stop."""
+        """Goes back by one instruction, and reports the stop."""
         self.say_late()
         return self.stop_answer(self.movement.back_step(self.resumed or self.chosen or self.track.thread))
 
     def back(self, _rest: str) -> str:
-        """Goes back to the last stop before this position, and tells it."""
+        """Goes back to the last stop before this position, and reports it."""
         self.say_late()
         return self.stop_answer(self.movement.back())
 
     def stop_answer(self, stop: Stop) -> str:
-        """What a stop tells gdb; its thread is the chosen one from then on."""
+        """A stop as gdb receives it; its thread is the chosen one from then on."""
         self.chosen = stop.thread or self.track.thread
         return stop_told(stop, self.core(), self.chosen)
 
@@ -260,7 +271,7 @@ class Server:
         return hex_text("".join(f"{line}\n" for line in lines)) or OK
 
     def answers(self, typed: list[str]) -> Sequence[str]:
-        """What is told to words that are typed. The first may be shortened, as long as it means one."""
+        """The answer to a typed command. The first word may be shortened, as long as it is unambiguous."""
         words = self.track.words
         found = [it for it in words if typed and it.startswith(typed[0])]
         word = typed[0] if typed and typed[0] in words else found[0] if len(found) == 1 else None

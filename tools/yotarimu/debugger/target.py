@@ -1,4 +1,4 @@
-"""What gdb is told of the machine: its registers, and traps as signals."""
+"""The machine as gdb sees it: its registers, and traps as signals."""
 from __future__ import annotations
 
 import enum
@@ -8,7 +8,7 @@ from yotarimu.images.serial_machine import (
 
 PC = len(REGISTERS)
 WORD_BYTES = 4
-# Told with each stop, since gdb asks for them anyway.
+# Sent with each stop, since gdb asks for them anyway.
 TOLD_AT_STOPS = (2, 8, PC)
 
 
@@ -23,7 +23,7 @@ class Signal(enum.IntEnum):
     SEGMENT = 11
     BAD_CALL = 12
     CPU_TIME = 24
-    # A task is about to be taken back.
+    # A task is about to be aborted.
     TAKEN_BACK = 30
 
 

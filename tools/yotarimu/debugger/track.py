@@ -1,7 +1,7 @@
-"""A run that can be gone along, forth and back: what the server asks of it, from whatever it is made.
+"""A run that can be replayed forwards and backwards: what the server asks of it, from whatever it is made.
 
 A track is a list of stretches, each of them some instructions of one task. A position is a stretch, and how many of its
-instructions are executed. All stores stand in one list with what they replaced, so the memory where a stretch begins is
+instructions are executed. One list has all stores with what they replaced, so the memory where a stretch begins is
 found by undoing stores or by doing them again; a position within a stretch by executing at most one task again.
 """
 from __future__ import annotations
@@ -18,9 +18,9 @@ from yotarimu.images.listing import Listing
 
 # So many instructions are gone through at most, which takes about a minute.
 MOST_STEPS = 20_000_000
-# Of a track with more threads those alone are told that are there at the position.
+# Of a track with more threads only those at the position are listed.
 MOST_THREADS = 64
-# So many lines are told of a question whose answer may be long.
+# The most lines of an answer that may be long.
 MOST_TOLD = 100
 
 
@@ -66,7 +66,7 @@ class Notice:
 
 
 class Core(machine.Run):
-    """A task that runs: it counts its instructions, and tells what the last one touched."""
+    """A task that runs: it counts its instructions, and notes what the last one touched."""
 
     def __init__(self, of: machine.Machine, task: machine.Task) -> None:
         super().__init__(of, task)
@@ -152,7 +152,7 @@ class Track(abc.ABC):
         self.image, self.listing = image, listing
         self.stretches: list[Stretch] = []
         self.stretch, self.is_changed = 0, False
-        # What was said of a position isn't said again before another one was told.
+        # What was said of a position isn't said again until another one is reported.
         self.noticed: Optional[Position] = None
 
     memory: Memory
@@ -185,7 +185,7 @@ class Track(abc.ABC):
 
     @abc.abstractmethod
     def threads(self) -> list[int]:
-        """The threads that are told at this position."""
+        """The threads that are listed at this position."""
 
     @abc.abstractmethod
     def name_of(self, thread: int) -> str:

@@ -1,7 +1,11 @@
 # Words for gdb's own console, which `./fractal debug` has a gdb read that it starts; in another one `source` does.
 #
 #     goto TASK        goes to a position of the run; `monitor help` tells what may stand behind it
-#     writes PLACE     all stores to a word, where PLACE is an expression, such as distance[3]
+#     writes PLACE     all stores to a word, where PLACE is an expression, such as distance[3], or a label, such as sum+4
+#
+# It also waits ten minutes for an answer, since a track is made before the first one.
+
+set remotetimeout 600
 
 python
 ARRIVED = "Now thread "
@@ -35,7 +39,12 @@ class Writes(gdb.Command):
         super().__init__("writes", gdb.COMMAND_DATA)
 
     def invoke(self, words, _is_typed):
-        value = gdb.parse_and_eval(words)
+        try:
+            value = gdb.parse_and_eval(words)
+        except gdb.error:
+            # A label of assembly has an address, and no type.
+            gdb.execute(f"monitor writes {words.replace(' ', '')}")
+            return
         address = value if value.address is None else value.address
         gdb.execute(f"monitor writes {int(address) & 0xFFFFFFFF:#x}")
 

@@ -10,9 +10,9 @@ import copy
 from collections.abc import Callable
 from typing import Optional
 
-# What tells a byte's cell from a word's.
+# What distinguishes a byte's cell from a word's.
 BYTES = 1 << 33
-# So many cells that are near each other stand in an array together.
+# So many cells that are near each other are in one array.
 PAGE = 64
 
 
@@ -78,8 +78,8 @@ class Column(Table):
 
 
 class Cells:
-    """The words of the data, and the bytes of those words of which some access touches less. Each table that goes by
-    cells is told here, and is split where a word is."""
+    """The words of the data, and the bytes of those words of which some access touches less. Each table that is indexed
+    by cells is registered here, and is split where a word is."""
 
     def __init__(self) -> None:
         self.split: set[int] = set()

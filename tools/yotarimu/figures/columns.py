@@ -1,15 +1,14 @@
-"""What comes of an image that is played in lockstep with some options: its figures as columns, a number each."""
+"""The figures of a run in lockstep as columns, a number each."""
 from __future__ import annotations
 
 import dataclasses
-from collections.abc import Callable, Sequence
+from collections.abc import Callable, Iterable, Sequence
 from typing import NamedTuple, Optional
 
-from yotarimu.common.tables import plain_ratio, ratio
+from yotarimu.figures.core_time import ABORTED, Use
 from yotarimu.figures.limits import UNBOUNDED, WINDOWS, Manner, WindowKind, Unit, Window
 from yotarimu.figures.occupancy import PLACES
 from yotarimu.figures.run import Figures
-from yotarimu.figures.tables import count_cell
 from yotarimu.figures.taken_tasks import Edge, Root
 from yotarimu.figures.tasks import SPREADS
 
@@ -18,35 +17,66 @@ NORMAL = "normal"
 ENDS = (NORMAL, "limit", "trap")
 Number = Callable[[Figures], float]
 Count = Callable[[Figures], Optional[int]]
+# A number of a run; None if the run has none.
+Plain = Optional[float]
+# Means of counts below this are shown with a decimal.
+SMALL = 1_000
 
 
 @dataclasses.dataclass(frozen=True)
 class Column:
-    """A column: its head, the cell for people, and the plain one for CSV. Both are told of a run and of the first; a
-    column that is held against the first has no number where that isn't known."""
+    """A column: its head, its number in a run, and how people read that number, of one run or as the mean of several.
+    A column that compares runs has no number of one run alone."""
     head: str
-    told: Callable[[Figures, Figures], str]
-    plain: Callable[[Figures, Figures], object]
-    is_against_first: bool = False
+    number: Callable[[Figures], Plain]
+    shown: Callable[[float], str]
+    is_comparison: bool = False
+
+
+def whole_or_mean(number: float) -> str:
+    """A count, or the mean of several, which has a decimal if it is small."""
+    return f"{number:,.1f}" if number % 1 and abs(number) < SMALL else f"{number:,.0f}"
+
+
+def one_decimal(number: float) -> str:
+    """A number with one decimal."""
+    return f"{number:,.1f}"
+
+
+def two_decimals(number: float) -> str:
+    """A number with two decimals."""
+    return f"{number:,.2f}"
+
+
+def percentage(number: float) -> str:
+    """A percentage."""
+    return f"{number:.1f} %"
 
 
 def count(head: str, number: Count) -> Column:
     """A column of whole numbers."""
-    return Column(head, lambda it, first: count_cell(number(it)), lambda it, first: number(it))
+    return Column(head, number, whole_or_mean)
 
 
 def quotient(head: str, number: Count, whole: Count, factor: int = 1) -> Column:
-    """A column of a number for each of another."""
-    return Column(head, lambda it, first: ratio(factor * (number(it) or 0), whole(it) or 0),
-                  lambda it, first: plain_ratio(factor * (number(it) or 0), whole(it) or 0))
+    """A column of a number divided by another."""
+    def divided(it: Figures) -> Plain:
+        parts = whole(it)
+        return factor * (number(it) or 0) / parts if parts else None
+    return Column(head, divided, two_decimals)
 
 
 def mean(head: str, number: Number) -> Column:
-    """A column of a mean: one decimal for people, six digits for programs."""
-    return Column(head, lambda it, first: f"{number(it):.1f}", lambda it, first: f"{number(it):.6g}")
+    """A column of a mean."""
+    return Column(head, number, one_decimal)
 
 
-# Columns of tasks that were taken back: by what took each itself, and by what that goes back to.
+def comparison(head: str) -> Column:
+    """A column that compares a run with another one."""
+    return Column(head, lambda it: None, one_decimal, True)
+
+
+# Columns of tasks that were aborted: by what took each itself, and by what that goes back to.
 EDGES = {"byte": Edge.MET_BYTE, "line": Edge.MET_LINE, "alias": Edge.MET_ALIAS, "touched-byte": Edge.TOUCHED_BYTE,
          "touched-line": Edge.TOUCHED_LINE, "touched-alias": Edge.TOUCHED_ALIAS, "child": Edge.CHILD}
 ROOTS = {"root-byte": Root.BYTE, "root-line": Root.LINE, "root-alias": Root.ALIAS,
@@ -54,12 +84,12 @@ ROOTS = {"root-byte": Root.BYTE, "root-line": Root.LINE, "root-alias": Root.ALIA
 
 
 def itself(edge: Edge) -> Column:
-    """A column of the tasks that were themselves taken back by something."""
+    """A column of the tasks that were themselves aborted by something."""
     return count(edge.value, lambda it: it.taken_back.by_edge(edge))
 
 
 def going_back_to(root: Root) -> Column:
-    """A column of the tasks that were taken back and go back to something."""
+    """A column of the tasks that were aborted and go back to something."""
     return count(f"root: {root.value}", lambda it: it.taken_back.by_root(root))
 
 
@@ -108,27 +138,22 @@ def bound(manner: Manner) -> Column:
 
 
 class Reach(NamedTuple):
-    """How far a run came: its end, how many tasks committed, and in how many rounds."""
+    """How far a run came: its end, how many tasks committed, in how many rounds, and how many instructions these
+    tasks executed."""
     end: str
     commits: int
     rounds: int
+    work: int = 0
 
-    def fewer_than(self, first: Reach) -> Optional[float]:
-        """How many times fewer rounds it took than the first one; None where they didn't come equally far: both to a
-        normal end, or both to a limit or a trap with as many commits."""
+    def fewer_than(self, first: Reach) -> Plain:
+        """How many times fewer rounds it took than another one; None if they didn't come equally far: both to a normal
+        end, or both to a limit or a trap with as many commits."""
         is_as_far = self.end == first.end and (self.end == NORMAL or self.commits == first.commits)
         return first.rounds / self.rounds if is_as_far and self.end in ENDS and self.rounds else None
 
-
-def fewer(it: Figures, first: Figures) -> Optional[float]:
-    """How many times fewer rounds a run took than the first one, where both came equally far."""
-    one, other = (Reach(run.end, run.commits, run.rounds() or 0) for run in (it, first))
-    return one.fewer_than(other)
-
-
-def number_cell(number: Optional[float], form: str, unknown: str = "") -> str:
-    """A number in a form, or what stands where there is none."""
-    return unknown if number is None else format(number, form)
+    def has_other_work(self, first: Reach) -> bool:
+        """Whether it committed other work: another number of tasks, or instructions that differ by more than 1 %."""
+        return self.commits != first.commits or abs(self.work - first.work) > first.work / 100
 
 
 def wasted_share(it: Figures) -> float:
@@ -136,27 +161,47 @@ def wasted_share(it: Figures) -> float:
     return 100 * it.taken_back.all_wasted() / it.executed if it.executed else 0.0
 
 
+USES = {
+    "committed": Use.COMMITTED, "true": Use.TRUE, "false": Use.FALSE, "cascade": Use.CASCADE,
+    "task-queue": Use.TASK_QUEUE, "commit-queue": Use.COMMIT_QUEUE, "core": Use.CORE,
+    "stalled-task-queue": Use.STALLED_TASK_QUEUE, "stalled-commit-queue": Use.STALLED_COMMIT_QUEUE,
+    "waiting": Use.WAITING, "empty": Use.EMPTY, "unfinished": Use.UNFINISHED}
+
+
+def time_share(use: Use) -> Column:
+    """A column of the percentage of core-rounds with a use."""
+    return Column(f"Core time: {use.value}", lambda it: it.core_time.share(use), percentage)
+
+
+def wasted_by(use: Use) -> Column:
+    """A column of the instructions that were wasted by a cause."""
+    return count(f"Wasted instructions, {use.value}", lambda it: it.core_time.wasted[use])
+
+
 COLUMNS = {
     "commits": count("Commits", lambda it: it.commits),
     "rounds": count("Rounds", lambda it: it.rounds()),
-    "fewer": Column("as many times less", lambda it, first: number_cell(fewer(it, first), ".1f", "-"),
-                    lambda it, first: number_cell(fewer(it, first), ".6g"), True),
-    "barren": count("Barren rounds in a row", lambda it: it.longest_barren),
-    "advances": count("Acts that brought the least task on", lambda it: it.advances),
+    "fewer": comparison("Ratio of rounds"),
+    "speedup": comparison("Speed-up over one core"),
+    "without-commit": count("Rounds in a row without a commit", lambda it: it.longest_without_commit),
+    "advances": count("Forced advances", lambda it: it.advances),
+    "work": count("Committed instructions", lambda it: it.useful),
     "acts": count("Acts", lambda it: it.acts),
     "round": quotient("Commits a round", lambda it: it.commits, lambda it: it.rounds()),
     "thousand": quotient("Commits in 1,000 acts", lambda it: it.commits, lambda it: it.acts, 1_000),
     "useful": quotient("Useful instructions a round", lambda it: it.useful, lambda it: it.rounds()),
     "useful-steps": quotient("Useful steps a round", lambda it: it.useful_steps, lambda it: it.rounds()),
     "dispatches": quotient("Dispatches a commit", lambda it: it.dispatches(), lambda it: it.commits),
-    "taken": count("Taken back", lambda it: it.taken_back.all()),
+    "taken": count("Aborted", lambda it: it.taken_back.all()),
     "access": count("root: loads and stores", lambda it: it.taken_back.by_access()),
     "room": count("root: room", lambda it: it.taken_back.by_room()),
     **{name: itself(edge) for name, edge in EDGES.items()},
     **{name: going_back_to(root) for name, root in ROOTS.items()},
     "machine": count("a line or a bit alone on the way", lambda it: it.taken_back.by_machine),
-    "wasted": Column("Wasted", lambda it, first: f"{wasted_share(it):.1f} %",
-                     lambda it, first: f"{wasted_share(it):.6g}"),
+    "wasted": Column("Wasted", wasted_share, percentage),
+    "core-rounds": count("Core-rounds", lambda it: it.core_time.total()),
+    **{f"time-{name}": time_share(use) for name, use in USES.items()},
+    **{f"wasted-{name}": wasted_by(use) for name, use in USES.items() if use in ABORTED},
     **{key: column for name in SPREADS for key, column in spread(name, name.capitalize()).items()},
     "queued": place("task queues", "In task queues"),
     "running": place("running", "Running"),
@@ -182,24 +227,37 @@ UNLESS_TOLD = ("rounds", "acts", "round", "thousand", "dispatches", "taken", "ac
 
 @dataclasses.dataclass
 class Row:
-    """What came of a choice: its figures, or why there are none."""
+    """What came of a choice: how its run ended, and its numbers by the names of columns, if it has any."""
     end: str
-    figures: Optional[Figures] = None
+    numbers: dict[str, Plain] = dataclasses.field(default_factory=dict)
 
-    def cells(self, names: Sequence[str], first: Optional[Figures], is_plain: bool) -> list[object]:
-        """The cells of some columns, where `first` has the figures that others are held against."""
-        return [self.cell(name, first, is_plain) for name in names]
+    @property
+    def reach(self) -> Optional[Reach]:
+        """How far its run came; None if it has no figures."""
+        found = [self.numbers.get(name) for name in ("commits", "rounds", "work")]
+        if None in found:
+            return None
+        commits, rounds, work = (int(number or 0) for number in found)
+        return Reach(self.end, commits, rounds, work)
 
-    def cell(self, name: str, first: Optional[Figures], is_plain: bool) -> object:
-        """A cell of the row by its column's name; of a run without figures it is empty or a dash."""
-        if name == END:
-            return self.end
-        column = COLUMNS[name]
-        if self.figures is None or column.is_against_first and first is None:
-            return "" if is_plain else "-"
-        return (column.plain if is_plain else column.told)(self.figures, first or self.figures)
+
+def row_of_figures(end: str, it: Figures, names: Iterable[str]) -> Row:
+    """The row of a run, with these columns."""
+    return Row(end, {name: COLUMNS[name].number(it) for name in names})
 
 
 def heads(names: Sequence[str]) -> list[str]:
     """The heads of columns by their names."""
     return ["End" if name == END else COLUMNS[name].head for name in names]
+
+
+def plain_cell(number: Plain) -> str:
+    """A number as CSV has it; empty if there is none."""
+    if number is None:
+        return ""
+    return str(number) if isinstance(number, int) else f"{number:.6g}"
+
+
+def shown_cell(name: str, number: Plain) -> str:
+    """A number of a column as people read it; a dash if there is none."""
+    return "-" if number is None else COLUMNS[name].shown(number)

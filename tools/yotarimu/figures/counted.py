@@ -4,14 +4,13 @@ from __future__ import annotations
 from collections.abc import Callable
 from typing import Any, Optional
 
-from yotarimu.figures.columns import END
-from yotarimu.figures.run import Figures
+from yotarimu.figures.run import Figures, need_possible
 from yotarimu.lines.counts_text import CountsText, number_of
 
 # The columns of a study for which counts are enough.
-COUNTED = ("commits", "rounds", "fewer", "advances", "acts", "round", "thousand", "useful", "dispatches", "taken",
-           "wasted", "spilled", "opening", "steps", "splits", "depth", "domains", END)
-# The events by which figures count tasks that were taken back, by their causes in counts.
+COUNTED = ("commits", "rounds", "fewer", "speedup", "advances", "work", "acts", "round", "thousand", "useful",
+           "dispatches", "taken", "wasted", "spilled", "opening", "steps", "splits", "depth", "domains")
+# The events by which figures count tasks that were aborted, by their causes in counts.
 EVENTS = {"load": "load", "store": "store", "commit_queue": "commit queue", "task_queue": "task queue", "core": "core",
           "asked": "abort"}
 # Why something stalls, by its name in counts.
@@ -37,6 +36,7 @@ def figures_in(head: dict[str, Any], line: dict[str, Any], end: str) -> Figures:
         return number_of(line, group, name)
 
     it.end, it.events, it.commits = end, line["counts"], count("made", "commit")
+    it.steps = count("made", "step")
     it.executed, it.useful, it.left, it.refused = (
         count("work", name) for name in ("executed", "useful", "left", "refused"))
     it.acts, it.spills, it.begun_rounds = (count("run", name) for name in ("acts", "spilled", "rounds"))
@@ -56,6 +56,6 @@ def figures_in(head: dict[str, Any], line: dict[str, Any], end: str) -> Figures:
                 domain = it.tasks.counts_of(outer + 1, kind)
                 domain.commits, domain.made = commits, domain.made + made
     if it.is_in_rounds:
-        acts = sum(count(group, name) for group in ("told", "passed") for name in line[group])
-        it.advances = acts - it.begun_rounds * head["tiles"] * (head["cores"] + 3)
+        it.advances = count("run", "advances")
+    need_possible(it)
     return it

@@ -1,9 +1,10 @@
-"""Counts of a run, made of its lines: what `./fractal watch counts` is held against.
+"""Counts of a run, made from its event log: `./fractal watch counts` is checked against them.
 
-They have the names that the program gives them; docs/guest/FORMATS.md says what stands where."""
+They have the names that the program gives them; docs/guest/FORMATS.md defines them."""
 from __future__ import annotations
 
 import json
+from collections.abc import Sequence
 from typing import Any, Optional
 
 from yotarimu.courses.schedules import Act
@@ -28,18 +29,19 @@ def none_of(names: tuple[str, ...]) -> dict[str, int]:
 
 
 class LineCounts:
-    """The counts of a run, by its lines: each is noted with the machine behind it. `told` are the counts so far, under
-    the names that the program has for them."""
+    """The counts of a run, by its event log: each line is noted with the machine after it. The attribute for the counts
+    has those so far, under the names that the program has for them."""
 
-    def __init__(self, machine: Machine, each: int = 0) -> None:
-        self.machine, self.each = machine, each
-        # The lines that were due behind each so many rounds, or acts where there are none.
+    def __init__(self, machine: Machine, each: int = 0, script: Sequence[str] = ()) -> None:
+        # The words of a script's acts, in their order; without any, each act outside of rounds is an advance.
+        self.machine, self.each, self.script = machine, each, script
+        # The lines that were due after so many rounds, or acts if there are none.
         self.due: list[str] = []
         self.stalled: set[Task] = set()
         self.trapped: set[Task] = set()
         self.events = 0
         self.work = none_of(("executed", "useful", "wasted", "left", "refused"))
-        self.run = none_of(("acts", "rounds", "opening", "spilled"))
+        self.run = none_of(("acts", "rounds", "advances", "opening", "spilled"))
         self.stalls = none_of(("task_queue", "commit_queue", "split"))
         self.made, self.told, self.passed = (none_of(ACTS) for _ in range(3))
         self.committed, self.undone = (none_of(ACCESSES) for _ in range(2))
@@ -50,12 +52,29 @@ class LineCounts:
         self.lengths = [0] * LENGTHS
         self.tiles = {name: [0] * TILES for name in ("useful", "wasted", "taken")}
         # A second reading of the rounds, which is asked act by act.
-        self.rounds = Rounds(machine.head) if machine.rounds is not None else None
-        # The number of the last act that came, and how many tasks had committed behind it.
+        self.rounds = None if machine.rounds is None else Rounds(
+            machine.head, is_least_waiting=lambda: self.rounds_so_far() in self.first_reading().advance_numbers)
+        # The number of the last act, and how many tasks had committed after it.
         self.at = self.seen = 0
 
+    def rounds_so_far(self) -> int:
+        """How many rounds ended."""
+        assert self.rounds is not None
+        return self.rounds.number
+
+    def first_reading(self) -> Rounds:
+        """The rounds as the machine follows them."""
+        assert self.machine.rounds is not None
+        return self.machine.rounds
+
+    def is_advance(self, at: int) -> bool:
+        """Whether the act of a number advances the least task."""
+        if self.rounds is not None:
+            return self.rounds.is_advancing
+        return not self.script or self.script[at - 1] == "advance"
+
     def note(self, told: ToldLine) -> None:
-        """Takes a line, with the machine behind it."""
+        """Takes a line, with the machine after it."""
         line = told.line
         if not told.is_act():
             if line.get("do") == "place":
@@ -65,12 +84,13 @@ class LineCounts:
         self.pass_to(line["at"])
         self.seen = self.machine.commits
         self.run["acts"] = line["at"]
+        self.run["advances"] += self.is_advance(line["at"])
         self.told[line["do"]] += 1
         if told.is_made:
             self.note_event(told)
         else:
             self.note_refused(told)
-        self.end_act()
+        self.end_act(line["do"])
 
     def pass_to(self, at: int) -> None:
         """All acts before that of a number weren't asked for."""
@@ -83,25 +103,30 @@ class LineCounts:
         assert rounds is not None
         act: Act = rounds.acts[self.at + 1 - rounds.first]
         self.passed[act.word] += 1
-        self.end_act()
+        self.end_act(act.word)
 
-    def end_act(self) -> None:
-        """Goes on behind an act; behind the last one of a round that ends."""
+    def end_act(self, done: str) -> None:
+        """Goes on after an act that did this; after the last one of a round that ends."""
         self.at += 1
         rounds = self.rounds
         if rounds is None:
             self.tell_where_due(self.at)
             return
-        if rounds.is_brought_on:
-            rounds.first += 1
-            rounds.note_commits(self.seen)
-            return
         rounds.note_commits(self.seen)
-        if self.at + 1 == rounds.first + len(rounds.acts):
+        if rounds.is_advancing:
+            rounds.first += 1
+            if done == "dispatch":
+                rounds.end_advance()
+                self.count_round()
+        elif self.at + 1 == rounds.first + len(rounds.acts):
             rounds.end_round()
-            self.run["rounds"] += 1
-            self.add(self.over_rounds)
-            self.tell_where_due(self.run["rounds"])
+            self.count_round()
+
+    def count_round(self) -> None:
+        """Counts a round that ended."""
+        self.run["rounds"] += 1
+        self.add(self.over_rounds)
+        self.tell_where_due(self.run["rounds"])
 
     def tell_where_due(self, number: int) -> None:
         """Keeps the line that is due behind so many rounds or acts."""
@@ -149,7 +174,7 @@ class LineCounts:
         self.lengths[min(task.work.bit_length() - 1, LENGTHS - 1)] += 1
 
     def note_taken(self, told: ToldLine) -> None:
-        """Takes the tasks that an event took back."""
+        """Takes the tasks that an event aborted."""
         cause = CAUSES[ROOTS[told.line.get("asks", told.line["do"])]]
         for taken in told.taken:
             tile = taken.task.tile
@@ -182,7 +207,7 @@ class LineCounts:
     def close(self, end: Optional[str]) -> None:
         """The acts that are left of a round weren't asked for, nor those of further rounds of a run that stays open."""
         rounds = self.rounds
-        while rounds is not None and not rounds.is_brought_on and (
+        while rounds is not None and not rounds.is_advancing and (
                 self.at == 0 or self.at + 1 > rounds.first or end == "open" and rounds.number < rounds.count):
             self.pass_one()
 
@@ -191,8 +216,8 @@ class LineCounts:
         return json.dumps(self.line(), separators=(",", ":"))
 
     def line(self) -> dict[str, Any]:
-        """The counts so far as the program tells them."""
-        # The machine may be an act ahead, where acts pass before that act and a line is due behind them.
+        """The counts so far as the program prints them."""
+        # The machine may be an act ahead, if acts pass before that act and a line is due after them.
         self.work["left"] = self.work["executed"] - self.work["useful"] - self.work["wasted"]
         return {"counts": self.events, "work": self.work, "run": self.run, "stalls": self.stalls, "made": self.made,
                 "told": self.told, "passed": self.passed, "committed": self.committed, "undone": self.undone,

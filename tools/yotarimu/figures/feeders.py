@@ -6,7 +6,7 @@ from typing import NamedTuple, Optional
 
 from yotarimu.figures.limits import CommittedTask, Limit, Manner, Unit, UNBOUNDED
 
-# A shorter chain is told by nobody: a tree of a million tasks is no deeper.
+# A shorter chain is told by nobody: a tree of a million tasks isn't a deeper.
 FEWEST = 8
 
 

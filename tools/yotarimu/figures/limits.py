@@ -5,10 +5,11 @@ The tasks that committed are taken in the order of their commits, and all that a
 it. So the earliest time of each of its units follows from theirs, and no schedule has one earlier. A unit of time is an
 instruction, or a step.
 
-- By whole tasks a task starts once those that it depends on have finished. A machine may do better.
-- By instructions, or by steps, a task stops where it has to wait, and what comes behind that comes later. What it did
-  before stays where it was. With renamed memory a load waits for the store whose number it loads, and nothing else
-  waits. In one memory each access also waits for the accesses of earlier tasks that it would conflict with, by bytes.
+- At task granularity a task starts once those that it depends on have finished. A machine may do better.
+- By instructions, or by steps, a task stops where it has to wait, and its later instructions come later. What it did
+  before stays where it was. With true dependences (RAW) a load waits for the store whose number it loads, and nothing
+  else waits. With all dependences (RAW, WAR, WAW) each access also waits for the accesses of earlier tasks that it
+  would conflict with, by bytes.
 """
 from __future__ import annotations
 
@@ -28,8 +29,8 @@ from yotarimu.figures.cells import Cells, Table
 class Manner(enum.Enum):
     """What a task waits for, and how."""
     WHOLE = "by whole tasks"
-    RENAMED = "renamed memory"
-    ONE = "one memory"
+    RENAMED = "true dependences (RAW)"
+    ONE = "all dependences (RAW, WAR, WAW)"
 
 
 class WindowKind(enum.Enum):
@@ -210,7 +211,7 @@ class FinePlans:
         self.touches: Optional[Table] = cells.table(self.gates.count)
 
     def in_one_memory(self, cells: Cells) -> FinePlans:
-        """The same plans as they stand, which go on in one memory, while these do so with renamed memory alone."""
+        """The plans of these tasks with true dependences, copied to go on with all dependences."""
         plans = copy.copy(self)
         plans.is_one_memory, plans.gates, plans.origins = True, copy.deepcopy(self.gates), dict(self.origins)
         plans.stores, self.touches = cells.copy_of(self.stores), None
@@ -221,8 +222,8 @@ class FinePlans:
         return (instructions,) * self.windows + (steps,)
 
     def holds_a_store_back(self, task: CommittedTask) -> bool:
-        """Whether in one memory a store of the next task might have to wait, so that memories make a difference. What
-        its loads wait for can only make its stores later."""
+        """Whether with all dependences a store of the next task might have to wait, so that the kinds of dependences
+        make a difference. What its loads wait for can only make its stores later."""
         starts = list(self.origins.get(task.key, (0,) * self.gates.count))
         return any(self.shifts_after(self.touches, cells, before, starts) != starts
                    for is_store, cells, before in task.points if is_store)
@@ -266,7 +267,7 @@ class FinePlans:
 
 
 def sums(shifts: Times, places: Times) -> array.array[int]:
-    """When what stands at these places comes, for each plan."""
+    """When the units at these places finish, for each plan."""
     return array.array("q", map(operator.add, shifts, places))
 
 
@@ -278,7 +279,7 @@ class FineLimits:
         self.one: Optional[FinePlans] = None
 
     def commit(self, task: CommittedTask) -> None:
-        """Plans the next task, with renamed memory, and in one memory from where the two differ."""
+        """Plans the next task, with true dependences, and with all dependences from where the two differ."""
         if self.one is None and self.renamed.holds_a_store_back(task):
             self.one = self.renamed.in_one_memory(self.cells)
         self.renamed.commit(task)
@@ -309,7 +310,7 @@ FINE = (Manner.RENAMED, Manner.ONE)
 
 
 class Limits:
-    """All plans of a run. Steps are told without a window alone."""
+    """All plans of a run. Steps are planned without a window alone."""
 
     def __init__(self, cells: Cells, windows: Sequence[Window] = WINDOWS) -> None:
         self.windows = windows

@@ -1,8 +1,8 @@
 """How many tasks are where, and what happens in a round: means, the greatest, and curves.
 
-In lockstep the moments are rounds, since a round is what stands for time there: in it each core makes at most one step.
-Of a round that counts which its events left, on the mean; a round without an event has what the one before it left. In
-other courses the moments are events.
+In lockstep the points in time are rounds, since a round serves as time there: in it each core makes at most one step. A
+round counts as the mean of what its events left; a round without an event has what the one before it left. In other
+modes the points in time are events.
 """
 from __future__ import annotations
 
@@ -12,7 +12,7 @@ from typing import Optional
 # The tasks of a machine: those in task queues are all of them but those in blocks.
 PLACES = ("task queues", "running", "stalled", "trapped", "commit queues", "blocks")
 # What is counted by the round.
-RATES = ("commits", "taken back", "stalled steps", "stalled splits")
+RATES = ("commits", "aborted", "stalled steps", "stalled splits")
 # A curve has at least so many points, where there are so many moments, and fewer than twice as many.
 FEWEST_POINTS = 60
 

@@ -4,12 +4,13 @@ Tasks of one timestamp, and those of an unordered domain, may commit in several 
 only that is counted which holds in all of them, as long as each task does what it did:
 
 - A task starts no sooner than its creator's call.
-- Where the root domain is ordered, an earlier timestamp there comes first; a whole such timestamp is an epoch. In one
-  memory an access waits for those of earlier epochs that it would conflict with. With renamed memory a load waits for
-  the earliest of the stores of the last epoch that has some of its byte, unless another task of its own epoch stores
-  that byte.
-- Tasks that load a byte and then store it follow one another, each up to its store: from the load, or in one memory
-  from its first access of that byte. With renamed memory a task that only stores the byte may come between any two.
+- Where the root domain is ordered, an earlier timestamp there comes first; a whole such timestamp is an epoch. With
+  all dependences (RAW, WAR, WAW) an access waits for those of earlier epochs that it would conflict with. With true
+  dependences (RAW) a load waits for the earliest of the stores of the last epoch that has some of its byte, unless
+  another task of its own epoch stores that byte.
+- Tasks that load a byte and then store it follow one another, each up to its store: from the load, or with all
+  dependences from its first access of that byte. With true dependences a task that only stores the byte may come
+  between any two.
 """
 from __future__ import annotations
 
@@ -84,7 +85,7 @@ class AnyOrder:
 
 
 class RenamedMemory(AnyOrder):
-    """With renamed memory. Tasks that hang on others of their epoch are kept up to its end."""
+    """With true dependences. Tasks that depend on others of their epoch are kept up to its end."""
 
     def __init__(self, cells: Cells) -> None:
         super().__init__(cells)
@@ -142,7 +143,7 @@ class RenamedMemory(AnyOrder):
         self.writers.pages = {}
 
     def place(self, task: CommittedTask, reaches: Reaches) -> None:
-        """Places a task as early as what it loads from earlier epochs lets it be."""
+        """Places a task as early as its loads from earlier epochs permit."""
         shift, before = self.origins.pop(task.key, 0), self.before
         shifts, stored = [(-1, shift)], {}
         for is_store, cells, (place, _) in task.points:
@@ -171,7 +172,7 @@ WAITS = 3
 
 
 class OneMemory(AnyOrder):
-    """In one memory."""
+    """With all dependences."""
 
     def __init__(self, cells: Cells) -> None:
         super().__init__(cells)

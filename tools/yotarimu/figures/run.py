@@ -3,6 +3,7 @@ from __future__ import annotations
 
 import collections
 import contextlib
+import functools
 import gc
 from collections.abc import Callable, Iterator
 from typing import Any, Optional
@@ -10,8 +11,9 @@ from typing import Any, Optional
 from yotarimu.common.files import FilePath
 from yotarimu.common.outcome import Refusal
 from yotarimu.figures.cells import Cells
+from yotarimu.figures.core_time import STALLED, CoreTime, Use, use_without_step
 from yotarimu.figures.feeders import Chain, Feeders
-from yotarimu.figures.limits import Call, CommittedTask, Limit, Limits, Manner, Point
+from yotarimu.figures.limits import Call, CommittedTask, Limit, Limits, Manner, Point, Unit
 from yotarimu.figures.occupancy import Occupancy
 from yotarimu.figures.orders import Bounds
 from yotarimu.figures.taken_tasks import TakenCounts
@@ -23,6 +25,8 @@ from yotarimu.lines.replay import NOT_EXECUTED, Machine, Task, ToldLine
 
 # How far a run was read is told once in so many lines.
 LINES_BETWEEN = 2_000
+# How far a quotient may be off.
+ROUNDING = 1e-9
 Progress = Callable[[int], None]
 
 
@@ -36,9 +40,11 @@ class Figures:
         self.replies: collections.Counter[tuple[str, str]] = collections.Counter()
         self.commits = self.events = self.acts = self.spills = 0
         self.is_in_rounds = head["course"] == "lockstep"
-        # Of a course in rounds: how many were begun, the longest row of those without a commit, and how many acts
-        # brought the least task on behind such rows.
-        self.begun_rounds = self.longest_barren = self.advances = 0
+        # In lockstep: how many rounds were begun, the most in a row without a commit, and how many acts advanced the
+        # least task because it starved.
+        self.begun_rounds = self.longest_without_commit = self.advances = 0
+        # How many steps were made, and where core time went.
+        self.steps, self.core_time = 0, CoreTime()
         self.occupancy = Occupancy(self.is_in_rounds)
         self.tasks = TaskFigures(head["tiles"], head["line"], head["root"])
         # The limits by the order of the commits, and the bounds for any order.
@@ -48,6 +54,8 @@ class Figures:
         self.feeders = Chain(0, 0)
         # How many steps the tasks made that committed, since their last dispatch.
         self.useful_steps = 0
+        # The settings that no line confirms.
+        self.unconfirmed: list[str] = []
 
     def rounds(self) -> Optional[int]:
         """How many rounds of a course in lockstep were begun; None of another course."""
@@ -57,6 +65,11 @@ class Figures:
         # last ones.
         rounds: int = self.head["rounds"] if self.end == "open" else self.begun_rounds
         return rounds
+
+    def cores(self) -> int:
+        """How many cores the machine has."""
+        cores: int = self.head["tiles"] * self.head["cores"]
+        return cores
 
     def dispatches(self) -> int:
         """How many tasks were dispatched."""
@@ -102,9 +115,9 @@ class RunSums:
         """Notes in which round the machine is, where it runs in rounds."""
         it, rounds = self.figures, machine.rounds
         if rounds is not None:
-            # What brings the least task on is counted with the round behind it.
             it.occupancy.end_rounds(rounds.number)
-            it.begun_rounds, it.longest_barren, it.advances = rounds.begun_rounds, rounds.longest, rounds.advances
+            it.begun_rounds, it.advances = rounds.begun_rounds, rounds.advances
+            it.longest_without_commit = rounds.longest
 
     def note_refused(self, told: ToldLine) -> None:
         """Notes an act that was refused, and the instructions of its leg."""
@@ -114,6 +127,8 @@ class RunSums:
             word = line["do"]
             it.tasks.note_stall(line.get("asks", word))
             it.occupancy.count(f"stalled {word}s")
+            if word == "step":
+                it.core_time.rounds[STALLED[line["asks"]]] += 1
             if told.task is not None:
                 self.stalled.add(told.task)
 
@@ -122,6 +137,7 @@ class RunSums:
         line, task = told.line, told.task
         assert task is not None
         self.figures.executed += line["leg"] + (line["asks"] not in NOT_EXECUTED)
+        self.figures.steps += 1
         self.stalled.discard(task)
         if line["asks"] == "trap":
             self.trapped.add(task)
@@ -131,8 +147,8 @@ class RunSums:
     def note_taken(self, told: ToldLine) -> None:
         """Notes the tasks that an event took back."""
         it = self.figures
-        it.taken_back.note(told)
-        it.occupancy.count("taken back", len(told.taken))
+        it.taken_back.note(told, it.core_time.note_abort)
+        it.occupancy.count("aborted", len(told.taken))
         for taken in told.taken:
             it.tasks.note_taken(taken.task, taken.work)
             self.stalled.discard(taken.task)
@@ -142,6 +158,7 @@ class RunSums:
         """Notes a commit: its work, and what limits and feeders have of it."""
         it = self.figures
         it.useful += task.work
+        it.core_time.rounds[Use.COMMITTED] += task.steps
         it.occupancy.count("commits")
         it.tasks.note_commit(task)
         done = committed_task(task, self.cells)
@@ -156,16 +173,47 @@ class RunSums:
         it.end, it.events, it.commits = end["end"], machine.events, machine.commits
         if it.end == "open" and machine.rounds is not None:
             machine.rounds.end_all()
-            it.longest_barren = machine.rounds.longest
+            it.longest_without_commit = machine.rounds.longest
         it.left = sum(task.work for task in machine.tasks.values())
+        self.close_core_time(machine)
         it.occupancy.close(it.rounds())
         it.limits, it.bounds, it.useful_steps = self.limits.all_limits(), self.bounds.at_once(), self.limits.work[1]
-        it.feeders = self.feeders.longest
+        it.feeders, it.unconfirmed = self.feeders.longest, machine.unconfirmed()
+        need_possible(it)
         wasted = it.taken_back.all_wasted()
         if it.executed != it.useful + wasted + it.left:
             raise Refusal(f"{name}: of {it.executed:,} instructions {it.useful:,} are of tasks that committed, "
-                          f"{wasted:,} of tasks that were taken back, and {it.left:,} are left.")
+                          f"{wasted:,} of tasks that were aborted, and {it.left:,} are left.")
         return it
+
+    def close_core_time(self, machine: Machine) -> None:
+        """Counts the core-rounds of attempts that didn't end, and of the round in which the run ends."""
+        it, rounds = self.figures, machine.rounds
+        uses = it.core_time.rounds
+        uses[Use.UNFINISHED] += sum(task.steps for task in machine.tasks.values())
+        if rounds is not None:
+            if it.end != "open":
+                uses.update(use_without_step(machine, act.tile or 0, act.core or 0) for act in rounds.acts_left()
+                            if act.word == "step")
+            uses[Use.EMPTY] += rounds.advance_rounds * it.cores()
+
+
+def need_possible(it: Figures) -> None:
+    """Refuses figures that can't be true, which would be a fault of the programs or of the tools: in a round each core
+    makes at most one step, core time is that of all cores in all rounds, and no run exceeds its own limit."""
+    rounds = it.rounds()
+    if rounds is None:
+        return
+    most, timed = rounds * it.cores(), it.core_time.total()
+    if it.steps > most:
+        raise Refusal(f"these figures can't be true: {it.cores()} cores made {it.steps:,} steps in {rounds:,} rounds.")
+    if timed not in (0, most):
+        raise Refusal(f"these figures can't be true: {timed:,} core-rounds were counted, and {rounds:,} rounds of "
+                      f"{it.cores()} cores have {most:,}.")
+    limit = next((limit.at_once for limit in it.limits if limit.manner is Manner.ONE and limit.unit is Unit.STEP), None)
+    if limit is not None and rounds and it.useful_steps > rounds * limit * (1 + ROUNDING):
+        raise Refusal(f"these figures can't be true: {it.useful_steps / rounds:.2f} useful steps were made per round, "
+                      f"and dependences allow {limit:.2f}.")
 
 
 def committed_task(task: Task, cells: Cells) -> CommittedTask:
@@ -202,6 +250,8 @@ def no_search_for_cycles() -> Iterator[None]:
 def figures_of(watched: Reader, progress: Optional[Progress] = None) -> Figures:
     """The figures of a run, from its whole text. How many acts were read is told now and then."""
     summing = RunSums(watched.head)
+    if watched.machine.rounds is not None:
+        watched.machine.rounds.note_passed = functools.partial(summing.figures.core_time.note_passed, watched.machine)
     with no_search_for_cycles():
         for told in watched:
             summing.note(told, watched.machine)

@@ -4,7 +4,7 @@ from __future__ import annotations
 import collections
 from collections.abc import Iterator
 
-# The percentiles that are told.
+# The percentiles that are printed.
 PERCENTS = (10, 50, 90, 99)
 # A histogram has so many bars at most.
 MOST_BARS = 40

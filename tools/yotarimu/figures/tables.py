@@ -42,10 +42,11 @@ ROWS: tuple[tuple[str, Callable[[Figures], str]], ...] = (
     ("Commits a round", lambda it: ratio(it.commits, it.rounds())),
     ("Useful instructions a round", lambda it: ratio(it.useful, it.rounds())),
     ("Useful steps a round", lambda it: ratio(it.useful_steps, it.rounds())),
-    ("Barren rounds in a row, at most", lambda it: count_cell(it.longest_barren if it.is_in_rounds else None)),
-    ("Acts that brought the least task on", lambda it: count_cell(it.advances if it.is_in_rounds else None)),
+    ("Rounds in a row without a commit, at most",
+     lambda it: count_cell(it.longest_without_commit if it.is_in_rounds else None)),
+    ("Forced advances of the least task", lambda it: count_cell(it.advances if it.is_in_rounds else None)),
     ("Dispatches a commit", lambda it: ratio(it.dispatches(), it.commits)),
-    ("Tasks taken back", lambda it: count_cell(it.taken_back.all())),
+    ("Tasks aborted", lambda it: count_cell(it.taken_back.all())),
     ("of these discarded", lambda it: count_cell(sum(it.taken_back.discarded.values()))),
     ("Tasks spilled at the opening, later", lambda it: f"{it.tasks.spilled_at_opening:,}, {it.spills:,}"),
     ("End", lambda it: it.end),
@@ -58,17 +59,17 @@ def summary(runs: Runs) -> list[str]:
 
 
 def taken_tasks(runs: Runs) -> list[str]:
-    """Tasks that were taken back, a column a run: by the event, by what took each itself, and by its root."""
+    """Tasks that were aborted, a column a run: by the event, by what took each itself, and by its root."""
     found = {name: it.taken_back for name, it in runs.items()}
     rows = [[f"by event: {event}", *(count_cell(it.tasks[event]) for it in found.values())] for event in EVENTS]
     rows += [[f"itself: {edge.value}", *(count_cell(it.by_edge(edge)) for it in found.values())] for edge in Edge]
     rows += [[f"root: {root.value}", *(count_cell(it.by_root(root)) for it in found.values())] for root in Root]
     rows.append(["by a line or a bit alone on the way", *(count_cell(it.by_machine) for it in found.values())])
-    return table(["Taken back", *found], rows)
+    return table(["Aborted", *found], rows)
 
 
 def causes(it: Figures) -> list[str]:
-    """What took tasks themselves, against what that goes back to; no line where nothing was taken back."""
+    """What took tasks themselves, against what that goes back to; no line where nothing was aborted."""
     found = it.taken_back
     roots = [root for root in Root if found.by_root(root)]
     rows = [[edge.value, *(count_cell(found.causes[edge, root]) for root in roots), count_cell(found.by_edge(edge))]
@@ -97,7 +98,7 @@ def places(it: Figures, listing: Listing = NO_LISTING) -> list[str]:
                  for address, count in most_of(it.taken_back.addresses)]
     most = max(len(lines), len(addresses))
     pairs = zip(*(rows + [["", ""]] * (most - len(rows)) for rows in (lines, addresses)))
-    return table(["Line", "taken back", "Address", "taken back"], ([*line, *address] for line, address in pairs))
+    return table(["Line", "aborted", "Address", "aborted"], ([*line, *address] for line, address in pairs))
 
 
 def with_label(text: str, address: int, listing: Listing) -> str:
@@ -128,7 +129,7 @@ def entries(it: Figures, listing: Listing = NO_LISTING) -> list[str]:
         counts = it.tasks.entries[address]
         rows.append([listing.address_text(address), count_cell(counts.commits), count_cell(counts.useful),
                      count_cell(counts.taken_back), count_cell(counts.wasted)])
-    return table(["Tasks that begin at", "committed", "useful instructions", "taken back", "wasted"], rows)
+    return table(["Tasks that begin at", "committed", "useful instructions", "aborted", "wasted"], rows)
 
 
 def accesses(it: Figures) -> list[str]:
@@ -202,11 +203,12 @@ def plain_counts(it: Figures) -> Plain:
                 ("commits a round", "", plain_ratio(it.commits, rounds)),
                 ("useful instructions a round", "", plain_ratio(it.useful, rounds)),
                 ("useful steps a round", "", plain_ratio(it.useful_steps, rounds)),
-                ("barren rounds in a row", "greatest", it.longest_barren if it.is_in_rounds else ""),
-                ("acts that brought the least task on", "", it.advances if it.is_in_rounds else ""),
+                ("rounds in a row without a commit", "greatest",
+                 it.longest_without_commit if it.is_in_rounds else ""),
+                ("forced advances of the least task", "", it.advances if it.is_in_rounds else ""),
                 ("steps", "useful", it.useful_steps), ("dispatches", "", it.dispatches()),
                 ("dispatches a commit", "", plain_ratio(it.dispatches(), it.commits)),
-                ("taken back", "", it.taken_back.all()), ("spilled", "", it.spills),
+                ("aborted", "", it.taken_back.all()), ("spilled", "", it.spills),
                 ("spilled at the opening", "", it.tasks.spilled_at_opening), ("end", "", it.end))
     for (word, reply), count in sorted(it.replies.items()):
         yield f"replies to {word}", reply, count
@@ -237,7 +239,7 @@ def plain_tasks(it: Figures) -> Plain:
     for address, entry in sorted(it.tasks.entries.items()):
         yield "commits by entry address", f"{address:08x}", entry.commits
         yield "useful by entry address", f"{address:08x}", entry.useful
-        yield "taken back by entry address", f"{address:08x}", entry.taken_back
+        yield "aborted by entry address", f"{address:08x}", entry.taken_back
         yield "wasted by entry address", f"{address:08x}", entry.wasted
     for tile, accesses_there in enumerate(it.tasks.accesses):
         yield "loads by tile", tile, accesses_there["load"]
@@ -245,24 +247,24 @@ def plain_tasks(it: Figures) -> Plain:
 
 
 def plain_taken(it: Figures) -> Plain:
-    """Rows of the tasks that were taken back: by event, by what took them, and by root."""
+    """Rows of the tasks that were aborted: by event, by what took them, and by root."""
     found = it.taken_back
     for event in EVENTS:
-        yield "taken back by event", event, found.tasks[event]
+        yield "aborted by event", event, found.tasks[event]
         yield "discarded by event", event, found.discarded[event]
         yield "wasted by event", event, found.wasted[event]
     for edge in Edge:
-        yield "taken back itself", edge.value, found.by_edge(edge)
+        yield "aborted itself", edge.value, found.by_edge(edge)
     for root in Root:
-        yield "taken back by root", root.value, found.by_root(root)
+        yield "aborted by root", root.value, found.by_root(root)
         yield "wasted by root", root.value, found.wasted_by_root[root]
         for edge in Edge:
-            yield f"taken back by root, {root.value}", edge.value, found.causes[edge, root]
-    yield "taken back by a line or a bit alone on the way", "", found.by_machine
+            yield f"aborted by root, {root.value}", edge.value, found.causes[edge, root]
+    yield "aborted by a line or a bit alone on the way", "", found.by_machine
     for line, count in sorted(found.lines.items()):
-        yield "taken back by line", line, count
+        yield "aborted by line", line, count
     for address, count in sorted(found.addresses.items()):
-        yield "taken back by address", f"{address:08x}", count
+        yield "aborted by address", f"{address:08x}", count
 
 
 def plain_occupancy(it: Figures) -> Plain:

@@ -1,8 +1,9 @@
-"""Tasks that were taken back, counted: by what took each one itself, and by what that goes back to."""
+"""Tasks that were aborted, counted: by what took each one itself, and by what that goes back to."""
 from __future__ import annotations
 
 import collections
 import enum
+from collections.abc import Callable
 from typing import TYPE_CHECKING
 
 from yotarimu.lines.causes import ROOTS, Kind, Sharing, causes_of
@@ -14,7 +15,7 @@ if TYPE_CHECKING:
 
 
 class Edge(enum.Enum):
-    """What took a task itself: the event's access met one of its own; it is a child of a task that was taken back, or
+    """What took a task itself: the event's access met one of its own; it is a child of a task that was aborted, or
     touched what such a task wrote; it stood where room was needed; or a script asked for it."""
     MET_BYTE = "met by the access: byte"
     MET_LINE = "met by the access: line"
@@ -77,8 +78,8 @@ class TakenCounts:
         self.lines: collections.Counter[int] = collections.Counter()
         self.addresses: collections.Counter[int] = collections.Counter()
 
-    def note(self, told: ToldLine) -> None:
-        """Takes an event that took tasks back."""
+    def note(self, told: ToldLine, note_cause: Callable[[Cause], None]) -> None:
+        """Takes an event that aborts tasks, and passes on the cause of each."""
         for cause in causes_of(told, self.rule):
             work, root = cause.taken.work, root_of(cause)
             self.tasks[cause.event] += 1
@@ -87,12 +88,13 @@ class TakenCounts:
             self.causes[edge_of(cause), root] += 1
             self.wasted_by_root[root] += work
             self.by_machine += cause.is_false
+            note_cause(cause)
         if told.access is not None:
             self.lines[self.rule.line_of(told.access)] += len(told.taken)
             self.addresses[told.access.address] += len(told.taken)
 
     def all(self) -> int:
-        """How many tasks were taken back."""
+        """How many tasks were aborted."""
         return sum(self.tasks.values())
 
     def all_wasted(self) -> int:
@@ -100,7 +102,7 @@ class TakenCounts:
         return sum(self.wasted.values())
 
     def by_edge(self, edge: Edge) -> int:
-        """How many tasks were themselves taken back by something."""
+        """How many tasks were themselves aborted by something."""
         return sum(count for (own, _), count in self.causes.items() if own is edge)
 
     def by_root(self, root: Root) -> int:

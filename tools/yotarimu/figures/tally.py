@@ -14,8 +14,8 @@ MOST_POINTS = 60
 
 
 class Tally:
-    """The acts of a played schedule by answer, the tasks that they took back, and the commits over acts. What was asked
-    after the end of the run, and answered `ended`, is counted apart."""
+    """The acts of a played schedule by answer, the tasks that they aborted, and the commits over acts. Acts after the
+    end of the run, answered `ended`, are counted apart."""
 
     def __init__(self, played: PlayedScript, acts_a_round: Optional[int] = None) -> None:
         self.replies: dict[str, collections.Counter[str]] = {}
@@ -46,7 +46,7 @@ class Tally:
         return self.count("dispatch", "ok")
 
     def all_taken_back(self) -> int:
-        """How many tasks were taken back."""
+        """How many tasks were aborted."""
         return sum(self.taken_back.values())
 
     def stalls(self) -> dict[str, int]:
@@ -54,7 +54,7 @@ class Tally:
         return {word: self.count(word, "stall") for word in ACTS if self.count(word, "stall")}
 
     def words(self) -> list[str]:
-        """The acts that stand in the script, in the order in which documents list them."""
+        """The acts that the script has, in the order in which documents list them."""
         return [word for word in ACTS if word in self.replies]
 
     def answers(self) -> list[str]:
@@ -75,9 +75,9 @@ ROWS: tuple[tuple[str, Callable[[Tally], str]], ...] = (
     ("Commits in 1,000 acts", lambda it: ratio(1_000 * it.commits, it.acts)),
     ("Dispatches", lambda it: f"{it.dispatches():,}"),
     ("Dispatches a commit", lambda it: ratio(it.dispatches(), it.commits)),
-    ("Tasks taken back", lambda it: f"{it.all_taken_back():,}"),
+    ("Tasks aborted", lambda it: f"{it.all_taken_back():,}"),
     ("by which act", lambda it: by_act(it.taken_back)),
-    ("Tasks taken back a commit", lambda it: ratio(it.all_taken_back(), it.commits)),
+    ("Tasks aborted a commit", lambda it: ratio(it.all_taken_back(), it.commits)),
     ("Stalls", lambda it: by_act(it.stalls())),
     ("End", lambda it: it.end),
 )
@@ -92,20 +92,20 @@ PLAIN: tuple[tuple[str, Callable[[Tally], object]], ...] = (
     ("commits in 1000 acts", lambda it: plain_ratio(1_000 * it.commits, it.acts)),
     ("dispatches", lambda it: it.dispatches()),
     ("dispatches a commit", lambda it: plain_ratio(it.dispatches(), it.commits)),
-    ("taken back", lambda it: it.all_taken_back()),
-    ("taken back a commit", lambda it: plain_ratio(it.all_taken_back(), it.commits)),
+    ("aborted", lambda it: it.all_taken_back()),
+    ("aborted a commit", lambda it: plain_ratio(it.all_taken_back(), it.commits)),
     ("end", lambda it: it.end),
 )
 
 
 def plain_rows(tallies: Mapping[str, Tally]) -> Iterator[list[object]]:
     """The tallies of a dictionary by name as rows of CSV, a row each, under their head; with how often each act had
-    each answer, and how many tasks each took back."""
+    each answer, and how many tasks each aborted."""
     pairs = [(word, reply) for word in ACTS for reply in DONE + REFUSALS
              if any(it.count(word, reply) for it in tallies.values())]
     words = list(dict.fromkeys(word for word, _ in pairs))
     yield ["output", *(name for name, _ in PLAIN), *(f"{word} {reply}" for word, reply in pairs),
-           *(f"taken back by {word}" for word in words)]
+           *(f"aborted by {word}" for word in words)]
     for name, it in tallies.items():
         yield [name, *(cell(it) for _, cell in PLAIN), *(it.count(*pair) for pair in pairs),
                *(it.taken_back[word] for word in words)]
@@ -121,4 +121,4 @@ def acts_by_reply(tally: Tally) -> list[str]:
     answers = tally.answers()
     rows = [[word, *(f"{tally.count(word, reply):,}" for reply in answers),
              f"{sum(tally.replies[word].values()):,}", f"{tally.taken_back[word]:,}"] for word in tally.words()]
-    return table(["Act", *answers, "all", "tasks taken back"], rows)
+    return table(["Act", *answers, "all", "tasks aborted"], rows)

@@ -30,7 +30,7 @@ class DomainCounts:
 
 @dataclasses.dataclass
 class EntryCounts:
-    """The tasks that begin at one address: how many committed, their instructions, and those that were taken back."""
+    """The tasks that begin at one address: how many committed, their instructions, and those that were aborted."""
     commits: int = 0
     useful: int = 0
     taken_back: int = 0
@@ -64,7 +64,7 @@ class TaskFigures:
         self.stalls[STALLS[word]] += 1
 
     def note_taken(self, task: Task, work: int) -> None:
-        """Notes a task that was taken back, with the work that was wasted."""
+        """Notes a task that was aborted, with the work that was wasted."""
         counts = self.entries[task.entry]
         counts.taken_back += 1
         counts.wasted += work

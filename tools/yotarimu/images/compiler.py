@@ -1,6 +1,7 @@
 """Sources in C, C++ and LLVM's language: which compiler makes objects of them, by which options, and its complaints."""
 from __future__ import annotations
 
+import dataclasses
 import pathlib
 import re
 import shutil
@@ -33,20 +34,22 @@ OF_LANGUAGE = {
 # What LLVM has made of a source before is compiled by clang alone.
 LLVM = ".ll"
 OF_LLVM = ("--target=riscv32", "-fno-pic", "-Wno-override-module")
-# A macro's fault is told where it is used. A task's parameter may have no name.
+# A macro's fault is reported where it is used. A task's parameter may have no name.
 OWN_OPTIONS = {GCC: ("-mstrict-align", "-ftrack-macro-expansion=0"),
                CLANG: ("--target=riscv32", "-Wno-unknown-warning-option", "-Wno-c2x-extensions")}
 # A loop that copies stays a loop, since memcpy would call itself.
 AS_WRITTEN = {GCC: ("-fno-builtin", "-fno-tree-loop-distribute-patterns"), CLANG: ("-fno-builtin",)}
+# Where the first line of `--version` has it: gcc's ends with it, clang's may have the package's after it.
+VERSION = r"(?:version |\s)(\d+\.\d+[.\d]*)"
 # What is refused where a number would lose bits as an argument of a child.
 CUT = r"conversion from .* change|implicit conversion (loses|turns)"
-# A name that is used before a source tells what it is.
+# A name that is used before a source declares it.
 UNDECLARED = r"undeclared identifier '\w+'|'\w+' (undeclared|was not declared)"
 # What a complaint usually comes from.
 ADVICE = (
     (r"makes integer from pointer|incompatible pointer to integer", "a pointer is given as at(pointer)"),
     (r"implicit(ly)? declar.*printf", "emit_text and emit_number write"),
-    (r"no such file.*|'std\w+\.h' file not found", "there is no C library"),
+    (r"no such file.*|'std\w+\.h' file not found", "tasks have no C library"),
     (r"return type defaults|type specifier missing", "TASK needs the line #include \"task.h\""),
     (r"called object .* is not a function", "a task is enqueued"),
     (r"task_code\[\d+\]|redefinition of '\w+_body'", "one TASK defines a task"),
@@ -54,49 +57,67 @@ ADVICE = (
 )
 
 
-def need_compiler(compiler: str) -> None:
-    """Refuses a compiler that isn't there."""
-    if not shutil.which(compiler):
-        raise Refusal(f"{compiler} isn't in the path; it compiles C (Debian's package {PACKAGES[compiler]} has it).")
+@dataclasses.dataclass(frozen=True)
+class Compilers:
+    """Which compiler makes objects of C, gcc or clang, where each program is, and how code is made."""
+    of_c: str = GCC
+    gcc: str = GCC
+    clang: str = CLANG
+    level: str = FAST
+
+    def kind_of(self, path: pathlib.Path) -> str:
+        """Which of the two compiles a file."""
+        return CLANG if path.suffix == LLVM else self.of_c
+
+    def program(self, kind: str) -> str:
+        """The program of one of the two."""
+        return self.clang if kind == CLANG else self.gcc
 
 
-def compiler_of(compiler: str, path: pathlib.Path) -> str:
-    """The compiler of a file, where sources in C are for the one that is named."""
-    return CLANG if path.suffix == LLVM else compiler
+def need_compiler(program: str, kind: str) -> None:
+    """Refuses a missing compiler, and a gcc that compiles for other machines."""
+    if not shutil.which(program):
+        raise Refusal(f"{program} isn't in the path; it compiles C (Debian's package {PACKAGES[kind]} has it).")
+    if kind == GCC and program != GCC and not (machine := said_by(program, "-dumpmachine")).startswith("riscv"):
+        raise Refusal(f"{program} compiles for `{machine.strip()}`; --gcc takes a gcc for RISC-V, such as {GCC}.")
 
 
-def compiler_words(compiler: str, path: pathlib.Path, target: str, is_library: bool = False,
-                   level: str = FAST) -> list[str]:
+def said_by(program: str, *words: str) -> str:
+    """What a compiler writes to standard output."""
+    try:
+        return subprocess.run([program, *words], capture_output=True, text=True, errors="replace",
+                              stdin=subprocess.DEVNULL).stdout
+    except OSError:
+        return ""
+
+
+def compiler_words(how: Compilers, path: pathlib.Path, target: str, is_library: bool = False) -> list[str]:
     """The words that compile a file."""
-    compiler = compiler_of(compiler, path)
-    need_compiler(compiler)
+    kind = how.kind_of(path)
+    program = how.program(kind)
+    need_compiler(program, kind)
     if path.suffix == LLVM:
-        return [compiler, *MACHINE, level, *OF_LLVM, "-c", "-o", target, str(path)]
-    own = OF_LANGUAGE[path.suffix] + OWN_OPTIONS[compiler] + (AS_WRITTEN[compiler] if is_library else ())
-    return [compiler, *MACHINE, level, *OPTIONS, *own, "-I", str(LIBRARY), "-I", str(path.parent), "-c", "-o", target,
-            str(path)]
+        return [program, *MACHINE, how.level, *OF_LLVM, "-c", "-o", target, str(path)]
+    own = OF_LANGUAGE[path.suffix] + OWN_OPTIONS[kind] + (AS_WRITTEN[kind] if is_library else ())
+    return [program, *MACHINE, how.level, *OPTIONS, *own, "-I", str(LIBRARY), "-I", str(path.parent), "-c", "-o",
+            target, str(path)]
 
 
-def compiler_told(compiler: str) -> str:
-    """The compiler with its version, as in `gcc 12.2.0`."""
-    said = subprocess.run([compiler, "--version"], capture_output=True, text=True, stdin=subprocess.DEVNULL).stdout
-    found = re.search(r"\d+\.\d+[.\d]*(?=\s*$)", said.partition("\n")[0])
-    return f"{compiler.rpartition('-')[2]} {found[0] if found else ''}".strip()
+def told_by(program: str, kind: str) -> str:
+    """A compiler with its version, as in `gcc 12.2.0`."""
+    found = re.search(VERSION, said_by(program, "--version").partition("\n")[0])
+    return f"{kind.rpartition('-')[2]} {found[1] if found else ''}".strip()
 
 
-def arithmetic() -> list[str]:
-    """The library of what RV32I has no instruction for: products, quotients, numbers of 64 bits and with a point."""
-    if not shutil.which(GCC):
-        return []
-    done = subprocess.run([GCC, *MACHINE, "-print-libgcc-file-name"], capture_output=True, text=True,
-                          stdin=subprocess.DEVNULL)
-    path = pathlib.Path(done.stdout.strip())
+def arithmetic(how: Compilers) -> list[str]:
+    """The library of what RV32I has no instruction for: products, quotients, 64-bit and floating-point numbers."""
+    path = pathlib.Path(said_by(how.gcc, *MACHINE, "-print-libgcc-file-name").strip())
     return [str(path)] if "rv32i" in path.parts and path.is_file() else []
 
 
 def complaints(said: str, tasks: Collection[str] = ()) -> Optional[str]:
-    """What a compiler complains of, a sentence for each line of a source; None where it complains otherwise. Of names
-    that are tasks it is told how a source says that they are."""
+    """What a compiler complains of, a sentence for each line of a source; None if it complains otherwise. For names
+    that are tasks the sentence says how a source declares them."""
     sentences: dict[str, str] = {}
     for found in re.finditer(r"(?m)^(.+?:\d+):\d+: (fatal error|error|warning): (.*)$", said):
         place = found[1] if not found[1].startswith(HEADER) else used_at(said, found) or found[1]
@@ -107,7 +128,7 @@ def complaints(said: str, tasks: Collection[str] = ()) -> Optional[str]:
 
 
 def used_at(said: str, found: re.Match[str]) -> Optional[str]:
-    """Where a source uses what the header of C++ finds wrong: gcc tells that above, and clang below."""
+    """Where a source uses what the header of C++ finds wrong: gcc prints that above, and clang below."""
     above = re.findall(r"(?m)^(.+?:\d+):\d+:\s+required from here$", said[:found.start()])
     below = re.findall(r"(?m)^(.+?:\d+):\d+: note: in instantiation of .* requested here$", said[found.end():])
     places: list[str] = [place for place in (*above[-1:], *below) if not place.startswith(HEADER)]
@@ -123,10 +144,5 @@ def complaint(text: str, kind: str, tasks: Collection[str]) -> str:
         return f"a child is given numbers of 32 bits ({text})."
     advice = next((sentence for pattern, sentence in ADVICE if re.search(pattern, text, re.IGNORECASE)), None)
     if (found := re.search(UNDECLARED, text)) and (name := found[0].split("'")[1]) in tasks:
-        advice = f"`extern task_entry {name};` above this line tells of a task that is defined below or elsewhere"
+        advice = f"`extern task_entry {name};` above this line declares a task that is defined below or elsewhere"
     return text.rstrip("?") + (f" ({advice})" if advice else " (a warning)" if kind == "warning" else "") + "."
-
-
-def where_from(name: str) -> str:
-    """Where a name comes from that compilers use for arithmetic, for a sentence on its lack."""
-    return f" (it is libgcc's, of Debian's package {PACKAGES[GCC]})" if name.startswith("__") else ""

@@ -40,7 +40,7 @@ class FilledData:
             line.refuse_form()
         label = label_of(line, assembled, line.words[1], (".data", ".bss"), "data")
         if line.source.is_c and label.is_local:
-            line.refuse(f"`{label.name}` is static, so the compiler may take it as it stands in the source; a variable "
+            line.refuse(f"`{label.name}` is static, so the compiler may use its value in the source; a variable "
                         "that a file fills isn't static")
         content, start = content_of(line), label.address - DATA
         room = label.size or assembled.size - start
@@ -64,11 +64,11 @@ def content_of(line: Line) -> bytes:
     path = line.file(line.words[2])
     if path.suffix != NUMBERS:
         if len(line.words) == 4:
-            line.refuse(f"`{line.words[3]}` is the width of numbers, and those stand in a file *{NUMBERS}")
+            line.refuse(f"`{line.words[3]}` is the width of numbers, and those are in a file *{NUMBERS}")
         return read_bytes(path)
     width = WIDTHS.get(line.words[3] if len(line.words) == 4 else "words")
     if width is None:
-        line.refuse_form(f"`{line.words[3]}` is no width:")
+        line.refuse_form(f"`{line.words[3]}` isn't a width:")
     return numbers_of(path, width)
 
 
@@ -93,6 +93,6 @@ def odd_numbers(path: pathlib.Path, text: str, width: int) -> list[int]:
             sign, digits = (-1, word[1:]) if word[0] == "-" else (1, word)
             value = number_in(digits, 0, most if sign > 0 else -least)
             if value is None:
-                raise Refusal(f"{path}:{place}: `{word}` is no number from {least} to {most}, in decimal or after 0x.")
+                raise Refusal(f"{path}:{place}: `{word}` isn't a number from {least} to {most} (0x is hexadecimal).")
             numbers.append(sign * value & most)
     return numbers

@@ -56,13 +56,14 @@ def lines_known(sources: Sequence[Source]) -> list[Line]:
 
 def refuse_sizes(place: str, image: Image, source: Source) -> None:
     """Refuses what no image may have so much of, and an image without a task."""
-    for what, number, most in (("words of text", len(image.text) // 4, TEXT_WORDS),
-                               ("bytes of data", image.size, DATA_BYTES),
-                               ("initial tasks", len(image.tasks), INITIAL_TASKS)):
+    for what, number, most, advice in (
+            ("words of text", len(image.text) // 4, TEXT_WORDS, "tables that aren't const are in the data"),
+            ("bytes of data", image.size, DATA_BYTES, "keep a smaller part of the input there"),
+            ("initial tasks", len(image.tasks), INITIAL_TASKS, "tasks may enqueue the rest")):
         if number > most:
-            raise Refusal(f"{place}: {number} {what} are more than an image may have, which is {most}.")
+            raise Refusal(f"{place}: {number} {what} are more than an image may have, which is {most}; {advice}.")
     if not image.tasks:
-        raise Refusal(f"{place}: no line tells an initial task: {form('task', source)}.")
+        raise Refusal(f"{place}: no line gives an initial task: {form('task', source)}.")
 
 
 def is_ordered(line: Line) -> bool:
@@ -97,13 +98,13 @@ def window_of(line: Line, assembled: Assembly, size: int) -> tuple[int, int]:
     label = label_of(line, assembled, line.words[1], (".data", ".bss"), "data")
     offset = label.address - DATA
     if offset % 4:
-        line.refuse(f"the label `{label.name}` doesn't stand at a multiple of 4: "
+        line.refuse(f"the label `{label.name}` isn't at a multiple of 4: "
                     + ("__attribute__((aligned(4))) helps" if line.source.is_c else "`.balign 4` above it helps"))
-    # Compilers tell a label's size, and sources in assembly may.
+    # Compilers note a label's size, and sources in assembly may.
     count = -(-label.size // 4) if told is None else told
     if told is None and not 0 < count <= WINDOW_WORDS:
         why = f"`{label.name}` has {label.size:,} bytes, and a window up to {WINDOW_WORDS:,} words" if label.size else (
-            f"the source doesn't tell how large `{label.name}` is")
+            f"the source doesn't say how large `{label.name}` is")
         line.refuse_form(f"{why}, so a number of words is wanted:")
     if offset + 4 * count > size:
         line.refuse(f"the window ends after the data, which has {size} bytes")

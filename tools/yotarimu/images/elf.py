@@ -5,6 +5,9 @@ import dataclasses
 import struct
 from collections.abc import Iterator, Sequence
 
+from yotarimu.common.files import FilePath
+from yotarimu.common.outcome import Refusal
+
 BITS = 1
 NO_BITS = 8
 SYMBOLS = 2
@@ -15,9 +18,15 @@ Row = tuple[int, ...]
 # Files of 32 bits, little-endian; objects that are to be linked; the machine RISC-V.
 MAGIC, TO_LINK, RISC_V = b"\x7fELF\x01\x01", 1, 243
 HEADER_BYTES = 52
+# No name is longer.
+MOST_NAME = 4_096
 LOCAL = 0
 # Kinds of symbols: the last two name no place of the program.
 FUNCTION, SECTION_NAME, FILE_NAME = 2, 3, 4
+
+
+class Damage(Exception):
+    """Bytes aren't a whole ELF file. Its text says why, without the file's name."""
 
 
 @dataclasses.dataclass
@@ -33,7 +42,7 @@ class Section:
 
 @dataclasses.dataclass
 class Label:
-    """A name of a place: its address, and what stands there."""
+    """A name of a place: its address, and what is at it."""
     name: str
     address: int
     section: str
@@ -43,15 +52,49 @@ class Label:
     is_local: bool = False
 
 
-def read_elf(data: bytes) -> tuple[list[Section], list[Label]]:
-    """The sections and the labels of an ELF file's bytes."""
+def read_elf(data: bytes, name: FilePath = "the ELF file") -> tuple[list[Section], list[Label]]:
+    """The sections and the labels of an ELF file's bytes; refuses one that names a place outside of itself."""
+    try:
+        rows, names_at = section_rows(data)
+        names = content(data, row_at(rows, names_at))
+        sections = [Section(text_at(names, row[0]), row[1], bool(row[2] & IS_ALLOCATED), row[3], row[5],
+                            content(data, row)) for row in rows]
+        return sections, [label for row in rows if row[1] == SYMBOLS for label in labels(data, rows, row, sections)]
+    except Damage as damage:
+        raise Refusal(f"{name}: this file is damaged: {damage}.") from None
+
+
+def section_rows(data: bytes) -> tuple[list[Row], int]:
+    """The section headers, and the place of the one whose section has their names."""
+    if len(data) < HEADER_BYTES:
+        raise Damage("it is shorter than its header")
     table, = struct.unpack_from("<I", data, 32)
     step, count, names_at = struct.unpack_from("<3H", data, 46)
-    rows = [SECTION.unpack_from(data, table + step * place) for place in range(count)]
-    names = content(data, rows[names_at])
-    sections = [Section(text_at(names, row[0]), row[1], bool(row[2] & IS_ALLOCATED), row[3], row[5], content(data, row))
-                for row in rows]
-    return sections, [label for row in rows if row[1] == SYMBOLS for label in labels(data, rows, row, sections)]
+    if step != SECTION.size:
+        raise Damage(f"a section header has {SECTION.size} bytes, and not {step}")
+    rows = list(SECTION.iter_unpack(piece(data, table, step * count)))
+    if sum(row[5] for row in rows if row[1] != NO_BITS) > len(data):
+        raise Damage("its sections have more bytes than the whole")
+    return rows, names_at
+
+
+def row_at(rows: Sequence[Row], place: int) -> Row:
+    """The section header at a place."""
+    if place >= len(rows):
+        raise Damage(f"it names section {place}, and has {len(rows)}")
+    return rows[place]
+
+
+def piece(data: bytes, start: int, size: int) -> bytes:
+    """Some bytes from a place on."""
+    if start + size > len(data):
+        raise Damage(f"it ends at byte {len(data):,}, and names bytes up to {start + size:,}")
+    return data[start:start + size]
+
+
+def rows_of(data: bytes) -> list[Row]:
+    """The table of a file's sections, a row of numbers for each."""
+    return section_rows(data)[0]
 
 
 def is_object(data: bytes) -> bool:
@@ -67,24 +110,29 @@ def flags(data: bytes) -> int:
 
 
 def attributes(data: bytes) -> bytes:
-    """The attributes of the file, which tell its architecture; empty where it has none."""
+    """The attributes of the file, which have its architecture; empty without any."""
     return next((it.data for it in read_elf(data)[0] if it.name == ".riscv.attributes"), b"")
 
 
 def content(data: bytes, row: Row) -> bytes:
     """The bytes of a section."""
-    return b"" if row[1] == NO_BITS else data[row[4]:row[4] + row[5]]
+    return b"" if row[1] == NO_BITS else piece(data, row[4], row[5])
 
 
 def text_at(names: bytes, place: int) -> str:
     """The text from a place up to its zero."""
-    return names[place:names.index(b"\0", place)].decode("utf-8", "replace")
+    end = names.find(b"\0", place, place + MOST_NAME)
+    if end < 0:
+        raise Damage(f"the name at byte {place:,} of its names has no end")
+    return names[place:end].decode("utf-8", "replace")
 
 
 def labels(data: bytes, rows: Sequence[Row], row: Row, sections: Sequence[Section]) -> Iterator[Label]:
     """The labels of a section that has them."""
-    names = content(data, rows[row[6]])
-    for name_at, value, size, info, _other, section in SYMBOL.iter_unpack(content(data, row)):
+    names, symbols = content(data, row_at(rows, row[6])), content(data, row)
+    if len(symbols) % SYMBOL.size:
+        raise Damage(f"its symbols have {len(symbols):,} bytes, and each has {SYMBOL.size}")
+    for name_at, value, size, info, _other, section in SYMBOL.iter_unpack(symbols):
         name = text_at(names, name_at)
         is_place = info & 15 not in (SECTION_NAME, FILE_NAME) and 0 < section < len(sections)
         # The assembler's own local labels, and its marks of what is code, begin so.

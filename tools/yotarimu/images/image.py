@@ -75,10 +75,10 @@ def image_bytes(image: Image) -> bytes:
 def read_image(data: bytes, name: FilePath) -> Image:
     """The image at the front of bytes, which came from the file `name`."""
     if len(data) < HEADER.size or data[:4] != b"FRAC":
-        raise Refusal(f"{name}: this is no image: it doesn't begin with the letters FRAC and a header of 32 bytes.")
+        raise Refusal(f"{name}: this isn't an image: it doesn't begin with the letters FRAC and a header of 32 bytes.")
     _, version, root, words, initial, size, window, window_words, count = HEADER.unpack_from(data)
     if version not in VERSIONS or root > 1:
-        raise Refusal(f"{name}: this is no image of version 1 or 2 with an ordered or unordered root domain.")
+        raise Refusal(f"{name}: this isn't an image of version 1 or 2 with an ordered or unordered root domain.")
     text_end = HEADER.size + 4 * words
     tasks_at = text_end + initial
     if words > TEXT_WORDS or initial > size or size > DATA_BYTES or len(data) < tasks_at + TASK.size * count:

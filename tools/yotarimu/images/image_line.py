@@ -6,11 +6,14 @@ import pathlib
 import re
 from typing import Iterator, NoReturn, Optional, Sequence
 
+from yotarimu.common.files import is_within
 from yotarimu.common.outcome import Refusal
 from yotarimu.common.words import number_in
 from yotarimu.images.elf import Label
 from yotarimu.images.source import Assembly, Source
 
+# So many labels are named where another one is missing.
+MOST_TOLD = 6
 FORMS = {
     "root": ("root ordered", "root unordered"),
     "data": ("data BYTES", "data LABEL FILE [bytes|halves|words]"),
@@ -40,7 +43,7 @@ class Line:
         raise Refusal(f"{self.place}: {why}.")
 
     def refuse_form(self, why: str = "this isn't", word: Optional[str] = None) -> NoReturn:
-        """Refuses the line as misshapen, and tells how lines on that word are."""
+        """Refuses the line as misshapen, with the form of lines that begin with that word."""
         self.refuse(f"{why} {form(word or self.words[0], self.source)}")
 
     def number_of(self, word: str, what: str, most: int) -> int:
@@ -51,10 +54,14 @@ class Line:
         return number
 
     def file(self, word: str) -> pathlib.Path:
-        """The path of a file that the line names, which is sought beside the source."""
-        path = self.source.path.parent / word
+        """The path of a file that the line names, relative to the source's folder, in which it is unless the source may
+        name others."""
+        folder = self.source.path.parent
+        path = folder / word
         if not path.is_file():
-            self.refuse(f"there is no file {path}")
+            self.refuse(f"no file {path}")
+        if not self.source.is_outside_allowed and not is_within(path, folder):
+            self.refuse(f"{path} is outside the source's folder; ./fractal build --outside allows that")
         return path
 
 
@@ -74,14 +81,22 @@ def description(sources: Sequence[Source]) -> Iterator[Line]:
                 Line(source, number, []).refuse_form("a colon is missing after `image`:", found["word"])
 
 
+def labels_told(assembled: Assembly, section_names: Sequence[str], what: str) -> str:
+    """Some of the labels that sections have, behind a sentence; nothing where they have none."""
+    there = sorted({label.name for label in assembled.labels if label.section in section_names})
+    more = ", .." if len(there) > MOST_TOLD else ""
+    return f"; the {what} has {', '.join(there[:MOST_TOLD])}{more}" if there else ""
+
+
 def label_of(line: Line, assembled: Assembly, name: str, section_names: Sequence[str], what: str) -> Label:
-    """The label of a name, which is to stand in one of these sections."""
+    """The label of a name, which has to be in one of these sections."""
     found = assembled.labels_named(name)
     if not found:
-        line.refuse(f"there is no label `{name}`" + (
-            "; a variable stands outside of functions, and is used" if line.source.is_c and what == "data" else ""))
+        line.refuse(f"no label `{name}`" + (
+            "; a variable stands outside of functions, and is used" if line.source.is_c and what == "data" else
+            labels_told(assembled, section_names, what)))
     if len({label.address for label in found}) > 1:
         line.refuse(f"more than one source has a label `{name}`")
     if found[0].section not in section_names:
-        line.refuse(f"the label `{name}` doesn't stand in the {what}")
+        line.refuse(f"the label `{name}` isn't in the {what}")
     return found[0]

@@ -8,9 +8,11 @@ from typing import Sequence
 from yotarimu.common.files import read_bytes, read_written
 from yotarimu.images.contents import NUMBERS
 from yotarimu.images.elf import Label
+from yotarimu.images.entries import refusal_of
 from yotarimu.images.image import TASK, InitialTask
 from yotarimu.images.image_line import Line, label_of
-from yotarimu.images.source import PLACES, Assembly
+from yotarimu.images.objects import PLACES
+from yotarimu.images.source import Assembly
 
 WORD = 0xFFFFFFFF
 INSTRUCTION_BYTES = 4
@@ -45,12 +47,12 @@ def initial_tasks(line: Line, assembled: Assembly) -> list[InitialTask]:
         return tasks_told(line, path, assembled)
     content = read_bytes(path)
     if len(content) % TASK.size:
-        line.refuse(f"{path} has {len(content):,} bytes, which is no multiple of the {TASK.size} of a task")
+        line.refuse(f"{path} has {len(content):,} bytes, which isn't a multiple of the {TASK.size} of a task")
     return [InitialTask(row[0], row[1], tuple(row[2:])) for row in TASK.iter_unpack(content)]
 
 
 def tasks_told(line: Line, path: pathlib.Path, assembled: Assembly) -> list[InitialTask]:
-    """The tasks that the rows of a text tell; empty rows tell none."""
+    """The tasks in the rows of a text; empty rows have none."""
     entries: dict[str, Label] = {}
     tasks = []
     for number, text in enumerate(read_written(path).split("\n"), 1):
@@ -69,23 +71,16 @@ def tasks_told(line: Line, path: pathlib.Path, assembled: Assembly) -> list[Init
 def entry_of(line: Line, assembled: Assembly, name: str) -> Label:
     """The label of a task's entry."""
     entry = label_of(line, assembled, name, (".text",), "text")
-    if is_plain_function(assembled, entry):
-        line.refuse(f"`{entry.name}` is a function and no task; TASK({entry.name}, ..) makes one")
+    if why := refusal_of(assembled, entry):
+        line.refuse(why)
     if entry.address % INSTRUCTION_BYTES:
-        line.refuse(f"the label `{entry.name}` stands at {entry.address:08x}, and a task begins at a multiple of 4: "
+        line.refuse(f"the label `{entry.name}` is at {entry.address:08x}, and a task begins at a multiple of 4: "
                     "`.balign 4` above it helps")
     return entry
 
 
-def is_plain_function(assembled: Assembly, label: Label) -> bool:
-    """Whether a label is a function of C: it would return to nowhere."""
-    found = assembled.instructions.get(label.address)
-    is_of_c = found is not None and found.source.endswith((".c", ".cpp"))
-    return label.is_function and is_of_c and not assembled.is_entry_of_c(label.address)
-
-
 def task_of(line: Line, assembled: Assembly, entry: Label, timestamp: str, arguments: Sequence[str]) -> InitialTask:
-    """The task of an entry; arguments that aren't told are 0."""
+    """The task of an entry; missing arguments are 0."""
     numbers = [argument(line, assembled, word) for word in arguments]
     first, second, third = (numbers + [0, 0, 0])[:3]
     return InitialTask(entry.address, line.number_of(timestamp, "the timestamp", WORD), (first, second, third))
@@ -96,5 +91,5 @@ def argument(line: Line, assembled: Assembly, word: str) -> int:
     if not word[:1].isalpha() and word[:1] != "_":
         return line.number_of(word, "an argument", WORD)
     if not assembled.labels_named(word):
-        line.refuse(f"an argument is a number or a label, and there is no label `{word}`")
+        line.refuse(f"an argument is a number or a label, and no label `{word}`")
     return label_of(line, assembled, word, tuple(PLACES), "image").address

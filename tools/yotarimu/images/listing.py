@@ -1,4 +1,4 @@
-"""Listings: what stands at which address of an image, written beside it and read back by ./fractal explain."""
+"""Listings: what is at which address of an image, written beside it and read back by ./fractal explain."""
 from __future__ import annotations
 
 import bisect
@@ -14,6 +14,7 @@ from yotarimu.common.text import printable
 from yotarimu.images.image import DATA, STACK, TEXT, Image
 from yotarimu.images.source import Assembly, Instruction, Source
 
+MOST_ARGUMENTS = 3
 # How many bytes of data are shown at most.
 MOST_BYTES = 65_536
 
@@ -45,6 +46,20 @@ class Listing:
         while arguments and arguments[-1] == 0:
             arguments.pop()
         return " ".join([self.address_text(entry), *map(self.argument_word, arguments)])
+
+    def whole_words(self, entry: int, arguments: Sequence[int]) -> str:
+        """A task's label and all its arguments, of a task in C as many as it has parameters."""
+        count = self.parameters(entry)
+        while count < len(arguments) and any(arguments[count:]):
+            count += 1
+        return " ".join([self.address_text(entry), *map(self.argument_word, arguments[:count])])
+
+    def parameters(self, entry: int) -> int:
+        """How many arguments the line of a TASK takes; 3 of an entry with no such line."""
+        found = self.instructions.get(entry)
+        text = self.source_lines.get((found.source, found.line), "") if found else ""
+        told = re.search(r"\bTASK\s*\(\s*\w+\s*((?:,[^,()]*)*)\)", text)
+        return min(MOST_ARGUMENTS, told[1].count(",")) if told else MOST_ARGUMENTS
 
     def argument_word(self, argument: int) -> str:
         """An argument as a number, or as a label where it is the address of data that has one."""
@@ -96,7 +111,7 @@ def listing_text(sources: Sequence[Source], assembled: Assembly, image: Image) -
 
 
 def label_lines(assembled: Assembly, address: int) -> list[str]:
-    """The lines that tell the labels of an address."""
+    """The lines with the labels of an address."""
     return [f"{address:08x} <{label.name}>:" for label in assembled.labels if label.address == address]
 
 
@@ -148,19 +163,20 @@ def read_listing(text: str, name: FilePath) -> Listing:
     """A listing from its text."""
     listing = Listing({}, {}, {}, {})
     for line in text.splitlines():
-        if label := re.fullmatch(r"([0-9a-f]{8}) <(.+)>:", line):
+        if label := re.fullmatch(r"([0-9a-fA-F]{8})\s+<(.+)>:\s*", line):
             listing.labels.setdefault(int(label[1], 16), label[2])
-        elif found := re.match(r"([0-9a-f]{8})  ([0-9a-f]{8})(?:  (.*)|$)", line):
+        elif found := re.match(r"([0-9a-fA-F]{8})\s+([0-9a-fA-F]{8})(?:\s+(.*)|$)", line):
             read_instruction(listing, int(found[1], 16), int(found[2], 16), found[3] or "")
-    if not listing.words:
-        raise Refusal(f"{name}: this is no listing that ./fractal build wrote.")
+    if not listing.words and not listing.labels:
+        raise Refusal(f"{name}: this isn't a listing: no line has a label or an instruction, as ./fractal build writes "
+                      "them and docs/guest/COMPILERS.md describes.")
     return listing
 
 
 def read_instruction(listing: Listing, address: int, word: int, rest: str) -> None:
-    """Notes what a line of a listing tells of an instruction."""
+    """Notes the instruction in a line of a listing."""
     words, *place = rest.split(" | ", 2)
-    # A line of C has many instructions; its text stands beside the first of them.
+    # A line of C has many instructions; its text is beside the first of them.
     found = re.fullmatch("(.+):([0-9]{1,9})", place[0].removesuffix(" |")) if place else None
     source, line = (found[1], int(found[2])) if found else ("", 0)
     listing.words[address] = word

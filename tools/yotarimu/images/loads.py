@@ -8,8 +8,8 @@ from yotarimu.images.image import DATA, TEXT, Image, InitialTask
 # The greatest size of each kind.
 SIZES = {"walk": 100_000, "nest": 10_000}
 MOST_SEED = 0xFFFFFFFF
-# The walk: its argument is a node, whose three edges stand in the data. Where the node's distance is still 0, it is set
-# to the timestamp plus 1, and each edge's node is enqueued at the next timestamp, with its number as the hint.
+# The walk: its argument is a node, whose three edges are in the data. If the node's distance is still 0, it is set to
+# the timestamp plus 1, and each edge's node is enqueued at the next timestamp, with its number as the hint.
 WALK = """
     00251293 00558333 00032383 04039663 00168413 00832023 00351393 007282b3
     100003b7 007282b3 00300493 00058693 00040593 00100893 00010537 0002a603

@@ -1,6 +1,6 @@
 """Runs the tasks of a report again, in its order, to know what the report doesn't tell: where each task enters.
 
-This is no second judge: `./fractal check` says whether a report is that of a run. Here is the plain reading of RV32I
+This isn't a second judge: `./fractal check` says whether a report is that of a run. Here is the plain reading of RV32I
 (RISC-V Unprivileged ISA 20191213, chapter 2), and of the six calls and the traps of docs/guest/TASKS.md.
 """
 from __future__ import annotations
@@ -113,7 +113,7 @@ class Machine:
         return task.domain is domain and task.timestamp == domain.pending[0]
 
     def task_of(self, entry: Entry) -> Optional[Task]:
-        """The task that an entry tells, which may take the next turn; None where there is no such task."""
+        """The task that an entry tells, which may take the next turn; None where no such task."""
         task = self.tasks.get(entry.name)
         if task is None or task.turn or not self.is_next(task) or not task.is_told_by(entry):
             return None
@@ -307,13 +307,27 @@ def operation_of(word: int) -> Operation:
     """What an instruction does. Where it traps it has changed nothing."""
     if word in ALONE:
         return ALONE[word]
+    if not is_instruction(word):
+        return illegal
     instruction = decode(word)
-    return OPERATIONS[instruction.opcode](instruction) if instruction.opcode in OPERATIONS else illegal
+    return OPERATIONS[instruction.opcode](instruction)
+
+
+def is_instruction(word: int) -> bool:
+    """Whether a word is an instruction of RV32I: each of its fixed fields has a value that the encoding allows."""
+    opcode, kind, upper_bits = word & 0x7F, word >> 12 & 7, word >> 25
+    if opcode == SYSTEM:
+        return word in ALONE
+    if opcode not in KINDS or kind not in KINDS[opcode]:
+        return False
+    if opcode == IMMEDIATE and kind in SHIFTS or opcode == REGISTER:
+        return upper_bits == 0 or upper_bits == OTHER and (kind == 5 or opcode == REGISTER and kind == 0)
+    return True
 
 
 def is_straight(word: int) -> bool:
     """Whether an instruction changes a register at most, and the next one comes then."""
-    return word & 0x7F in STRAIGHT
+    return word & 0x7F in STRAIGHT and is_instruction(word)
 
 
 def nothing(run: Run) -> None:
@@ -322,7 +336,7 @@ def nothing(run: Run) -> None:
 
 
 def illegal(_run: Run) -> None:
-    """Traps, as a word does that is no instruction."""
+    """Traps, as a word does that isn't an instruction."""
     raise TaskTrap(ILLEGAL)
 
 
@@ -436,6 +450,12 @@ def jump(instruction: Instruction) -> Operation:
     return go
 
 
+# The values of funct3 by opcode. Shifts by an immediate and register instructions have funct7 too, which is 0, or OTHER
+# for SUB, SRA and SRAI.
+ALL, SHIFTS, OTHER = range(8), (1, 5), 0x20
+KINDS: dict[int, Sequence[int]] = {
+    LUI: ALL, AUIPC: ALL, JAL: ALL, JALR: (0,), BRANCH: (0, 1, 4, 5, 6, 7), LOAD: (0, 1, 2, 4, 5), STORE: (0, 1, 2),
+    IMMEDIATE: ALL, REGISTER: ALL, FENCE: (0,)}
 STRAIGHT = (FENCE, IMMEDIATE, AUIPC, REGISTER, LUI)
 ALONE: dict[int, Operation] = {ECALL: call, EBREAK: stop}
 OPERATIONS: dict[int, Callable[[Instruction], Operation]] = {

@@ -6,19 +6,19 @@ import itertools
 import os
 import pathlib
 import re
-import resource
 import shutil
-import signal
-import subprocess
 import tempfile
 from collections.abc import Mapping, Sequence
 from typing import NoReturn, Optional
 
-from yotarimu.common.files import read_bytes, read_written
+from yotarimu.common.files import need_plain, read_bytes, read_written
 from yotarimu.common.outcome import Refusal, note
-from yotarimu.images import compiler, elf, names
+from yotarimu.images import compiler, complaints, elf, llvm, names, objects
+from yotarimu.images.bounded import MOST_SECONDS, run_bounded
+from yotarimu.images.compiler import Compilers
 from yotarimu.images.elf import Label
 from yotarimu.images.image import DATA, DATA_BYTES, TEXT, TEXT_WORDS
+from yotarimu.images.objects import OVER_SECTION, PLACES, is_part
 
 PREFIXES = ("riscv64-linux-gnu-", "riscv64-unknown-elf-", "riscv32-unknown-elf-")
 TOOLS = ("as", "ar", "ld", "objdump")
@@ -38,27 +38,6 @@ LANGUAGES = {".s": Language("#", False), ".c": Language("//", True), ".cpp": Lan
              ".ll": Language(";", True), ".o": Language("#", True)}
 SUFFIXES = tuple(LANGUAGES)
 ASSEMBLY, OBJECT = ".s", ".o"
-# Which sections of the sources go where. The first two are the image's text, the third is its initial data, and the
-# last is data that begins as zeros.
-PLACES = {
-    ".text": (".text",),
-    ".rodata": (".rodata", ".srodata"),
-    ".data": (".data", ".sdata"),
-    ".bss": (".bss", ".sbss"),
-}
-# What assemblers and compilers write beside the program.
-NOT_FOR_MEMORY = (".debug", ".comment", ".note")
-# How a stack is unwound, which nobody does; the linker drops it.
-UNWINDING = ".eh_frame"
-# Sections that C may lead to and that have no place, how a source asks for them, and what does the same.
-FROM_C = (
-    ((".tbss", ".tdata"), r"\b(__thread|_Thread_local|thread_local)\b",
-     "a thread-local variable has no place in an image; a task's own variables stand in its function"),
-    ((".init_array", ".ctors", ".fini_array", ".dtors"), r"\b(con|de)structor\b",
-     "nothing runs before or after the tasks; an initial task with the least timestamp comes first"),
-)
-# No file that a tool writes is to be larger: one for an image isn't.
-MOST_OBJECT = 64 * 2 ** 20
 # The instructions of RV32I, as the disassembler names them; a FENCE of any kind is one.
 INSTRUCTIONS = frozenset("""
     lui auipc jal jalr beq bne blt bge bltu bgeu lb lh lw lbu lhu sb sh sw addi slti sltiu xori ori andi slli srli srai
@@ -74,13 +53,23 @@ RV32I = r"rv32i([0-9]+p[0-9]+)?(_zicsr2p0)?(_zifencei2p0)?"
 # The end call after the call of a task's body, in C.
 END_CALL = bytes.fromhex("9308000073000000")
 CALL_OPCODE, ENTRY_BYTES = 0xEF, 12
+# Where a debugger shows a task that has ended: at pc 0, which isn't a part of the image, under this name.
+OVER = f"""    .section {OVER_SECTION}, "ax"
+    .type task_is_over, @function
+task_is_over:
+    ecall
+    .size task_is_over, . - task_is_over
+"""
 
 
 @dataclasses.dataclass
 class Source:
-    """A source file: its path as it was given, and its lines."""
+    """A source file: its path as it was given, its lines, and whether they may name files outside of its folder."""
     path: pathlib.Path
     lines: list[str]
+    is_outside_allowed: bool = False
+    # Whether this is an object that a compiler made.
+    is_by_compiler: bool = False
 
     @property
     def name(self) -> str:
@@ -95,7 +84,8 @@ class Source:
     @property
     def is_compiled(self) -> bool:
         """Whether a compiler made, or will make, functions of it."""
-        return LANGUAGES[self.path.suffix].is_compiled or any(re.match(WRITTEN, text) for text in self.lines)
+        return (LANGUAGES[self.path.suffix].is_compiled or self.is_by_compiler
+                or any(re.match(WRITTEN, text) for text in self.lines))
 
     @property
     def mark(self) -> str:
@@ -151,7 +141,7 @@ class Assembly:
         return f"{self.paths.get(found.source, found.source)}:{found.line}" if found and found.line else None
 
 
-def sources_in(folder: pathlib.Path) -> list[Source]:
+def sources_in(folder: pathlib.Path, is_outside_allowed: bool = False) -> list[Source]:
     """The sources of a folder, by name."""
     paths = sorted(path for path in pathlib.Path(folder).iterdir() if path.suffix in SUFFIXES)
     if not paths:
@@ -160,12 +150,15 @@ def sources_in(folder: pathlib.Path) -> list[Source]:
         if one.stem == other.stem and OBJECT in (one.suffix, other.suffix):
             raise Refusal(f"{folder}: {one.name} and {other.name} have one name, so one seems to be made of the other; "
                           "take one of them away.")
-    return [source_at(path) for path in paths]
+    return [source_at(path, is_outside_allowed) for path in paths]
 
 
-def source_at(path: pathlib.Path) -> Source:
-    """The source of a file; an object is no text."""
-    return Source(path, [] if path.suffix == OBJECT else read_written(path).split("\n"))
+def source_at(path: pathlib.Path, is_outside_allowed: bool = False) -> Source:
+    """The source of a file; an object isn't text."""
+    need_plain(path)
+    if path.suffix == OBJECT:
+        return Source(path, [], is_outside_allowed, objects.is_by_compiler(read_bytes(path), path))
+    return Source(path, read_written(path).split("\n"), is_outside_allowed)
 
 
 def tool_prefix() -> str:
@@ -179,36 +172,40 @@ def tool_prefix() -> str:
 
 def run_tool(words: Sequence[str], folder: str, sources: Sequence[Source]) -> str:
     """Runs a tool; what it complains of is told with the sources' paths for the objects' names."""
-    done = subprocess.run(words, cwd=folder, capture_output=True, text=True, errors="replace", stdin=subprocess.DEVNULL,
-                          env={**os.environ, "LC_ALL": "C"}, preexec_fn=bound_files)
-    said = re.sub(r".*: Assembler messages:\n", "", done.stderr.replace(f"{words[0]}: ", "")).strip()
+    done = run_bounded(words, folder)
+    bound = f"takes longer than {MOST_SECONDS} seconds" if done is None else done.met_bound()
+    if done is None or bound is not None:
+        raise Refusal(f"{paths_text(sources)}: {words[0]} {bound}, so it was ended.")
+    said = re.sub(r".*: Assembler messages:\n", "", done.said.replace(f"{words[0]}: ", "")).strip()
     said = said.replace(f"{compiler.LIBRARY}/", "")
     for place, source in enumerate(sources):
         said = said.replace(str(source.path.absolute()), str(source.path))
         said = re.sub(rf"\b{place}\.o\b", lambda _: str(source.path), said)
-    if done.returncode == -signal.SIGXFSZ or "File too large" in said:
+    if done.is_too_large():
         refuse_size(sources)
-    complaints = compiler.complaints(said, names.enqueued_names(sources))
-    if done.returncode == 0:
+    told = compiler.complaints(said, names.enqueued_names(sources))
+    if done.status == 0:
         if said:
-            note(complaints or said)
-        return done.stdout
-    raise Refusal(complaints or names.sentences(said, pathlib.Path(folder), sources) or said
-                  or f"{words[0]} ended with status {done.returncode}.")
+            note(told or said)
+        return done.output
+    if why := next((llvm.why_unread(source, said, compiler.told_by(words[0], compiler.CLANG)) for source in sources
+                    if words[-1] == str(source.path.absolute()) and source.path.suffix == compiler.LLVM), None):
+        raise Refusal(why)
+    raise Refusal(told or names.sentences(said, pathlib.Path(folder), sources)
+                  or complaints.sentences(said, words[0], sources))
 
 
-def bound_files() -> None:
-    """Bounds what a tool may write, before a huge section costs time and room on the disk."""
-    resource.setrlimit(resource.RLIMIT_FSIZE, (MOST_OBJECT, MOST_OBJECT))
-    resource.setrlimit(resource.RLIMIT_CORE, (0, 0))
+def paths_text(sources: Sequence[Source]) -> str:
+    """The paths of sources, for the begin of a sentence on all of them."""
+    return ", ".join(str(source.path) for source in sources)
 
 
 def refuse_size(sources: Sequence[Source]) -> NoReturn:
     """Refuses a section that no image can have, at the line that asks for the most."""
     lines = [(asked_for(text), source, number) for source in sources
              for number, text in enumerate(source.lines, 1)]
-    most, source, number = max(lines, key=lambda line: line[0])
-    place = f"{source.path}:{number}" if most else ", ".join(str(source.path) for source in sources)
+    most, source, number = max(lines, key=lambda line: line[0], default=(0, sources[0], 0))
+    place = f"{source.path}:{number}" if most else paths_text(sources)
     raise Refusal(f"{place}: a section is far larger than an image may have: the text has up to {4 * TEXT_WORDS:,} "
                   f"bytes, and the data up to {DATA_BYTES:,}.")
 
@@ -223,23 +220,28 @@ def asked_for(text: str) -> int:
     return max((*products, *(int(word, 0) for word in re.findall(number, text))), default=0)
 
 
-def assemble(sources: Sequence[Source], by: str = compiler.GCC, level: str = compiler.FAST) -> Assembly:
+def assemble(sources: Sequence[Source], how: Compilers = Compilers()) -> Assembly:
     """Assembles or compiles the sources, C by the compiler that is named, and links them at the image's addresses."""
     prefix, is_compiled = tool_prefix(), any(source.is_compiled for source in sources)
     with tempfile.TemporaryDirectory() as folder:
         contents = []
         for place, source in enumerate(sources):
-            made = object_of(source, pathlib.Path(folder, f"{place}.o"), prefix, (by, level), sources)
+            made = object_of(source, pathlib.Path(folder, f"{place}.o"), prefix, how, sources)
             refuse_other_machine(source, made)
-            contents.append(section_names(source, made))
-        libraries = [*memory_library(folder, prefix, by, sources), *compiler.arithmetic()] if is_compiled else []
+            contents.append(objects.section_names(source, made))
+            objects.refuse_relocations(source, made)
+        libraries = [*memory_library(folder, prefix, how, sources), *compiler.arithmetic(how)] if is_compiled else []
         pathlib.Path(folder, "places").write_text(linker_script(contents, is_compiled), encoding="utf-8")
+        pathlib.Path(folder, "over.s").write_text(OVER, encoding="ascii")
+        run_tool([prefix + "as", "-march=rv32i", "-mabi=ilp32", "-o", "over.o", "over.s"], folder, sources)
         # Without a register for small data relaxing only makes a call of C one instruction.
         relaxing = [] if is_compiled else ["--no-relax"]
         run_tool([prefix + "ld", "-m", "elf32lriscv", *relaxing, "-e", "0", "-T", "places", "-o", "task.elf",
-                  *(f"{place}.o" for place in range(len(sources))), *libraries], folder, sources)
+                  *(f"{place}.o" for place in range(len(sources))), "over.o", *libraries], folder, sources)
         linked = pathlib.Path(folder, "task.elf").read_bytes()
         sections, labels = elf.read_elf(linked)
+        if why := objects.why_no_image(sections):
+            raise Refusal(f"{', '.join(str(source.path) for source in sources)}: {why}.")
         # Sources may have data alone.
         if any(section.name == ".text" for section in sections):
             listed = run_tool([prefix + "objdump", "-d", "-l", *(["--inlines"] if is_compiled else []), "-z", "-M",
@@ -247,7 +249,7 @@ def assemble(sources: Sequence[Source], by: str = compiler.GCC, level: str = com
         else:
             listed = ""
     assembled = join_sections({section.name: section for section in sections}, labels, instructions_in(listed))
-    assembled.compiler, assembled.linked = compilers_told(sources, by, level), linked
+    assembled.compiler, assembled.linked = compilers_told(sources, how), linked
     assembled.paths = {source.name: source.path for source in sources}
     refuse_other_instructions(assembled)
     tell_entries(assembled, sources)
@@ -266,24 +268,26 @@ def tell_entries(assembled: Assembly, sources: Sequence[Source]) -> None:
                 assembled.instructions[address] = dataclasses.replace(found, source=name, line=number)
 
 
-def object_of(source: Source, target: pathlib.Path, prefix: str, how: tuple[str, str],
+def object_of(source: Source, target: pathlib.Path, prefix: str, how: Compilers,
               sources: Sequence[Source]) -> bytes:
-    """The bytes of a source's object, which is made as the file `target`, by a compiler at a level."""
+    """The bytes of a source's object, which is made as the file `target`."""
     if source.path.suffix == OBJECT:
         made = read_bytes(source.path)
-        if not elf.is_object(made):
-            raise Refusal(f"{source.path}: this is no object file of a RISC-V machine of 32 bits.")
+        objects.refuse_object(source, made)
+        elf.read_elf(made, source.path)
         target.write_bytes(made)
         return made
-    run_tool(source_words(source, target, prefix, *how), str(target.parent), sources)
+    if source.path.suffix == compiler.LLVM:
+        llvm.refuse_other_target(source)
+    run_tool(source_words(source, target, prefix, how), str(target.parent), sources)
     return target.read_bytes()
 
 
-def source_words(source: Source, target: pathlib.Path, prefix: str, by: str, level: str) -> list[str]:
+def source_words(source: Source, target: pathlib.Path, prefix: str, how: Compilers) -> list[str]:
     """The words that make an object of a source."""
     path = source.path.absolute()
     if path.suffix != ASSEMBLY:
-        return compiler.compiler_words(by, path, target.name, level=level)
+        return compiler.compiler_words(how, path, target.name)
     paths = [str(path)]
     if any(re.match(r"\s*\.addrsig", text) for text in source.lines):
         # What clang's assembler is told of addresses, and GNU's doesn't know.
@@ -294,18 +298,17 @@ def source_words(source: Source, target: pathlib.Path, prefix: str, by: str, lev
             *paths]
 
 
-def compilers_told(sources: Sequence[Source], by: str, level: str) -> Optional[str]:
+def compilers_told(sources: Sequence[Source], how: Compilers) -> Optional[str]:
     """The compilers of the sources, with their versions, and how else than usual they made code; None where none
     compiles."""
-    used = {compiler.compiler_of(by, source.path): None for source in sources
-            if source.path.suffix not in (ASSEMBLY, OBJECT)}
-    told = " and ".join(map(compiler.compiler_told, used)) or None
-    return f"{told} {level}" if told and level != compiler.FAST else told
+    used = {how.kind_of(source.path): None for source in sources if source.path.suffix not in (ASSEMBLY, OBJECT)}
+    told = " and ".join(compiler.told_by(how.program(kind), kind) for kind in used) or None
+    return f"{told} {how.level}" if told and how.level != compiler.FAST else told
 
 
-def memory_library(folder: str, prefix: str, by: str, sources: Sequence[Source]) -> list[str]:
+def memory_library(folder: str, prefix: str, how: Compilers, sources: Sequence[Source]) -> list[str]:
     """A library of what compilers call, of which the linker takes what is called."""
-    run_tool(compiler.compiler_words(by, compiler.MEMORY, "memory.o", is_library=True), folder, sources)
+    run_tool(compiler.compiler_words(how, compiler.MEMORY, "memory.o", is_library=True), folder, sources)
     run_tool([prefix + "ar", "rc", "libmemory.a", "memory.o"], folder, sources)
     return ["libmemory.a"]
 
@@ -328,31 +331,7 @@ def refuse_other_instructions(assembled: Assembly) -> None:
         name = found.words.partition(" ")[0]
         if name in UNKNOWN or name not in INSTRUCTIONS and not name.startswith((".", "0x")):
             place = assembled.place(address) or f"at {address:08x}"
-            raise Refusal(f"{place}: `{found.words if name in UNKNOWN else name}` is no instruction of RV32I.")
-
-
-def section_names(source: Source, data: bytes) -> list[str]:
-    """The sections of an object that have bytes in the image; one that has no place there is refused."""
-    sections = [it for it in elf.read_elf(data)[0] if it.size > 0]
-    for it in sections:
-        if it.kind in (elf.BITS, elf.NO_BITS) and not it.is_allocated and not it.name.startswith(NOT_FOR_MEMORY):
-            raise Refusal(f"{source.path}: the section {it.name} has no flags, so it is no part of memory; "
-                          f'write .section {it.name}, "aw", or "a" for constants.')
-    names = [it.name for it in sections if it.is_allocated and not it.name.startswith(UNWINDING)]
-    known = [place for places in PLACES.values() for place in places]
-    for name in names:
-        if not any(is_part(name, place) for place in known):
-            for places, pattern, why in FROM_C if source.is_c else ():
-                if any(is_part(name, place) for place in places):
-                    source.refuse_at(pattern, why)
-            source.refuse_at(re.escape(name) + r"\b",
-                             f"the section {name} has no place in an image; {', '.join(known)} have one")
-    return names
-
-
-def is_part(name: str, place: str) -> bool:
-    """Whether a section is one of those of a place."""
-    return name == place or name.startswith(place + ".")
+            raise Refusal(f"{place}: `{found.words if name in UNKNOWN else name}` isn't an instruction of RV32I.")
 
 
 def linker_script(contents: Sequence[Sequence[str]], has_libraries: bool) -> str:
@@ -360,16 +339,22 @@ def linker_script(contents: Sequence[Sequence[str]], has_libraries: bool) -> str
 
     What comes of libraries stands after all sources."""
     def placed(output: str) -> str:
-        inputs = [f". = ALIGN(4); {number}.o(\"{name}\")" for place in PLACES[output]
+        inputs = [f". = ALIGN(4); {number}.o({section_pattern(name)})" for place in PLACES[output]
                   for number, names in enumerate(contents) for name in names if is_part(name, place)]
         if has_libraries:
             inputs += [f". = ALIGN(4); *({place} {place}.*)" for place in PLACES[output]]
         commons = " . = ALIGN(4); *(COMMON)" if output == ".bss" else ""
         return f"{output} : {{ {' '.join(inputs)}{commons} }}"
 
-    return (f"SECTIONS {{ . = {TEXT:#x}; {placed('.text')} {placed('.rodata')}"
-            f" . = {DATA:#x}; {placed('.data')} {placed('.bss')}"
+    return (f"SECTIONS {{ {OVER_SECTION} 0 : {{ over.o({OVER_SECTION}) }}"
+            f" . = {TEXT:#x}; {placed('.text')} {placed('.rodata')} . = {DATA:#x}; {placed('.data')} {placed('.bss')}"
             " /DISCARD/ : { *(.riscv.attributes) *(.comment) *(.note .note.*) *(.eh_frame) } }\n")
+
+
+def section_pattern(name: str) -> str:
+    """A section's name as a pattern of the linker, in which `*` stands for what isn't plain. The place that the name
+    begins with is plain, so no section of another place has the pattern."""
+    return '"' + re.sub(r"[^\w.$+-]+", "*", name, flags=re.ASCII) + '"'
 
 
 def instructions_in(listed: str) -> dict[int, Instruction]:
@@ -403,8 +388,12 @@ def join_sections(sections: Mapping[str, elf.Section], labels: Sequence[Label],
     empty = elf.Section("", 0, True, 0, 0, b"")
     text, fixed, data, zeros = (sections.get(name, empty) for name in PLACES)
     whole = bytearray(text.data)
-    if fixed.size:
-        whole += bytes(fixed.address - TEXT - len(whole)) + fixed.data
+    gap = fixed.address - TEXT - len(whole) if fixed.size else 0
+    if text.size and text.address != TEXT or not 0 <= gap <= 4 * TEXT_WORDS:
+        raise Refusal(f"the linker places the text at {text.address:08x} and the constants at {fixed.address:08x}; an "
+                      f"image has both one after the other from {TEXT:08x} on, so an alignment is too large, or an "
+                      "object is damaged.")
+    whole += bytes(gap) + fixed.data
     whole += bytes(-len(whole) % 4)
     end = max((section.address + section.size for section in (data, zeros) if section.size), default=DATA)
     places = [label for label in labels if label.section in PLACES]

@@ -23,7 +23,7 @@ MOST_ABOVE = 8
 
 
 class Way(NamedTuple):
-    """A function with what it takes of the stack, and the way behind it."""
+    """A function with what it takes of the stack, and the way after it."""
     name: str
     taken: int
     behind: Optional[Way]
@@ -36,8 +36,8 @@ class Need(NamedTuple):
 
 
 class Function:
-    """A function of the text: how far below its caller's its stack goes, whom it calls with how much of it taken, and
-    what can't be told."""
+    """A function of the text: how far below its caller's its stack goes, which functions it calls with how much of it
+    taken, and what can't be determined."""
 
     def __init__(self, label: Label, text: bytes) -> None:
         self.name, self.start, self.end = label.name, label.address, min(label.address + label.size, TEXT + len(text))
@@ -186,7 +186,7 @@ class Stacks:
         return self.needs[function]
 
     def begin(self, function: Function) -> Call:
-        """A function whose calls are to be looked at, once what can't be told of it alone was noted."""
+        """A function whose calls are to be looked at, once what can't be determined of it alone was noted."""
         if function.is_open:
             self.tell(function, "takes a part of the stack whose size is known only when it runs")
         if function.calls_pointers:
@@ -196,7 +196,8 @@ class Stacks:
     def tell_ring(self, ring: list[Call]) -> None:
         """Notes that functions call each other in a ring, and how much stack they take each time."""
         others = ", ".join(f"`{call.function.name}`" for call in ring[1:])
-        self.tell(ring[0].function, f"calls itself{others and ' by ' + others}, and takes "
+        self.tell(ring[0].function, f"calls itself{others and ' by ' + others}, which a loop or a child "
+                                    "for each would save, and takes "
                                     f"{sum(call.bytes_taken() for call in ring):,} bytes each time")
 
 
@@ -230,7 +231,7 @@ def parts_text(way: Optional[Way]) -> str:
 
 
 def check_stack(assembled: Assembly, image: Image) -> None:
-    """Refuses a task of C that surely needs more stack than it has, and tells of what can't be counted."""
+    """Refuses a task of C that surely needs more stack than it has, and reports what can't be counted."""
     stacks = Stacks(assembled, image.limits.stack)
     for task in assembled.tasks_of_c():
         entry = stacks.function_at(task.address)

@@ -11,13 +11,14 @@ from yotarimu.images.image import DATA, Image
 from yotarimu.images.listing import Listing
 
 WORD = re.compile(r"([A-Za-z_.$][\w.$]*)(?:\[([0-9]{1,8})(?:\.\.([0-9]{1,8}))?\])?")
+ADDRESSES = re.compile(r"(0[xX][0-9a-fA-F]{1,8})(?:\.\.(0[xX][0-9a-fA-F]{1,8})|\[([0-9]{1,8})(?:\.\.([0-9]{1,8}))?\])?")
 # How many numbers a line has, by their width.
 OF_A_LINE = {1: 16, 2: 8, 4: 8}
 
 
 @dataclasses.dataclass(frozen=True)
 class Piece:
-    """A part of a variable: its name, where it stands in the data, and which of its numbers are wanted."""
+    """A part of a variable: its name, its place in the data, and which of its numbers are wanted."""
     name: str
     offset: int
     first: int
@@ -32,14 +33,17 @@ def variables(listing: Listing, image: Image) -> Mapping[str, tuple[int, int]]:
     return {listing.labels[start]: (start - DATA, end - DATA) for start, end in zip(places, ends)}
 
 
-def piece_of(word: str, known: Mapping[str, tuple[int, int]], width: int) -> Piece:
-    """The piece that NAME, NAME[PLACE] or NAME[FROM..TO] asks for."""
+def piece_of(word: str, known: Mapping[str, tuple[int, int]], width: int, size: int = 0) -> Piece:
+    """The piece that NAME, NAME[PLACE] or NAME[FROM..TO] asks for, or an address in place of a name."""
+    if found := ADDRESSES.fullmatch(word):
+        return piece_at(word, found, width, size)
     found = WORD.fullmatch(word)
     if not found:
-        raise Refusal(f"`{word}` is no NAME, NAME[PLACE] or NAME[FROM..TO].")
+        raise Refusal(f"`{word}` isn't NAME, NAME[PLACE] or NAME[FROM..TO], nor an address or a range of addresses "
+                      "such as 0x10000000..0x1000000c.")
     name = found[1]
     if name not in known:
-        raise Refusal(f"there is no variable `{name}` in the data{likely(name, known)}.")
+        raise Refusal(f"no variable `{name}` in the data{likely(name, known)}")
     start, end = known[name]
     count = (end - start) // width
     first = int(found[2] or 0)
@@ -47,6 +51,17 @@ def piece_of(word: str, known: Mapping[str, tuple[int, int]], width: int) -> Pie
     if not first <= last < count:
         raise Refusal(f"`{word}`: `{name}` has the places 0 to {count - 1}.")
     return Piece(name, start, first, last + 1, width)
+
+
+def piece_at(word: str, found: re.Match[str], width: int, size: int) -> Piece:
+    """The piece that ADDRESS, ADDRESS..ADDRESS, ADDRESS[PLACE] or ADDRESS[FROM..TO] asks for, in data of a size."""
+    start = int(found[1], 16)
+    first = int(found[3] or 0)
+    last = (int(found[2], 16) - start) // width if found[2] else int(found[4] or found[3] or 0)
+    offset = start - DATA
+    if not (0 <= offset and first <= last and offset + (last + 1) * width <= size):
+        raise Refusal(f"`{word}`: the data is from {DATA:#x} up to {DATA + size:#x}.")
+    return Piece(f"{start:08x}", offset, first, last + 1, width)
 
 
 def piece_lines(piece: Piece, data: bytes, is_hex: bool) -> Iterator[str]:

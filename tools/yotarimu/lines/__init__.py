@@ -1,1 +1,1 @@
-"""The lines of the second program: read, replayed, and told in sentences."""
+"""The event log of `fractal_watch`: read, replayed, and described in sentences."""

@@ -1,4 +1,4 @@
-"""Why tasks were taken back: of each one what took it, and what that goes back to.
+"""Why tasks were aborted: of each one what took it, and what that goes back to.
 
 An event takes a set of tasks back. Where it is a load or a store, those are taken whose accesses meet it; else one task
 is, which stands where an earlier one needs room, or which a script asked for. All others go with a member of the set:
@@ -8,7 +8,7 @@ at the event: the root.
 Accesses meet where they share a byte, or only the line, or only the bit that a filter has for both lines. Filters tell
 no more than bits, so they take tasks back for each of these. One of the kind `bloom` may also tell a line by bits of
 several others together; then the task has no one access that meets it. Of several ways the one counts whose widest
-step shares the most: a task of which a way by bytes and children tells would have been taken back by any filter and any
+step shares the most: a task of which a way by bytes and children tells would have been aborted by any filter and any
 line.
 
 The lines are enough for it: `causes_of` takes what the reader found of an event.
@@ -20,6 +20,7 @@ import enum
 from typing import Callable, Iterable, Iterator, Optional, Union
 
 from yotarimu.common.sentences import SENTENCES, fill
+from yotarimu.common.text import signed
 from yotarimu.images.listing import NO_LISTING, Listing
 from yotarimu.lines.filters import Bits, FilterKind, LineRule
 from yotarimu.lines.replay import Access, TakenTask, Task, ToldLine
@@ -65,7 +66,7 @@ ROOM_TOLD = {
 
 @dataclasses.dataclass(frozen=True)
 class Meeting:
-    """An access of a task that was taken back, the access that it meets, and what both share. The first is None where
+    """An access of a task that was aborted, the access that it meets, and what both share. The first is None where
     the bits of several accesses together are those of the other's line."""
     own: Optional[Access]
     other: Access
@@ -74,7 +75,7 @@ class Meeting:
 
 @dataclasses.dataclass(frozen=True)
 class Cause:
-    """Why one task was taken back. `by` is the task behind it: the one that asked for the event, or the member of the
+    """Why one task was aborted. `by` is the task behind it: the one that asked for the event, or the member of the
     set that this one goes with; None where no task asked. `sharing` is the widest of its whole way, `before` the cause
     of the member that it goes with, and `event` the word of the root."""
     taken: TakenTask
@@ -87,7 +88,7 @@ class Cause:
 
     @property
     def task(self) -> Task:
-        """The task that was taken back."""
+        """The task that was aborted."""
         return self.taken.task
 
     @property
@@ -116,7 +117,7 @@ def causes_of(told: ToldLine, rule: LineRule) -> list[Cause]:
 
 
 def time_of(taken: TakenTask) -> Time:
-    """The virtual time of a task that was taken back."""
+    """The virtual time of a task that was aborted."""
     return taken.time
 
 
@@ -247,15 +248,15 @@ class CauseSentences:
         self.named, self.rule, self.listing = named, rule, listing
 
     def sentence(self, cause: Cause) -> str:
-        """Why a task was taken back, as what is said of it behind its name."""
+        """Why a task was aborted, as what is said of it behind its name."""
         if cause.kind is Kind.CHILD:
-            return f"{self.name_behind(cause)}, which made it, was taken back"
+            return f"{self.name_behind(cause)}, which made it, was aborted"
         if cause.kind is Kind.ABORT:
             return "the script asked for it"
         if cause.kind is Kind.ROOM:
             return ROOM_TOLD[cause.event].format(who=self.name_behind(cause))
         if cause.meeting is None:
-            return "a filter says that it touched what it may not have"
+            return "a filter reports an access that it may not have made"
         return self.meeting_told(cause, cause.meeting)
 
     def meeting_told(self, cause: Cause, meeting: Meeting) -> str:
@@ -266,7 +267,7 @@ class CauseSentences:
         if cause.kind is Kind.ACCESS:
             did = f"{by} {'stores' if other.is_store else 'loads'} {place}{self.spot(other)}"
         else:
-            did = f"{by}, which was taken back, had stored {place}{self.spot(other)}"
+            did = f"{by}, which was aborted, had stored {place}{self.spot(other)}"
         done = self.did(own) if own is not None else fill(TEXTS["joint"], line=self.line_told(other))
         return f"{done}, and {did}{self.sharing_told(meeting)}"
 
@@ -277,8 +278,9 @@ class CauseSentences:
     def did(self, own: Access) -> str:
         """What a task did by an access of its own."""
         label = self.listing.address_text(own.address)
-        return (f"it stored {own.value} to {label}{self.spot(own)}" if own.is_store
-                else f"it loaded {own.old} from {label}{self.spot(own)}")
+        value = signed(own.value if own.is_store else own.old, own.bytes)
+        did = f"stored {value} to" if own.is_store else f"loaded {value} from"
+        return f"it {did} {label}{self.spot(own)}"
 
     def sharing_told(self, meeting: Meeting) -> str:
         """What accesses share where it isn't a byte; no words where it is one."""

@@ -21,7 +21,8 @@ CAUSES = ("load", "store", "commit_queue", "task_queue", "core", "asked")
 PLACES = ("queued", "running", "stalled", "trapped", "finished", "spilled")
 # The groups of a line by their names, with the numbers of each, and its lists, with how many numbers each has.
 GROUPS: dict[str, tuple[str, ...]] = {
-    "work": ("executed", "useful", "wasted", "left", "refused"), "run": ("acts", "rounds", "opening", "spilled"),
+    "work": ("executed", "useful", "wasted", "left", "refused"),
+    "run": ("acts", "rounds", "advances", "opening", "spilled"),
     "stalls": ("task_queue", "commit_queue", "split"), "made": ACTS, "told": ACTS, "passed": ACTS,
     "committed": ACCESSES, "undone": ACCESSES, "taken": CAUSES, "discarded": CAUSES, "now": PLACES,
     "over_events": PLACES, "over_rounds": PLACES, "greatest": PLACES}
@@ -47,7 +48,7 @@ def need_counts(line: Line) -> None:
     for name, length in LISTS.items():
         found = line[name]
         if not isinstance(found, list) or len(found) != length or not all(map(is_count, found)):
-            raise WrongLine(f"`{name}` is no list of {length} counts")
+            raise WrongLine(f"`{name}` isn't a list of {length} counts")
 
 
 class CountsText:
@@ -91,7 +92,7 @@ class CountsText:
         if "end" not in line or self.last is None:
             raise WrongLine("behind the counts comes the end, and nothing else")
         if (line["n"], line["journal"]) != (self.last["counts"], self.last["made"]["commit"]):
-            raise WrongLine("the end tells other events or commits than the counts")
+            raise WrongLine("the end has other events or commits than the counts")
         self.end = line
 
     def all(self) -> dict[str, Any]:

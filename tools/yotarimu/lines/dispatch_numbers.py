@@ -1,4 +1,5 @@
-"""Dispatch numbers, as lines tell them: the next one, and those in use once all are given and they are given anew."""
+"""Dispatch numbers, as the event log has them: the next one, and those in use once all are used up and they are
+renumbered."""
 from __future__ import annotations
 
 from collections.abc import Iterable

@@ -4,7 +4,7 @@ from __future__ import annotations
 from collections.abc import Iterable, Iterator, Sequence
 from typing import Optional
 
-from yotarimu.common.text import count_text, printable
+from yotarimu.common.text import count_text, printable, signed
 from yotarimu.images.image import DATA
 from yotarimu.images.listing import Listing
 from yotarimu.lines.fields import Line
@@ -66,7 +66,7 @@ class Display:
     def task_row(self, task: Task) -> tuple[str, ...]:
         """A task's mark, label, label in the text with arguments, timestamp, depth, domain and state."""
         mark = ">" if self.told and task in (self.told.task, self.told.arrived) else " "
-        back = ", taken back" if id(task) in self.back else ""
+        back = ", aborted" if id(task) in self.back else ""
         words = self.listing.task_words(task.entry, task.arguments)
         domain = f"depth {task.depth}, {domain_told(task, task.depth - 1)}"
         return mark, label_of(task), words, f"timestamp {task.timestamp}", domain, f"{task.state}{back}"
@@ -96,7 +96,8 @@ class Display:
             label = self.listing.label(address)
             mark = ">" if address == touched else " "
             line = (address - DATA) // rule.size
-            yield f"    {mark}  {address:08x}  {word:>10}  {word:08x}  line {line}{f'  {label}' if label else ''}"
+            name = f"  {label}" if label else ""
+            yield f"    {mark}  {address:08x}  {signed(word):>10}  {word:08x}  line {line}{name}"
         if len(words) > MOST_WORDS:
             yield f"       and {len(words) - MOST_WORDS:,} more"
 

@@ -127,7 +127,7 @@ FAULT: Fields = (
 
 def head_fields(line: Line) -> Fields:
     """The fields of the first line. It had no filter before one could be chosen."""
-    rounds = (("rounds", NUMBER), ("seed", NUMBER), ("barren", NUMBER)) if line.get("course") == "lockstep" else ()
+    rounds = (("rounds", NUMBER), ("seed", NUMBER), ("starved", NUMBER)) if line.get("course") == "lockstep" else ()
     return (("watch", NUMBER), ("course", one_of(*COURSES)), *rounds, *((name, NUMBER) for name in SETTINGS),
             ("filter?", one_of(*FILTERS)), ("root", one_of(*KINDS)), ("text", NUMBER), ("data", NUMBER),
             ("window", PAIR), ("tasks", NUMBER))
@@ -191,7 +191,7 @@ def fields_of(line: Line) -> Fields:
         return VIEW
     if first == "fault":
         return FAULT
-    raise WrongLine("it is no line that the second program tells")
+    raise WrongLine("it isn't a line that fractal_watch prints")
 
 
 def need_fields(line: Line) -> None:
@@ -235,7 +235,7 @@ class Shapes:
         try:
             decoded, end = DECODER.raw_decode(text)
         except ValueError:
-            raise WrongLine(f"`{value_text(text)}` is no JSON") from None
+            raise WrongLine(f"`{value_text(text)}` isn't JSON") from None
         except RecursionError:
             raise WrongLine("it is nested too deep") from None
         zeros = text.encode(errors="replace").translate(ZEROS)
@@ -253,7 +253,7 @@ class Shapes:
 def need_shape(text: str, line: object) -> None:
     """Refuses a line whose fields or whose text aren't as the second program writes them."""
     if not isinstance(line, dict):
-        raise WrongLine("it is no object of JSON")
+        raise WrongLine("it isn't an object of JSON")
     need_fields(line)
     if json.dumps(line, separators=(",", ":")) != text:
-        raise WrongLine("it is written otherwise than the second program writes it")
+        raise WrongLine("it is written otherwise than fractal_watch writes it")

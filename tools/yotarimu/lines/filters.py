@@ -1,9 +1,8 @@
-"""Which lines a task's filter tells, by its kind: a model, written from the definitions of crates/line_table.
+"""Which lines a task's filter reports, by its kind: a model, written from the definitions of crates/line_table.
 
 A line has bits: one by its number modulo 1,024; or eight, by hashes of its number; or one of its own, so that a filter
-is exact. An access sets the bits of its line, those of touches or of writes too, and a line is told where all of its
-bits are set. So where it has eight, lines that were noted may tell another one together, although none of them does
-so alone.
+is exact. An access sets the bits of its line, those of touches or of writes too, and a line is reported if all of its
+bits are set. So if it has eight, noted lines may together cause a false positive, although none of them does so alone.
 """
 from __future__ import annotations
 
@@ -35,7 +34,7 @@ Bits = tuple[int, ...]
 
 
 class FilterKind(enum.Enum):
-    """How a filter tells lines apart, by the word that the option and the head of lines have for it."""
+    """How a filter distinguishes lines, by the name that the option and the head of the event log have for it."""
     MODULO = "modulo"
     BLOOM = "bloom"
     EXACT = "exact"
@@ -93,8 +92,8 @@ class TaskFilter:
         return self.written.issuperset(self.kind.bits(line))
 
     def meets(self, line: int, is_store: bool) -> bool:
-        """Whether an access of an earlier task to the line takes the task back: a store where it touched the line, a
-        load where it wrote it."""
+        """Whether an access of an earlier task to the line aborts the task: a store if it touched the line, a load if
+        it wrote it."""
         return self.has_touched(line) if is_store else self.has_written(line)
 
 

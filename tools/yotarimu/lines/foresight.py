@@ -26,7 +26,7 @@ class OtherLine(Exception):
 
 def form_of(word: str, asks: str = "") -> str:
     """What the line of an event tells behind its act, with a place for each number and for the word of a child's
-    domain; of a step by what it asks for. No task is taken back or spilled, and no output is told."""
+    domain; of a step by what it asks for. No task is aborted or spilled, and no output is told."""
     words = {"do": word, "asks": asks, "to": "%s", "reply": "ok"}
     parts = []
     for field, kind in act_fields({**words, "leg": 0} if asks else words)[1:]:
@@ -126,6 +126,8 @@ class Foresight:
         if told.text != form % (*core.wish, machine.events + 1, *child.values()):
             raise OtherLine
         self.take(told, act, task)
+        if child:
+            machine.need_pick(core.wish[-1], child["in"])
         machine.count_leg(told, task, leg, pc, asks)
         machine.request(told, task, asks, {**core.leg, **child})
         core.go_on(0)

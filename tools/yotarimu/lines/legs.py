@@ -1,8 +1,8 @@
-"""Legs, replayed on the image: which plain instructions a task executes, where it stops, and what it asks for there.
+"""Legs, replayed on the image: which plain instructions a task executes, where it stops, and what it requests there.
 
-An image's text is read as RV32I by `yotarimu.images.serial_machine`. Each task that was dispatched has a core here. A
-leg that a line tells has to be the one that this core runs; then what it asked for is done, unless it was refused. As
-nothing but its core says how a leg goes, it may be run before its line is read, and waits until a line takes it.
+An image's text is read as RV32I by `yotarimu.images.serial_machine`. Each task that was dispatched has a core here. The
+leg in a line has to be the one that this core runs; then what it requested is done, unless it was refused. As nothing
+but its core decides how a leg goes, it may be run before its line is read, and waits until a line takes it.
 """
 from __future__ import annotations
 
@@ -14,7 +14,7 @@ from typing import TYPE_CHECKING, Any, NamedTuple, Optional
 from yotarimu.images import serial_machine
 from yotarimu.images.image import DATA, Image
 from yotarimu.images.serial_machine import (
-    MASK, Operation, Run, TaskTrap, decode, is_straight, operation_of, signed_number)
+    MASK, Operation, Run, TaskTrap, decode, is_instruction, is_straight, operation_of, signed_number)
 from yotarimu.lines.fields import ASKED, WrongLine
 from yotarimu.lines.times import Domain
 from yotarimu.reports.report import Name
@@ -28,13 +28,13 @@ CHILDREN = {1: "same", 2: "sub", 3: "super"}
 FETCH, BUDGET = 1, 17
 # A block has so many straight instructions at most, so that blocks of a long text stay short.
 MOST_STRAIGHT = 64
-# The fields of a line that tell a leg, in their order.
+# The fields of a line that describe a leg, in their order.
 FIELDS = ("leg", "pc", "asks", "addr", "bytes", "value", "to", "entry", "ts", "args", "hint", "byte", "cause")
 # The names of those behind `asks`, by what is asked for.
 WISHES = {asks: [name for name, _ in fields] for asks, fields in ASKED.items()}
 # Where a leg stops: behind how many instructions, at which address, and the word of what is asked for there.
 Stop = tuple[int, int, str]
-# What is asked for: its word, and what the fields behind `asks` tell of it, with the arguments of a child one by one.
+# What is requested: its word, and the values of the fields after `asks`, with the arguments of a child one by one.
 Wish = tuple[Any, ...]
 Asked = tuple[str, Wish]
 # Of an instruction what gives that which it asks for, and None where it asks nothing and was executed; and what
@@ -51,7 +51,7 @@ class Nothing(bytearray):
 
 
 class Scratch(serial_machine.Machine):
-    """A serial machine that calls may change, since nobody reads it: the lines have what comes of them."""
+    """A serial machine that calls may change, since nobody reads it: the event log has the results."""
 
     def __init__(self, image: Image) -> None:
         super().__init__(image)
@@ -108,7 +108,7 @@ class Blocks(dict[int, Block]):
 def last_of(word: int) -> Last:
     """What an instruction asks for, and how it is executed then; most ask nothing."""
     opcode = word & 0x7F
-    if opcode in (serial_machine.LOAD, serial_machine.STORE):
+    if opcode in (serial_machine.LOAD, serial_machine.STORE) and is_instruction(word):
         return (load_of if opcode == serial_machine.LOAD else store_of)(word)
     return CALL if word == serial_machine.ECALL else Last(operation_of(word), pass_over)
 
@@ -206,7 +206,7 @@ class Core(Run):
                 path.append(self.pc)
                 straight, length, ask, grant = blocks[self.pc]
             else:
-                # The quantum or the budget ends among these, or right behind them.
+                # The quantum or the budget ends among these, or right after them.
                 for operation in straight[:most - count]:
                     operation(self)
                 count, asked = most, ("go", ()) if most == quantum else ("trap", (BUDGET,))
@@ -225,7 +225,7 @@ class Core(Run):
 
     @property
     def leg(self) -> dict[str, Any]:
-        """The fields of a line that tell the last leg."""
+        """The fields of a line that describe the last leg."""
         leg, pc, asks = self.stop
         wish = self.wish
         if asks == "enqueue":
@@ -272,7 +272,7 @@ class Legs:
                 raise WrongLine(f"`{name}` is {head[name]}, and of the image it is {value}")
 
     def note(self, told: ToldLine) -> None:
-        """Takes a line, once the machine has done what it tells."""
+        """Takes a line, once the machine has done what it describes."""
         for taken in told.taken:
             self.cores.pop(taken.task, None)
         if told.committed is not None:
@@ -287,7 +287,7 @@ class Legs:
         self.cores.pop(task, None)
 
     def need_initial(self, line: dict[str, Any]) -> None:
-        """Holds a task that is placed against the image's own."""
+        """Compares a task that is placed with the image's own."""
         place = line["name"][1]
         if place >= len(self.image.tasks):
             raise WrongLine(f"the image has no task {place}")
@@ -306,7 +306,7 @@ class Legs:
         return core
 
     def need_leg(self, task: Task, line: dict[str, Any]) -> None:
-        """Holds a leg against the one that the task makes by the image's text."""
+        """Compares a leg with the one that the task makes by the image's text."""
         core = self.next_leg(task)
         wanted = core.leg
         # What is asked for says which fields a line has, so it has no others where it has these.

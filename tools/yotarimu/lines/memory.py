@@ -14,8 +14,8 @@ TOUCHED = b"\x01"
 
 
 class Memory:
-    """The bytes of the data. Of one that nobody touched nothing is known, unless `initial` has those of the image from
-    its start on; what is behind that is 0."""
+    """The bytes of the data. A byte that nobody touched is unknown, unless `initial` has those of the image from its
+    start on; what is after that is 0."""
 
     def __init__(self, size: int, initial: Optional[bytes] = None) -> None:
         self.data = bytearray(size)
@@ -54,7 +54,7 @@ class Memory:
             for more, byte in enumerate(told, place):
                 known = self.known_byte(more)
                 if known not in (None, byte):
-                    raise WrongLine(f"at {DATA_START + more:08x} it finds the byte {byte}, and {known} stands there")
+                    raise WrongLine(f"at {DATA_START + more:08x} it finds the byte {byte}, and {known} is there")
             self.data[place:place + count] = told
 
     def touch(self, address: int, count: int) -> None:
@@ -80,7 +80,7 @@ class Memory:
             place = self.touched.find(TOUCHED, (place & ~3) + 4)
 
     def words(self) -> list[tuple[int, int]]:
-        """The words that were touched, by rising address; bytes that nobody touched are told as 0."""
+        """The words that were touched, by rising address; bytes that nobody touched count as 0."""
         return [(DATA_START + place, sum((self.byte(DATA_START + place + byte) or 0) << 8 * byte for byte in range(4)))
                 for place in self.touched_words()]
 

@@ -64,7 +64,7 @@ def maker_told(task: Task, level: int) -> str:
 
 
 def holder_told(task: Task, level: int) -> str:
-    """Whose place in its domain a level of a task's time tells: its own at the last level, else that of a maker."""
+    """Which task's place in its domain a level of a task's time is: its own at the last level, else that of a maker."""
     if level == task.depth - 1:
         return label_of(task)
     return fill(TEXTS["maker"], maker=maker_told(task, level), task=label_of(task))

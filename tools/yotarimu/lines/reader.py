@@ -28,7 +28,7 @@ from yotarimu.lines.replay import Machine, ToldLine
 
 # The values that the numbers of a head may have: docs/guest/FORMATS.md.
 RANGES = {
-    "rounds": range(1, 1_000_001), "seed": range(1 << 32), "barren": range(1, 1_000_001),
+    "rounds": range(1, 1_000_001), "seed": range(1 << 32), "starved": range(1, 1_000_001),
     "tiles": range(1, MOST_TILES + 1),
     "cores": range(1, MOST_CORES + 1), "task_queue": range(4, 257), "commit_queue": range(1, 65),
     "line": (4, 8, 16, 32, 64), "quantum": range(1, 1_025), "commits": range(1, 1_000_001),
@@ -61,7 +61,7 @@ class Reader:
         """Reads the first line, which tells of which machine the others are; refuses what can't be one."""
         text = next(self.texts, None)
         if text is None:
-            raise Refusal(f"{self.name}: it has no whole line, so it isn't what the second program tells.")
+            raise Refusal(f"{self.name}: it has no whole line, so it isn't an event log.")
         with self.place_told():
             head = self.shapes.line_of(text)
             need_head(head)
@@ -99,7 +99,7 @@ class Reader:
         self.end, self.foresight = line, None
 
     def whole_lines(self) -> Iterator[str]:
-        """The lines without their newlines, each once it has come, up to where there is no whole one any more."""
+        """The lines without their newlines, each once it has come, up to where there isn't a whole one any more."""
         for data in iter(functools.partial(self.file.readline, MOST_READ), b""):
             if not data.endswith(b"\n"):
                 if not self.is_cut_allowed:
@@ -118,12 +118,12 @@ class Reader:
 
 
 def need_head(head: Line) -> None:
-    """Refuses a first line that is no head, or is that of no machine."""
+    """Refuses a first line that isn't a head, or is that of no machine."""
     if "fault" in head:
         told = " ".join(str(value) for value in head.values())
-        raise WrongLine(f"the program told no run, but a fault: {told}")
+        raise WrongLine(f"the program printed a fault instead of a run: {told}")
     if "watch" not in head:
-        raise WrongLine("the first line isn't the head of what the second program tells")
+        raise WrongLine("the first line isn't the head of an event log")
     if head["watch"] != 1:
         raise WrongLine(f"these are lines of version {head['watch']}, and 1 is known")
     odd = next((name for name, values in RANGES.items() if name in head and head[name] not in values), None)

@@ -11,11 +11,13 @@ import hashlib
 from collections.abc import Sequence
 from typing import Callable, Iterator, NamedTuple, Optional
 
+from yotarimu.courses.schedules import Act
 from yotarimu.images.image import Image
 from yotarimu.lines.dispatch_numbers import DispatchNumbers
-from yotarimu.lines.fields import Line, WrongLine, fields_in
+from yotarimu.lines.fields import SETTINGS, Line, WrongLine, fields_in
 from yotarimu.lines.legs import Legs
 from yotarimu.lines.memory import DATA_START, Memory
+from yotarimu.lines.placers import Placers
 from yotarimu.lines.rounds import Rounds
 from yotarimu.lines.times import UNDISPATCHED, Domain, Time, root
 
@@ -63,7 +65,7 @@ class Maker:
 
 
 class Task:
-    """An uncommitted task. `name` is a pair, or None as long as its creator may be taken back; `creator` is the task
+    """An uncommitted task. `name` is a pair, or None as long as its creator may be aborted; `creator` is the task
     that made it as long as that is uncommitted. `number` is its dispatch number, and `dispatch` its place among all
     dispatches so far, which no renumbering changes. `work` counts instructions since its dispatch, and `steps` steps;
     `made_at` and `made_step` are how many of these its creator had made with the call. `makers` made the domains that
@@ -98,9 +100,9 @@ class Task:
     def domain_of_child(self, to: str) -> Domain:
         """The domain of a child: its own, its subdomain or its superdomain."""
         if to == "sub" and self.subdomain is None:
-            raise WrongLine("it makes a child for a subdomain that isn't there")
+            raise WrongLine("it makes a child for a missing subdomain")
         if to == "super" and self.depth == 1:
-            raise WrongLine("it makes a child for a superdomain that isn't there")
+            raise WrongLine("it makes a child for a missing superdomain")
         if to == "sub":
             return self.domain.inner(self.time(), self.subdomain == ORDERED)
         return self.domain.outer() if to == "super" else self.domain
@@ -143,10 +145,11 @@ NO_BYTES: list[int] = []
 
 
 class TakenTask(NamedTuple):
-    """A task that was taken back, and what it had done and been before that."""
+    """A task that was aborted, and what it had done and been before that."""
     task: Task
     time: Time
     work: int
+    steps: int
     accesses: list[Access]
     children: list[Task]
     state: str
@@ -157,7 +160,7 @@ class TakenTask(NamedTuple):
 
 class ToldLine:
     """A line behind the head, and what it did: the task that it is about, what that asked for by a step that is made,
-    those that were taken back, those of them that are gone, those that were spilled, the one that came, the one that
+    those that were aborted, those of them that are gone, those that were spilled, the one that came, the one that
     was dispatched, and the one that committed."""
 
     # Most lines do little of this.
@@ -187,6 +190,13 @@ class ToldLine:
         return "reply" in self.line
 
 
+def unconfirmed_sentence(settings: Sequence[str], name: str = "") -> str:
+    """Which settings no line of an event log confirms."""
+    names = ", ".join(setting.replace("_", "-") for setting in settings)
+    of_log = f" of {name}" if name else ""
+    return f"No line{of_log} confirms these settings, so an edit of them isn't noticed: {names or 'none'}."
+
+
 class Machine:
     """The machine as the lines leave it: `tasks` by id; by tile `queues` and `finished` (ids in order of arrival),
     `cores` (an id or None each) and `blocks` (spilled tasks by name); how many `events` were made and how many tasks
@@ -200,7 +210,11 @@ class Machine:
         self.root, self.numbers = root(head["root"] == ORDERED), DispatchNumbers()
         self.memory = Memory(head["data"], None if image is None else image.initial)
         self.legs = None if image is None else Legs(image, head)
-        self.rounds = Rounds(head) if head["course"] == "lockstep" else None
+        is_in_rounds = head["course"] == "lockstep"
+        self.rounds = Rounds(head, self.is_asked, self.is_least_waiting) if is_in_rounds else None
+        self.placers = Placers(head["tiles"], head["phase"])
+        # The settings that a line speaks for: with another value it would be refused.
+        self.confirmed = {"tiles", "cores", "seed"} if self.rounds is not None else set[str]()
         # Those that trapped, with the cause.
         self.traps: dict[Task, int] = {}
         self.tasks: dict[int, Task] = {}
@@ -291,6 +305,7 @@ class Machine:
         if line["hint"] != line["name"][1]:
             raise WrongLine("the hint of an image's task is its place in the image")
         tile = self.need_tile(line)
+        self.need_pick(line["hint"], tile)
         task = told.arrived = Task(line, None, line["name"][1], self.root)
         self.placed += 1
         if task.id is None:
@@ -305,7 +320,7 @@ class Machine:
         make = MADE.get(word) if reply == "ok" else None
         events = self.events + (make is not None)
         if line["n"] != events:
-            raise WrongLine(f"it tells {line['n']} events, and {events} were made")
+            raise WrongLine(f"it says {line['n']} events, and {events} were made")
         if "task" in line:
             told.task = self.task_at(line["task"])
         if line.get("tile", 0) >= self.tile_count or line.get("core", 0) >= self.core_count:
@@ -314,10 +329,14 @@ class Machine:
             raise WrongLine(f"core {line['core']} of tile {line['tile']} holds no task")
         if "leg" in line:
             if told.task is None:
-                raise WrongLine("no task is told that takes this leg")
+                raise WrongLine("no task is named that takes this leg")
             self.need_leg(told.task, line)
+        if make is not None and ("back" in line or "spilled" in line) or reply in ("stall", "busy"):
+            self.need_full(line)
         if make is not None:
             told.is_made, self.events = True, events
+            if line.get("asks") == "enqueue":
+                self.need_pick(line["hint"], line["in"])
             self.force(told, line)
             make(self, told, line)
         elif word in REFUSALS and reply in REFUSALS[word] and not REFUSALS[word][reply](self, line["tile"]):
@@ -332,9 +351,56 @@ class Machine:
         if left < (asks not in NOT_EXECUTED) or asks == "trap" and (line["cause"] == OVER_BUDGET) != (left == 0):
             raise WrongLine(f"of {self.budget} instructions that a task may execute {left} would be left")
 
+    def need_pick(self, hint: int, tile: int) -> None:
+        """Holds the tile of a new task against the one that the placer picks, before room is made there."""
+        picked = self.placers.pick(hint, self.commits, self.queues)
+        if tile != picked:
+            raise WrongLine(f"it goes to tile {tile}, and the placer picks tile {picked}")
+
+    def need_full(self, line: Line) -> None:
+        """Holds that an event which makes room, or is refused for want of it, finds no room there."""
+        word, asks, tile = line["do"], line.get("asks"), line["tile"]
+        if word == "dispatch":
+            is_full, setting = None not in self.cores[tile], "cores"
+        elif asks == "end":
+            is_full, setting = len(self.finished[tile]) == self.head["commit_queue"], "commit_queue"
+        elif asks == "enqueue" or word == "split":
+            into = tile if asks is None else self.placers.pick(line["hint"], self.commits, self.queues)
+            is_full, setting = len(self.queues[into]) == self.head["task_queue"], "task_queue"
+        else:
+            return
+        if not is_full:
+            raise WrongLine(f"it wants room, and there is some: {setting} is {self.head[setting]}")
+        self.confirmed.add(setting)
+
+    def is_asked(self, act: Act) -> bool:
+        """Whether an act of a round is surely asked for, as it stands; which task is the least isn't looked for."""
+        tile = act.tile or 0
+        if act.word == "step":
+            number = self.cores[tile][act.core or 0]
+            return number is not None and self.tasks[number].state is RUNNING
+        if act.word == "dispatch":
+            return None in self.cores[tile] and not self.has_no_idle(tile)
+        return act.word == "split" and bool(self.blocks[tile]) and len(self.queues[tile]) < self.head["task_queue"]
+
+    def unconfirmed(self) -> list[str]:
+        """The settings of the head that no line speaks for: the run may be one of other values too."""
+        if self.placers.fitting == {self.tile_count}:
+            self.confirmed.add("tiles")
+        if self.rounds is not None and self.rounds.advances:
+            self.confirmed.add("starved")
+        settings = (*(("rounds", "seed", "starved") if self.rounds is not None else ()), *SETTINGS)
+        return [name for name in (*settings, "filter") if name not in self.confirmed and name in self.head]
+
     def has_no_idle(self, tile: int) -> bool:
-        """Whether no task of a tile's queue is idle."""
-        return all(self.tasks[number].state is not IDLE for number in self.queues[tile])
+        """Whether no task of a tile's queue is idle: each is on a core or in the commit queue."""
+        held = sum(number is not None for number in self.cores[tile])
+        return len(self.queues[tile]) == held + len(self.finished[tile])
+
+    def is_least_waiting(self) -> bool:
+        """Whether the least task waits, in a task queue or in a block."""
+        least = min(self.all_tasks(), key=Task.time, default=None)
+        return least is not None and least.state in (IDLE, SPILLED)
 
     def has_no_core(self, tile: int) -> bool:
         """Whether a tile has an idle task and no core for it."""
@@ -350,8 +416,8 @@ class Machine:
 
     def count_act(self, told: ToldLine, at: int) -> None:
         """Holds the number of an act against those before it."""
-        if self.acts == 0 and self.placed < self.head["tasks"]:
-            raise WrongLine(f"{self.placed} of {self.head['tasks']} tasks of the image are placed before the first act")
+        if self.acts == 0:
+            self.need_opening()
         is_next = at == self.acts + 1 if self.rounds is None else at > self.acts
         if not is_next:
             raise WrongLine(f"act {at} can't follow on act {self.acts}")
@@ -359,22 +425,32 @@ class Machine:
             self.rounds.need(told.line)
         self.acts = at
 
+    def need_opening(self) -> None:
+        """Holds that all tasks of the image were placed, and that a tile spilled some only where it had to."""
+        if self.placed < self.head["tasks"]:
+            raise WrongLine(f"{self.placed} of {self.head['tasks']} tasks of the image are placed before the first act")
+        for queue, block in zip(self.queues, self.blocks):
+            if block and len(queue) + len(block) <= self.head["task_queue"]:
+                raise WrongLine(f"tasks of the image are spilled, and a task queue has room for {len(queue)} and them")
+            if block:
+                self.confirmed.add("task_queue")
+
     def force(self, told: ToldLine, line: Line) -> None:
-        """What an event forces: tasks are taken back, some of them leave, and tasks are spilled."""
+        """What an event forces: tasks are aborted, some of them leave, and tasks are spilled."""
         if "back" in line:
             self.take_back(told, line)
         elif "gone" in line or "aborted" in line:
-            raise WrongLine("it takes tasks back and doesn't say which")
+            raise WrongLine("it aborts tasks and doesn't say which")
         if "spilled" in line:
             told.spilled = [self.spill_by_name(*row) for row in line["spilled"]]
 
     def take_back(self, told: ToldLine, line: Line) -> None:
         """Takes the tasks back that a line tells, and undoes what they stored."""
         if line.get("asks", line["do"]) not in TAKING_BACK:
-            raise WrongLine("such an act takes no task back")
+            raise WrongLine("such an act aborts no task")
         gone, back = set(line.get("gone", ())), {row[0] for row in line["back"]}
         if line.get("aborted") != len(line["back"]) or len(back) < len(line["back"]) or not gone <= back:
-            raise WrongLine("how many tasks it takes back, and which, don't go together")
+            raise WrongLine("how many tasks it aborts, and which, don't agree")
         told.taken = [self.taken_of(number, work, number in gone) for number, work in line["back"]]
         self.memory.undo(access for taken in told.taken for access in taken.accesses)
         for taken in told.taken:
@@ -389,12 +465,12 @@ class Machine:
         told.gone = [taken.task for taken in told.taken if taken.is_gone]
 
     def taken_of(self, number: int, work: int, is_gone: bool) -> TakenTask:
-        """What a task that is taken back was and had done; refuses a line that tells other work."""
+        """What a task that is aborted was and had done; refuses a line that tells other work."""
         task = self.task_at(number)
         if task.work != work:
             raise WrongLine(f"task {number} executed {task.work} instructions, and not {work}")
-        return TakenTask(task, task.time(), task.work, task.accesses, task.children, task.state, task.core, is_gone,
-                         task.emitted)
+        return TakenTask(task, task.time(), task.work, task.steps, task.accesses, task.children, task.state, task.core,
+                         is_gone, task.emitted)
 
     def spill_by_name(self, number: int, creator: int, index: int) -> Task:
         """Spills the idle task of an id to its tile's block; refuses a line that gives it another name."""
@@ -426,6 +502,8 @@ class Machine:
         need_below(core, self.head["cores"], "a core")
         if self.cores[task.tile][core] is not None:
             raise WrongLine(f"core {core} of tile {task.tile} holds a task")
+        if None in self.cores[task.tile][:core]:
+            raise WrongLine(f"core {core} of tile {task.tile} isn't the first that is free")
         number = self.numbers.give(self.all_tasks())
         if line["number"] != number:
             raise WrongLine(f"it gives the dispatch number {line['number']}, and {number} is the next")
@@ -450,6 +528,8 @@ class Machine:
         told.asks, task.pc = asks, pc
         task.work += leg + (asks not in NOT_EXECUTED)
         task.steps += 1
+        if asks == "go":
+            self.confirmed.add("quantum")
 
     def request(self, told: ToldLine, task: Task, asks: str, line: Line) -> None:
         """Makes what a task asks for behind its leg."""
@@ -469,7 +549,7 @@ class Machine:
         if count not in (1, 2, 4) or not 0 <= address - DATA_START <= self.data_size - count:
             raise WrongLine(f"the data has no {count} bytes at {address}")
         if address % count:
-            raise WrongLine(f"{address} is no multiple of {count}")
+            raise WrongLine(f"{address} isn't a multiple of {count}")
 
     def access(self, told: ToldLine, task: Task, address: int, count: int, old: int, stored: Optional[int]) -> None:
         """Makes an access where a number stands that was met: a load, unless a number is stored."""
@@ -487,6 +567,7 @@ class Machine:
         """Follows the making of a child, which arrives in a task queue."""
         child = told.arrived = Task(line, task, len(task.children), task.domain_of_child(line["to"]))
         self.arrive(child, line["new"])
+        self.placers.placed(child.tile, self.commits)
         task.children.append(child)
 
     def make_subdomain(self, _told: ToldLine, task: Task, line: Line) -> None:
@@ -498,7 +579,7 @@ class Machine:
     def emit(self, _told: ToldLine, task: Task, line: Line) -> None:
         """Follows the emission of a byte."""
         if line["byte"] > 0xFF:
-            raise WrongLine(f"{line['byte']} is no byte")
+            raise WrongLine(f"{line['byte']} isn't a byte")
         task.emitted.append(line["byte"])
 
     def finish(self, _told: ToldLine, task: Task, _line: Line) -> None:
@@ -511,9 +592,11 @@ class Machine:
         self.waiting += 1
 
     def trap(self, _told: ToldLine, task: Task, line: Line) -> None:
-        """Follows a trap, whose cause is kept until the task is taken back."""
+        """Follows a trap, whose cause is kept until the task is aborted."""
         task.state = TRAPPED
         self.traps[task] = line["cause"]
+        if line["cause"] == OVER_BUDGET:
+            self.confirmed.add("budget")
 
     def split(self, told: ToldLine, line: Line) -> None:
         """Follows a split: a spilled task comes back to its tile's queue, by its name."""
@@ -531,7 +614,7 @@ class Machine:
             raise WrongLine("it commits no finished task")
         if (task.name, task.depth, task.timestamp) != (tuple(line["name"]), line["depth"], line["ts"]):
             raise WrongLine(f"the task that commits is {task.told_name()}, and another name, depth or timestamp is "
-                            "told")
+                            "printed")
         output = line.get("output", "")
         if output != bytes(task.emitted).hex():
             raise WrongLine("the task that commits has emitted other bytes")
@@ -549,7 +632,7 @@ class Machine:
     def abort(self, told: ToldLine, _line: Line) -> None:
         """Follows an abort that a script asked for."""
         if told.task is None:
-            raise WrongLine("it takes no task back")
+            raise WrongLine("it aborts no task")
 
     def nothing_more(self, _told: ToldLine, _line: Line) -> None:
         """An event that is whole with what it forces."""
@@ -559,7 +642,7 @@ class Machine:
     def compare(self, line: Line) -> None:
         """Holds a view against the machine."""
         if line["next"] != self.numbers.next:
-            raise WrongLine(f"the next dispatch number is {self.numbers.next}, and {line['next']} is told")
+            raise WrongLine(f"the next dispatch number is {self.numbers.next}, and {line['next']} is printed")
         if line["view"] != self.events or len(line["tiles"]) != self.head["tiles"]:
             raise WrongLine("the view isn't that of the machine which the lines before it leave")
         for tile, told in enumerate(line["tiles"]):
@@ -573,13 +656,13 @@ class Machine:
         """Holds the last line against the machine."""
         self.need_end(line)
         if (line["n"], line["journal"]) != (self.events, self.commits):
-            raise WrongLine(f"it tells {line['n']} events and {line['journal']} commits, and {self.events} and "
-                            f"{self.commits} were told before it")
+            raise WrongLine(f"it says {line['n']} events and {line['journal']} commits, and {self.events} and "
+                            f"{self.commits} were printed before it")
         if hashlib.sha256(line["output"].encode()).digest() != self.output.digest():
             raise WrongLine("the output isn't that of the tasks which committed")
         if len(line["window"]) != self.head["window"][1]:
-            raise WrongLine(f"the window has {self.head['window'][1]} words, and {len(line['window'])} are told")
-        # What is left is taken back before the window is told.
+            raise WrongLine(f"the window has {self.head['window'][1]} words, and {len(line['window'])} are printed")
+        # What is left is aborted before the window is told.
         stores = [access for task in self.tasks.values() for access in task.accesses if access.is_store]
         memory = self.memory.copy() if stores else self.memory
         memory.undo(stores)
@@ -592,6 +675,10 @@ class Machine:
             raise WrongLine(f"the end is {end}, and {left} tasks are left")
         if left and (end == "limit") != (self.commits == self.head["commits"]):
             raise WrongLine(f"the end is {end}, and {self.commits} of {self.head['commits']} tasks have committed")
+        if self.commits > self.head["commits"]:
+            raise WrongLine(f"{self.commits} tasks have committed, and {self.head['commits']} may")
+        if end == "limit":
+            self.confirmed.add("commits")
         if end == "trap":
             found = [list(task.name or ()) for task, cause in self.traps.items()
                      if (cause, task.pc) == (line["cause"], line["pc"])]

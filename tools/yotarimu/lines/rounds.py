@@ -1,76 +1,136 @@
-"""Rounds in lockstep, as the head of lines has them: which act stands where, and when the least task is brought on."""
+"""Rounds in lockstep, as the head of lines has them: which act is where, and when the least task is advanced."""
 from __future__ import annotations
 
-from typing import Any, Dict
+from typing import Any, Callable, Dict, Set
 
 from yotarimu.courses.schedules import Act, Shuffle, round_of
 from yotarimu.lines.fields import WrongLine
 
-# What brings the least task on, by how that stands.
-BRINGS_ON = ("dispatch", "step", "commit", "split")
+# What advances a least task that waits, if it was spilled and if not.
+ADVANCES = ("split", "dispatch")
+
+
+def nothing(_act: Act) -> bool:
+    """No act is known to be asked for."""
+    return False
+
+
+def is_served() -> bool:
+    """No least task is known to wait."""
+    return False
 
 
 class Rounds:
-    """The acts of the rounds, one round after another. A round is barren where it brought no commit: `longest` is the
-    longest row of such rounds. Behind `most` of them in a row the least task is brought on, in so many `advances` in
-    all."""
+    """The acts of the rounds, one round after another.
 
-    def __init__(self, head: Dict[str, Any]) -> None:
-        # So many rounds there are, and so many barren ones in a row bring the least task on.
-        self.count, self.most, self.shuffle = head["rounds"], head["barren"], Shuffle(head["seed"])
+    A round is starved if it has no commit and the least task waits at its end, in a queue or in a block. After `most`
+    starved rounds in a row the least task is advanced until it is dispatched, which is a round of its own. The least
+    task stays the least until it commits, and once dispatched it stays dispatched. So it is enough to look for it when
+    `most` rounds in a row had no commit: if it waits then, it waited in all of them."""
+
+    def __init__(self, head: Dict[str, Any], is_asked: Callable[[Act], bool] = nothing,
+                 is_least_waiting: Callable[[], bool] = is_served) -> None:
+        # Whether an act is asked for as the machine is, and whether the least task waits.
+        self.is_asked, self.is_least_waiting = is_asked, is_least_waiting
+        # Called with each step that is passed over, before the next line is followed.
+        self.note_passed: Callable[[Act], None] = lambda act: None
+        # The number of the act after the last one that was told or passed over, how many were passed over since one
+        # was told, and whether a commit was.
+        self.next, self.passed, self.is_commit_passed = 1, 0, False
+        self.count, self.most, self.shuffle = head["rounds"], head["starved"], Shuffle(head["seed"])
         self.acts = self.shuffle.shuffle(round_of(head["tiles"], head["cores"]))
-        # How many rounds came before the one that goes on or comes next, and the number of the act that it begins with.
+        # How many rounds came before the one that goes on or comes next, and the number of its first act.
         self.number, self.first = 0, 1
-        # How many tasks had committed where it began, and how many have by now.
+        # How many tasks had committed when it began, and how many have by now.
         self.begun = self.commits = 0
-        # How many rounds in a row brought no commit by now, and at most; how often the least task was brought on.
-        self.barren = self.longest = self.advances = 0
-        self.is_brought_on = False
-        # How many rounds were begun, up to the last act that was told: what brings the least task on begins none, and a
-        # run may end with it.
+        # How many rounds in a row had no commit by now, and at most.
+        self.without_commit = self.longest = 0
+        # How many acts advanced the least task, in how many rounds of their own, and whether one goes on or is over.
+        self.advances = self.advance_rounds = 0
+        self.is_advancing = self.is_advanced = False
+        # The numbers of the rounds that advance it.
+        self.advance_numbers: Set[int] = set()
+        # How many rounds were begun, up to the last act that was told.
         self.begun_rounds = 0
 
     def need(self, line: Dict[str, Any]) -> None:
-        """Holds an act that is told against the one that stands there."""
-        while not self.is_brought_on and line["at"] >= self.first + len(self.acts):
+        """Holds an act that is told against the one that is there."""
+        if self.is_advanced:
+            self.end_advance()
+        while not self.is_advancing and line["at"] >= self.first + len(self.acts):
+            self.pass_over(self.first + len(self.acts))
             self.end_round()
-        if self.is_brought_on:
+        if self.is_advancing:
             self.need_advance(line)
         else:
+            self.pass_over(line["at"])
             self.need_act(line)
+        self.begun_rounds = self.number + 1
+        self.next, self.passed, self.is_commit_passed = line["at"] + 1, 0, False
+
+    def pass_over(self, end: int) -> None:
+        """Holds that none of the acts up to a number was asked for. Between two that are told nothing changes, so it is
+        enough to look at one round of them."""
+        for number in range(self.next, end):
+            act = self.acts[number - self.first]
+            if self.passed < len(self.acts):
+                if self.is_asked(act):
+                    raise WrongLine(f"act {number}, `{act}`, was asked for, and isn't printed")
+                self.passed += 1
+                self.is_commit_passed |= act.word == "commit"
+            if act.word == "step":
+                self.note_passed(act)
+        self.next = max(self.next, end)
 
     def end_round(self) -> None:
-        """Goes on to the next round, whose acts are shuffled; too many barren ones bring the least task on."""
-        self.barren = self.barren + 1 if self.commits == self.begun else 0
-        self.longest = max(self.longest, self.barren)
+        """Goes on to the next round, whose acts are shuffled; after too many starved ones the least task is
+        advanced."""
+        self.without_commit = self.without_commit + 1 if self.commits == self.begun else 0
+        self.longest = max(self.longest, self.without_commit)
         self.number, self.first, self.begun = self.number + 1, self.first + len(self.acts), self.commits
+        if self.number < self.count and self.without_commit == self.most and self.is_least_waiting():
+            self.is_advancing = True
+            self.advance_rounds += 1
+            self.advance_numbers.add(self.number)
+        else:
+            self.acts = self.shuffle.shuffle(self.acts)
+
+    def end_advance(self) -> None:
+        """Goes on to the round after the least task was advanced."""
+        self.number, self.without_commit = self.number + 1, 0
+        self.is_advancing = self.is_advanced = False
         self.acts = self.shuffle.shuffle(self.acts)
-        if self.barren == self.most:
-            self.barren, self.is_brought_on = 0, True
 
     def end_all(self) -> None:
         """Ends the rounds that are left, whose acts weren't asked for."""
-        while self.number < self.count and not self.is_brought_on:
+        if self.is_advanced:
+            self.end_advance()
+        while self.number < self.count and not self.is_advancing:
+            self.pass_over(self.first + len(self.acts))
             self.end_round()
 
+    def acts_left(self) -> list[Act]:
+        """The acts of a round that are left when the run ends in it."""
+        return [] if self.is_advancing else self.acts[self.next - self.first:]
+
     def need_act(self, line: Dict[str, Any]) -> None:
-        """Holds an act against the one that stands at its place in the round."""
+        """Holds an act against the one that is at its place in the round."""
         if self.number >= self.count:
             raise WrongLine(f"act {line['at']} is of no round, as there are {self.count}")
-        self.begun_rounds = self.number + 1
         act: Act = self.acts[line["at"] - self.first]
         if (line["do"], line.get("tile"), line.get("core") if act.core is not None else None) != (
                 act.word, act.tile, act.core):
-            raise WrongLine(f"act {line['at']} of these rounds is `{act}`, and another one is told")
+            raise WrongLine(f"act {line['at']} of these rounds is `{act}`, and another one is printed")
+        if act.word == "commit" and self.is_commit_passed:
+            raise WrongLine(f"act {line['at']} commits, and so would have one before it that isn't printed")
 
     def need_advance(self, line: Dict[str, Any]) -> None:
-        """Holds an act against those that bring the least task on."""
-        if line["at"] != self.first or line["do"] not in BRINGS_ON:
-            raise WrongLine(f"act {self.first} brings the least task on, and another one is told")
-        self.first, self.advances, self.begun_rounds = self.first + 1, self.advances + 1, self.number
+        """Holds an act against those that advance the least task."""
+        if line["at"] != self.first or line["do"] not in ADVANCES:
+            raise WrongLine(f"act {self.first} advances the least task, and another one is printed")
+        self.first, self.advances = self.first + 1, self.advances + 1
+        self.is_advanced = line["do"] == "dispatch"
 
     def note_commits(self, commits: int) -> None:
-        """Takes how many tasks have committed behind an act: a commit ends the bringing on."""
+        """Takes how many tasks have committed after an act."""
         self.commits = commits
-        if self.is_brought_on and commits != self.begun:
-            self.begun, self.is_brought_on = commits, False

@@ -10,7 +10,7 @@ from collections.abc import Iterable, Sequence
 from typing import Callable, Optional, TypeVar
 
 from yotarimu.common.sentences import SENTENCES, fill
-from yotarimu.common.text import count_text, printable
+from yotarimu.common.text import count_text, printable, signed
 from yotarimu.images.image import DATA, Limits
 from yotarimu.images.listing import NO_LISTING, Listing
 from yotarimu.lines.causes import Cause, CauseSentences, causes_of
@@ -163,12 +163,12 @@ def of_go(told: ToldLine, _machine: Machine, listing: Listing, _limits: Optional
 
 def of_load(told: ToldLine, machine: Machine, listing: Listing, _limits: Optional[Limits]) -> Values:
     """What is filled in of a load."""
-    return {"access": access_told(told.line, machine, listing)}
+    return {"old": signed(told.line["old"], told.line["bytes"]), "access": access_told(told.line, machine, listing)}
 
 
 def of_store(told: ToldLine, machine: Machine, listing: Listing, _limits: Optional[Limits]) -> Values:
     """What is filled in of a store."""
-    return {"value": its(told.access).value, "access": access_told(told.line, machine, listing)}
+    return {"value": signed(its(told.access).value, told.line["bytes"]), **of_load(told, machine, listing, _limits)}
 
 
 def access_told(line: Line, machine: Machine, listing: Listing) -> str:
@@ -206,11 +206,11 @@ def trap_told(line: Line, limits: Optional[Limits]) -> str:
     return fill(SENTENCES["trap"], cause=line["cause"], meaning=cause_told(line["cause"], limits)[0])
 
 
-# ---- what was taken back, and what moved
+# ---- what was aborted, and what moved
 
 
 def back_told(told: ToldLine, machine: Machine, listing: Listing) -> str:
-    """Which tasks were taken back, the least first, why, and which of them are gone."""
+    """Which tasks were aborted, the least first, why, and which of them are gone."""
     count = len(told.taken)
     if not count:
         return ""
@@ -222,7 +222,7 @@ def back_told(told: ToldLine, machine: Machine, listing: Listing) -> str:
 
 
 def taken_told(cause: Cause, sentences: CauseSentences) -> str:
-    """A task that was taken back, with the work that this undid, and why."""
+    """A task that was aborted, with the work that this undid, and why."""
     texts, taken = SENTENCES["taken"], cause.taken
     return fill(texts["worked" if taken.work else "idle"], task=label_of(taken.task), cause=sentences.sentence(cause),
                 instructions=count_text(taken.work, "instruction"),

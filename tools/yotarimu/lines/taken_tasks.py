@@ -11,6 +11,7 @@ from yotarimu.images.listing import Listing
 from yotarimu.lines.causes import Cause, Kind, CauseSentences, causes_of
 from yotarimu.lines.filters import rule_of
 from yotarimu.lines.reader import open_lines
+from yotarimu.lines.replay import unconfirmed_sentence
 from yotarimu.lines.sentences import label_of
 
 # So many are told as text; of more than that it says how many more they are.
@@ -47,8 +48,9 @@ class Run:
         # The rows come first, as the end is noted once all of them were read.
         self.path, self.found = path, list(taken_rows(path, image, listing, self))
 
-    # What the lines' last one tells.
+    # The log's last line, and which settings no line confirms.
     end: Dict[str, Any]
+    unconfirmed: str
 
 
 def taken_rows(path: str, image: Image, listing: Listing, run: Run) -> Iterator[TakenRow]:
@@ -60,11 +62,11 @@ def taken_rows(path: str, image: Image, listing: Listing, run: Run) -> Iterator[
             if told.taken:
                 for cause in causes_of(told, rule):
                     yield row_of(cause, told.line["n"], sentences)
-        run.end = watched.end or {}
+        run.end, run.unconfirmed = watched.end or {}, unconfirmed_sentence(watched.machine.unconfirmed())
 
 
 def row_of(cause: Cause, event: int, sentences: CauseSentences) -> TakenRow:
-    """The row of a task that was taken back, from its cause."""
+    """The row of a task that was aborted, from its cause."""
     task, root = cause.task, cause.root
     return TakenRow(
         event=event, task=label_of(task), label=sentences.listing.address_text(task.entry), timestamp=task.timestamp,
@@ -80,20 +82,20 @@ def text_of(run: Run) -> List[str]:
     """What is told to people."""
     count = len(run.found)
     if not count:
-        return [f"{run.path}: no task was taken back, and {run.end['journal']:,} committed."]
+        return [f"{run.path}: no task was aborted, and {run.end['journal']:,} committed.", "", run.unconfirmed]
     was = "task was" if count == 1 else "tasks were"
-    lines = [f"{run.path}: {count:,} {was} taken back, and {run.end['journal']:,} committed.", "",
+    lines = [f"{run.path}: {count:,} {was} aborted, and {run.end['journal']:,} committed.", "",
              f"{'event':>7}  {'task':<12} {'work':>6}  why"]
     for it in run.found[:MOST_TOLD]:
         gone = " (discarded)" if it.is_discarded else ""
         lines.append(f"{it.event:>7}  {it.task:<12} {it.work:>6}  {it.label}{gone}: {it.why}")
     if count > MOST_TOLD:
         lines.append(f"{'':>7}  and {count - MOST_TOLD:,} more; --csv has them all")
-    return [*lines, "", *counts_told(run)]
+    return [*lines, "", *counts_told(run), "", run.unconfirmed]
 
 
 def counts_told(run: Run) -> List[str]:
-    """Lines that count the tasks which were taken back, by what took each and by what is at the root of it."""
+    """Lines that count the tasks which were aborted, by what took each and by what is at the root of it."""
     own = collections.Counter((it.kind, it.shares) for it in run.found)
     lines = ["By what took each:", ""]
     for kind, told in KINDS.items():
@@ -117,7 +119,7 @@ def plain_rows(run: Run) -> List[Dict[str, Any]]:
 
 
 def write_rows(run: Run, file: TextIO) -> None:
-    """Each task that was taken back as a row of CSV."""
+    """Each task that was aborted as a row of CSV."""
     names = [field.name for field in dataclasses.fields(TakenRow)]
     sink = csv.writer(file, lineterminator="\n")
     sink.writerow(names)

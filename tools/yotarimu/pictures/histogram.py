@@ -3,8 +3,7 @@ from __future__ import annotations
 
 from collections.abc import Sequence
 
-from yotarimu.pictures.plot import BOTTOM, HEIGHT, LEFT, RIGHT, TOP, WIDTH, Axis, picture_with_axes, number
-from yotarimu.pictures.tree import COLOURS
+from yotarimu.pictures.plot import BOTTOM, COLOURS, HEIGHT, LEFT, RIGHT, TOP, WIDTH, Axis, picture_with_axes, number
 
 # Between bars some of the stretch stays free.
 GAP = 0.1
@@ -26,4 +25,4 @@ def rectangle(bar: tuple[int, int, int], x_axis: Axis, y_axis: Axis) -> str:
     free, top, bottom = GAP * (right - left), y_axis.place(count), y_axis.place(0)
     values = number(first) if first == last else f"{number(first)} to {number(last)}"
     return (f'<rect x="{left + free / 2:.1f}" y="{top:.1f}" width="{right - left - free:.1f}" '
-            f'height="{bottom - top:.1f}" fill="{COLOURS[0]}"><title>{values}: {number(count)}</title></rect>')
+            f'height="{bottom - top:.1f}" fill="{COLOURS[1]}"><title>{values}: {number(count)}</title></rect>')

@@ -30,7 +30,7 @@ CUT = "Here the text breaks off."
 
 
 class Totals:
-    """What was counted so far: the work of committed tasks and of those taken back, the journal, and the output."""
+    """What was counted so far: the work of committed tasks and of those aborted, the journal, and the output."""
 
     def __init__(self) -> None:
         self.useful = self.wasted = self.emitted = 0

@@ -4,8 +4,8 @@ from __future__ import annotations
 import dataclasses
 import math
 from collections.abc import Iterator, Sequence
-from xml.sax.saxutils import escape
 
+from yotarimu.common.text import escape
 from yotarimu.images.listing import Listing
 from yotarimu.images.serial_machine import Domain, Machine, Task
 from yotarimu.reports.report import Report

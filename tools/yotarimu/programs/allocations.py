@@ -41,7 +41,7 @@ class Call(NamedTuple):
 
 
 class Refuser:
-    """A library that counts allocations, and refuses one. It stands in a folder that goes with this."""
+    """A library that counts allocations, and refuses one. It is in a folder that is removed with this."""
 
     def __init__(self) -> None:
         self.folder = tempfile.TemporaryDirectory(prefix="fractal-")
@@ -86,7 +86,7 @@ class Refuser:
         return count, said
 
     def refused_in_turn(self, call: Call, count: int, whole: Answer) -> Iterator[tuple[int, Optional[str], Answer]]:
-        """The number of each allocation, with what came of the call where it was refused, and its answer."""
+        """The number of each allocation, with the outcome of the call in which it was refused, and its answer."""
 
         def outcome(number: int) -> tuple[int, Optional[str], Answer]:
             said = self.answer(call, REFUSED_ALLOCATION=str(number))
@@ -122,7 +122,7 @@ def call_of(name: str, program: pathlib.Path) -> Call:
 
 def refuse_each(name: str, program: pathlib.Path,
                 library: Refuser) -> tuple[int, collections.Counter[Optional[str]], list[str]]:
-    """How many allocations a schedule makes, how many runs came to what, and what was wrong, a text each."""
+    """How many allocations a schedule makes, how many runs had which outcome, and what was wrong, a text each."""
     call = call_of(name, program)
     count, whole = library.count(call)
     if whole.status != 0:

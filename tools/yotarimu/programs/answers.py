@@ -15,8 +15,6 @@ from yotarimu.reports.report import read_report
 
 USAGE = b"fault usage\n"
 MOST_INPUT = 67_108_864
-# Inputs of more bytes are for the built program alone: an unproved one takes half a minute for each.
-MOST_UNPROVED = 1_000_000
 MOST_TASKS = 65_536
 # li a7, 1; ecall; ecall; li a7, 0; ecall: a task that makes two children.
 TWINS = (0x00100893, 0x00000073, 0x00000073, 0x00000893, 0x00000073)
@@ -183,7 +181,7 @@ def of_ends() -> Iterator[Case]:
 
 
 def trace_text(events: Sequence[tuple[int, ...]], taken_back: Optional[Mapping[int, int]] = None) -> str:
-    """What `trace` writes of these events: five numbers of each of the last 16, and how many tasks were taken back by
+    """What `trace` writes of these events: five numbers of each of the last 16, and how many tasks were aborted by
     accesses to each of the first 16 lines, by their numbers; 16 stands for all further lines."""
     numbers = [number for event in events[-16:] for number in event]
     lines = [(taken_back or {}).get(line, 0) for line in range(17)]

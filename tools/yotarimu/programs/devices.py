@@ -4,6 +4,7 @@ from __future__ import annotations
 
 import dataclasses
 import os
+import pathlib
 import subprocess
 from collections.abc import Iterator, Sequence
 from typing import IO, Optional, Union
@@ -11,7 +12,7 @@ from typing import IO, Optional, Union
 from yotarimu.images.image import DATA_BYTES
 from yotarimu.programs import limits
 from yotarimu.programs.answers import with_field, stored_file
-from yotarimu.programs.program import LAUNCHER, PROGRAM, Answer
+from yotarimu.programs.program import LAUNCHER, Answer, answering_program
 
 UNREAD, UNWRITTEN = 6, 7
 # Enough address space to start the program, and less than the largest data has, or room for a million turns.
@@ -75,7 +76,8 @@ def unread_output(words: Sequence[str], given: bytes) -> Answer:
 
 def scarce(words: Sequence[str], given: bytes) -> Answer:
     """The program has little memory."""
-    return limits.answer(PROGRAM, words, given, SCARCE) or Answer(limits.NOT_LOADED, b"")
+    program = pathlib.Path(answering_program().command[0])
+    return limits.answer(program, words, given, SCARCE) or Answer(limits.NOT_LOADED, b"")
 
 
 INPUT, FULL, GONE, MEMORY = "an unreadable input", "a full device", "a pipe without a reader", "little memory"

@@ -21,7 +21,7 @@ def words_of(schedule: str) -> list[str]:
 
 
 def watched_words_of(schedule: str) -> list[str]:
-    """The words with which the second program tells a schedule: those of the first one, unless it has its own."""
+    """The arguments with which `fractal_watch` plays a schedule: those of `fractal_sim`, unless it has its own."""
     path = EXAMPLES_FOLDER / schedule / "watch_words"
     return words_in(path) if path.exists() else words_of(schedule)
 
@@ -30,7 +30,7 @@ def words_in(path: pathlib.Path) -> list[str]:
     """The words of a call that a file has."""
     words = read_text(path).split()
     if not words or not all(word.isascii() and word.isprintable() for word in words):
-        raise Refusal(f"{path}: these are no words of a call, as `steps --tiles 2` is one.")
+        raise Refusal(f"{path}: these aren't arguments of a call, as `steps --tiles 2` is one.")
     return words
 
 

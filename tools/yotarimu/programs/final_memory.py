@@ -1,4 +1,4 @@
-"""The memory that a run leaves, as the second program tells it."""
+"""The memory that a run leaves, as `fractal_watch` prints it."""
 from __future__ import annotations
 
 from typing import NamedTuple
@@ -7,7 +7,7 @@ from yotarimu.common.outcome import Refusal
 from yotarimu.programs.calls import Calls
 from yotarimu.programs.program import STATUSES
 
-# What the second program is asked for: the data memory that the events of the least task leave, and nothing else.
+# The arguments of `fractal_watch` for the data memory that the events of the least task leave, and nothing else.
 LEAST = ("memory", "least")
 
 
@@ -22,5 +22,5 @@ def memory_left(second: Calls, image: bytes) -> FinalMemory:
     status, data = second.call(LEAST, image)
     end = next((end for end, its_status in STATUSES.items() if its_status == status), None)
     if end is None:
-        raise Refusal(f"`watch {' '.join(LEAST)}` ended with status {status}; ./fractal help tells what that means.")
+        raise Refusal(f"`watch {' '.join(LEAST)}` ended with status {status}; ./fractal help says what that means.")
     return FinalMemory(data, end)

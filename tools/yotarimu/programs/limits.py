@@ -27,11 +27,13 @@ ENVIRONMENT = {"MALLOC_TOP_PAD_": "0", "MALLOC_ARENA_MAX": "1"}
 STACK = 1 << 20
 
 
-def answer(program: FilePath, words: Sequence[str], data: bytes, limit: Optional[int] = None) -> Optional[Answer]:
-    """The status of a call under a limit of address space, and what it wrote; None where the system can't start it."""
+def answer(program: FilePath, words: Sequence[str], data: bytes, limit: Optional[int] = None,
+           stack: int = STACK) -> Optional[Answer]:
+    """The status of a call under limits of address space and of stacks, and what it wrote; None if the system can't
+    start it."""
 
     def bound() -> None:
-        resource.setrlimit(resource.RLIMIT_STACK, (STACK, resource.getrlimit(resource.RLIMIT_STACK)[1]))
+        resource.setrlimit(resource.RLIMIT_STACK, (stack, resource.getrlimit(resource.RLIMIT_STACK)[1]))
         if limit is not None:
             resource.setrlimit(resource.RLIMIT_AS, (limit, resource.getrlimit(resource.RLIMIT_AS)[1]))
 
@@ -84,9 +86,9 @@ class Call:
                 scarce = middle
         return ample
 
-    def outcome(self, limit: int) -> Outcome:
-        """What came of the call under a limit."""
-        said = answer(self.program, self.words, self.data, limit)
+    def outcome(self, limit: int, stack: int = STACK) -> Outcome:
+        """What came of the call under these limits."""
+        said = answer(self.program, self.words, self.data, limit, stack)
         if said is None or said == (NOT_LOADED, b""):
             return Outcome(NOT_STARTED, said)
         if self.is_whole(said):

@@ -11,11 +11,13 @@ from yotarimu.common.places import EXAMPLES_FOLDER
 from yotarimu.images.image import image_bytes
 from yotarimu.images.loads import generate
 from yotarimu.programs.examples import SCHEDULES
-from yotarimu.programs.limits import NO_MEMORY, OUT_OF_MEMORY, Call
+from yotarimu.programs.limits import MOST, NO_MEMORY, OUT_OF_MEMORY, WHOLE, Call
 
 EXAMPLE = "nested"
 WALK = ("walk", "7", "2000")
-NAMES = ("run", "workers", "save", "load", "check", "steps", "trace")
+NAMES = ("run", "workers", "save", "load", "check", "steps", "trace", "stack")
+# The stack that each run has enough of, whatever the number of workers, as docs/guest/TASKS.md says.
+LEAST_STACK, WORKERS = 256 << 10, ("0", "1", "2", "4", "8", "16")
 # Room for the entries of so many tasks is made before a run; with room for a million, little else shows.
 FEW = ("--commits", "10000")
 # After so many commits the example can be saved, and after so many it can't.
@@ -61,6 +63,8 @@ def schedule_of(name: str, schedule: str) -> NamedCall:
 
 def fall_of(name: str, program: pathlib.Path) -> tuple[collections.Counter[Optional[str]], list[str]]:
     """How many runs of a name's calls came to what, and what was wrong, a text each."""
+    if name == "stack":
+        return on_least_stack(program)
     counts: collections.Counter[Optional[str]] = collections.Counter()
     faults = []
     for told, words, data in calls_of(name, program):
@@ -75,6 +79,19 @@ def fall_of(name: str, program: pathlib.Path) -> tuple[collections.Counter[Optio
     show_limit("")
     if counts[OUT_OF_MEMORY] == 0:
         faults.append(f"status {NO_MEMORY} never came")
+    return counts, faults
+
+
+def on_least_stack(program: pathlib.Path) -> tuple[collections.Counter[Optional[str]], list[str]]:
+    """The same of runs with ample memory and the least stack."""
+    counts: collections.Counter[Optional[str]] = collections.Counter()
+    faults = []
+    data = (EXAMPLES_FOLDER / EXAMPLE / "image.bin").read_bytes()
+    for workers in WORKERS:
+        kind = Call(program, ("run", "--workers", workers), data).outcome(MOST, LEAST_STACK).kind
+        counts[kind] += 1
+        if kind is not WHOLE:
+            faults.append(f"{EXAMPLE} with {workers} workers, on a stack of {LEAST_STACK:,} bytes: {kind or 'a fault'}")
     return counts, faults
 
 

@@ -1,17 +1,18 @@
 """A long run in pieces: each ends at a commit limit, and the next begins with the image that `save` made there.
 
-All of it stands in one folder: of each piece its image and, once it was run, its report. The tasks that pend at its end
-have no names in a saved image, so the piece is run again by the plain reading of its instructions, and what pends is
-held against the image.
+One folder has all of it: of each piece its image and, once it was run, its report. The tasks pending at its end have no
+names in a saved image, so the piece is run again by the plain reading of its instructions, and the pending tasks are
+compared with the image.
 """
 from __future__ import annotations
 
 import dataclasses
 import pathlib
+import re
 from collections.abc import Iterator, Mapping, Sequence
 from typing import Optional
 
-from yotarimu.common.files import FilePath, read_bytes, write_whole
+from yotarimu.common.files import FilePath, need_plain, read_bytes, write_whole
 from yotarimu.common.outcome import Refusal
 from yotarimu.images.image import read_image
 from yotarimu.images.serial_machine import Machine, Task
@@ -22,6 +23,8 @@ MOST_COMMITS = 1_000_000
 # As many tasks may an image have.
 MOST_TASKS = 65_536
 IMAGE, REPORT, WORDS = "image", "report", "words"
+# What a call that was killed leaves of a file that it was writing, by `write_whole`.
+UNFINISHED = re.compile(r"\.(words|report|[0-9]{4,}\.(image|report))\.[a-z0-9_]{8}")
 
 
 class DamagedPiece(Refusal):
@@ -40,7 +43,7 @@ class Piece:
     written: bytes
     report: Report
     is_last: bool
-    # The names of the tasks that pend at its end, once they were held against the next image.
+    # The names of the tasks that are pending at its end, once they were compared with the next image.
     pending: list[Name] = dataclasses.field(default_factory=list)
 
 
@@ -50,21 +53,25 @@ class Folder:
     def __init__(self, path: FilePath, image: bytes, words: Sequence[str]) -> None:
         self.path = pathlib.Path(path)
         if self.path.exists() and not self.path.is_dir():
-            raise Refusal(f"{path}: this is no folder.")
+            raise Refusal(f"{path}: this isn't a folder.")
         self.path.mkdir(parents=True, exist_ok=True)
-        self.keep({self.name(WORDS): " ".join(words).encode() + b"\n", self.name(IMAGE, 1): image})
+        for path in self.path.iterdir():
+            if UNFINISHED.fullmatch(path.name):
+                path.unlink()
+        # The image comes first: a folder that has it alone is one whose beginning was interrupted.
+        self.keep({self.name(IMAGE, 1): image, self.name(WORDS): " ".join(words).encode() + b"\n"})
 
     def name(self, kind: str, number: Optional[int] = None) -> pathlib.Path:
         """The file of a kind, of a piece or of the whole."""
         return self.path / (kind if number is None else f"{number:04}.{kind}")
 
     def keep(self, files: Mapping[pathlib.Path, bytes]) -> None:
-        """Writes files that are missing; one that is there has to say the same."""
+        """Writes files that are missing; an existing one has to be the same."""
         missing = {}
         for path, data in files.items():
             if not path.exists():
                 missing[path] = data
-            elif path.is_dir() or read_bytes(path) != data:
+            elif path.is_dir() or read_bytes(need_plain(path)) != data:
                 raise Refusal(f"{path}: this folder has the pieces of another run; name a new folder.")
         if self.name(IMAGE, 1) in missing and any(self.path.iterdir()):
             raise Refusal(f"{self.path}: this folder holds other files; name a new folder.")

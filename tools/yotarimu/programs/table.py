@@ -8,9 +8,11 @@ from typing import Optional, Union
 
 from yotarimu.common.outcome import Refusal
 from yotarimu.common.words import number_in
-from yotarimu.programs.program import LAUNCHER
+from yotarimu.programs.calls import limit_told
+from yotarimu.programs.program import LAUNCHER, need_launcher
 
 MOST_VALUE = 2 ** 32 - 1
+NO_MEMORY = 5
 # What an option may be: a number, or one of some words.
 Value = Union[int, str]
 
@@ -94,12 +96,20 @@ class Table:
                 self.version = name
 
 
+def why_no_answer(status: int) -> str:
+    """Why a program wrote nothing, by its status."""
+    limit = f"; {limit_told()}" if status == NO_MEMORY else ""
+    return f"the program ended with status {status}: {Table().statuses.get(status, 'an unknown one')}{limit}."
+
+
 def table_lines() -> list[str]:
     """The lines of the launcher's table."""
+    need_launcher()
     try:
-        done = subprocess.run([LAUNCHER, "table"], capture_output=True, text=True, check=True, stdin=subprocess.DEVNULL)
+        done = subprocess.run([LAUNCHER, "dev", "table"], capture_output=True, text=True, check=True,
+                              stdin=subprocess.DEVNULL)
     except subprocess.CalledProcessError as error:
-        raise Refusal(f"{LAUNCHER} tells no table: it ended with status {error.returncode}.") from None
+        raise Refusal(f"{LAUNCHER} prints no table: it ended with status {error.returncode}.") from None
     return done.stdout.splitlines()
 
 

@@ -39,7 +39,7 @@ class Pending(NamedTuple):
 @dataclasses.dataclass(frozen=True)
 class WrittenRun:
     """An image as bytes and as read, and a report of a run of it as text and as read. The program's calls and options
-    are those by which the run is made again; where it is told why there is no program, all turns are run again. The
+    are those by which the run is made again; where it is told why there isn't a program, all turns are run again. The
     options have the budget too."""
     data: bytes
     image: Image
@@ -64,7 +64,7 @@ class WrittenRun:
         machine, start, why = self.before(turn)
         task = machine.tasks.get(name) if turn > len(report.entries) else machine.task_of(report.entries[turn - 1])
         if task is None or task.turn:
-            raise Refusal(f"this is no report of a run of the image: its turn {turn} isn't one that the image allows; "
+            raise Refusal(f"this isn't a report of a run of the image, which doesn't allow its turn {turn}; "
                           "./fractal check says more.")
         run = AskingRun(machine, task)
         run.go_to_end()
@@ -76,7 +76,7 @@ class WrittenRun:
         """Refuses a run of a task that ends otherwise than the report tells."""
         found = None if run.trap is None else Trap(run.trap.cause, run.pc, run.task.name)
         if found != (self.report.trap if run.turn > len(self.report.entries) else None):
-            raise Refusal(f"with these options the task {run.task.name} doesn't end as the report tells; "
+            raise Refusal(f"with these options the task {run.task.name} doesn't end as the report says; "
                           "./fractal check says more.")
 
     def before(self, turn: int) -> Reached:
@@ -90,7 +90,7 @@ class WrittenRun:
                 return Reached(machine, start, "")
         machine = Machine(self.image, self.budget)
         if wrong := machine.follow(shown(entries[:turn - 1])):
-            raise Refusal(f"this is no report of a run of the image: {wrong}.")
+            raise Refusal(f"this isn't a report of a run of the image: {wrong}.")
         return Reached(machine, 0, why)
 
     def saved_machine(self, turns: int) -> Union[Machine, str]:
@@ -105,7 +105,7 @@ class WrittenRun:
         saved = read_image(written, "what `save` wrote")
         names = names_in(saved, pending_in(self.whole, turns, saved))
         if names is None:
-            return "no report tells which of the saved tasks it is"
+            return "no report says which of the saved tasks it is"
         return Machine.after(turns, saved, names, self.budget)
 
     @functools.cached_property

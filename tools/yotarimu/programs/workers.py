@@ -22,7 +22,7 @@ def answers_of(program: pathlib.Path, image: bytes, words: Sequence[str], runs: 
                name: str) -> collections.Counter[Answer]:
     """How often each status and text came."""
     counts: collections.Counter[Answer] = collections.Counter()
-    calls = Calls(program)
+    calls = Calls((str(program),))
     for done, (_, answer) in enumerate(calls.each(lambda _: calls.call(words, image), range(runs), jobs), 1):
         counts[answer] += 1
         if is_at_terminal():
@@ -35,7 +35,7 @@ def fault_of(program: pathlib.Path, image: bytes, answer: Answer) -> Optional[st
     status, report = answer
     if status != STATUSES.get(end_of(report)):
         return f"ended with status {status} and `{report[-60:].decode('ascii', 'backslashreplace').strip()}`"
-    status, told = Calls(program).call(["check"], image + report)
+    status, told = Calls((str(program),)).call(["check"], image + report)
     if status != 0:
         return f"was refused: {told.decode('ascii', 'replace').strip() or f'`check` ended with status {status}'}"
     return None
@@ -49,13 +49,13 @@ def fault_of_saved(program: pathlib.Path, commits: int, answer: Answer) -> Optio
     if status != LIMIT:
         return f"`save --commits {commits}` ended with status {status}"
     read_image(written, "a saved image")
-    fault = fault_of(program, written, Calls(program).call(["run"], written))
+    fault = fault_of(program, written, Calls((str(program),)).call(["run"], written))
     return fault and f"an image that was saved after {commits} commits {fault}"
 
 
 def try_runs(told: str, program: pathlib.Path, image: bytes, words: Sequence[str], runs: int, jobs: int,
              fault_of_answer: Callable[[Answer], Optional[str]]) -> bool:
-    """Whether all runs of these words are right; a line tells."""
+    """Runs these arguments, prints a line, and returns whether all runs are right."""
     counts = answers_of(program, image, words, runs, jobs, told)
     found = [(count, fault_of_answer(answer)) for answer, count in counts.items()]
     faults = [f"{count} of {runs} {fault}" for count, fault in found if fault]
@@ -65,9 +65,9 @@ def try_runs(told: str, program: pathlib.Path, image: bytes, words: Sequence[str
 
 
 def failures_of(name: str, program: pathlib.Path, runs: int, jobs: int) -> int:
-    """How many of the ways to run an example with host threads went wrong; a line tells of each."""
+    """Prints a line for each way to run an example with host threads, and returns how many went wrong."""
     image = (EXAMPLES_FOLDER / name / "image.bin").read_bytes()
-    # Half of the example's commits; none of an example with one. The first line of a report is no entry.
+    # Half of the example's commits; none of an example with one. The first line of a report isn't an entry.
     commits = ((EXAMPLES_FOLDER / name / "report").read_bytes().partition(b"output ")[0].count(b"\n") - 1) // 2
     failed = 0
     for workers in WORKERS:

@@ -1,1 +1,1 @@
-"""Reports: read, told in words for people and as plain data for programs, and what is wrong with a line."""
+"""Reports: read, explained in words for people and as plain data for programs, and what is wrong with a line."""

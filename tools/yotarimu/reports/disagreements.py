@@ -50,12 +50,12 @@ class Disagreement:
         return None if self.machine.is_next(task) else self.later(task)
 
     def missing(self, name: Name) -> str:
-        """Why there is no such task."""
+        """Why no such task."""
         if name.creator > self.machine.turns:
             return f"no task is named {name} before turn {name.creator:,} was taken"
         count = sum(other.creator == name.creator for other in self.machine.tasks)
         whose = "the image has" if name.creator == 0 else f"the task of turn {name.creator:,} made"
-        return f"there is no task {name}: {whose} {'one task' if count == 1 else f'{count:,} tasks'}"
+        return f"no task {name}: {whose} {'one task' if count == 1 else f'{count:,} tasks'}"
 
     def later(self, task: Task) -> str:
         """Which task comes before another one that pends."""
@@ -102,7 +102,7 @@ class Disagreement:
         if place == self.image.window_words:
             return f"the window has {words_text(place)}, so the end is wanted"
         if address != wanted:
-            return f"the word {place} of the window, counted from 0, stands at {wanted:08x}"
+            return f"the word {place} of the window, counted from 0, is at {wanted:08x}"
         held = self.machine.memory[address - DATA:address - DATA + 4][::-1].hex()
         return None if self.is_lost or value == int(held, 16) else f"the memory holds {held} there at the end"
 

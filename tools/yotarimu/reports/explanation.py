@@ -12,7 +12,7 @@ from yotarimu.images.serial_machine import CALL, FETCH, REGISTERS, TIMESTAMP, Ma
 from yotarimu.reports.meanings import ENDS, REPLIES, cause_told, tasks_told
 from yotarimu.reports.report import Report, Trap
 
-# How far below the stack an address is told as one.
+# How far below the stack an address is reported as below it.
 BELOW_STACK = 65_536
 REGISTERS_IN_LINE = 5
 ALL_IN_LINE = 4
@@ -35,7 +35,7 @@ def tree_lines(report: Report, machine: Machine, listing: Listing) -> list[str]:
              "", f"{'turn':>7}  {'task':<11} {'timestamp':>10}  label"]
     for entry in report.entries:
         task = machine.tasks.get(entry.name)
-        known = listing.task_words(task.entry, task.arguments) if task and task.turn == entry.turn else "?"
+        known = listing.whole_words(task.entry, task.arguments) if task and task.turn == entry.turn else "?"
         lines.append(f"{entry.turn:>7}  {entry.name!s:<11} {entry.timestamp:>10}  {'  ' * (entry.depth - 1)}{known}")
     return lines
 
@@ -46,7 +46,7 @@ def reply_lines(replies: Sequence[ActAnswer]) -> list[str]:
         return []
     back = sum(said.taken_back for said in replies)
     acts = "1 act" if len(replies) == 1 else f"{len(replies):,} acts"
-    lines = [f"Replies to {acts} of a script; {back:,} tasks were taken back:", ""]
+    lines = [f"Replies to {acts} of a script; {back:,} tasks were aborted:", ""]
     if len(replies) <= MOST_REPLIES:
         lines += [f"{number:>7}  {reply_text(said)}" for number, said in enumerate(replies, 1)]
     else:
@@ -57,7 +57,7 @@ def reply_lines(replies: Sequence[ActAnswer]) -> list[str]:
 
 def reply_text(said: ActAnswer) -> str:
     """What an act was answered, and what that means."""
-    back = f", {said.taken_back:,} taken back" if said.taken_back else ""
+    back = f", {said.taken_back:,} aborted" if said.taken_back else ""
     return f"{said.reply}{meaning(said.reply)}{back}"
 
 
@@ -100,7 +100,7 @@ def end_lines(report: Report, machine: Machine, listing: Listing, wants_all: boo
     task = machine.tasks.get(trap.name)
     known = ""
     if task:
-        words = listing.task_words(task.entry, task.arguments)
+        words = listing.whole_words(task.entry, task.arguments)
         known = f" ({words}; timestamp {task.timestamp}, depth {task.domain.depth})"
     return [f"The run ended in a trap of the task {trap.name}{known}.",
             *trap_lines(trap.cause, trap.pc, machine.image.limits, listing),
@@ -116,7 +116,7 @@ def trap_lines(cause: int, pc: int, limits: Limits, listing: Listing) -> list[st
 
 
 def state_lines(machine: Machine, listing: Listing, trap: Trap, wants_all: bool) -> list[str]:
-    """What led to the trap, and the registers, where running the task again comes to it."""
+    """What led to the trap, and the registers, if running the task again reaches it."""
     found = machine.run_at_trap(trap)
     return run_lines(*found, listing, wants_all) if found else []
 
@@ -149,7 +149,7 @@ def begins_at_trap(run: Run, trapped: TaskTrap) -> bool:
 def registers_used(values: Sequence[int]) -> list[str]:
     """The registers that aren't 0."""
     used = [f"{name} {value:08x}" for name, value in zip(REGISTERS, values) if value]
-    rest = f"{'' if used else 'registers':<9} all {'others ' if used else ''}are 0; --registers tells each"
+    rest = f"{'' if used else 'registers':<9} all {'others ' if used else ''}are 0; --registers shows each"
     return [*in_lines(used, REGISTERS_IN_LINE), f"  {rest}"]
 
 
@@ -184,7 +184,7 @@ def address_text(listing: Listing, image: Image, address: int) -> str:
 
 def text_of(image_path: FilePath, image: Image, replies: Sequence[ActAnswer], report: Report, machine: Machine,
             listing: Listing, wants_all: bool = False) -> list[str]:
-    """All that is told, for people; of a trap all registers, where that is wanted."""
+    """The explanation as text, for people; for a trap all registers, if that is wanted."""
     return [image_line(image_path, image), f"{tasks_told(len(report.entries))}.", "", *reply_lines(replies),
             *tree_lines(report, machine, listing), "", *output_lines(report.output), "",
             *window_lines(report.window, listing), *end_lines(report, machine, listing, wants_all)]

@@ -19,7 +19,7 @@ REPLIES = {
     "busy": "no core is free",
     "stall": "a queue is full",
     "stale": "no task runs there, or no leg is held",
-    "firm": "the least task is never taken back",
+    "firm": "the least task is never aborted",
     "spent": "the run may make no more events",
     "ended": "the run was over",
     "moved": "an event was made",
@@ -29,7 +29,7 @@ IMAGE_FAULTS = {int(number): text for number, text in SENTENCES["image faults"].
 
 
 def told_without_report(text: str) -> Optional[str]:
-    """What the program's lines mean that are no report; None where the text is none of them."""
+    """What the program's lines that aren't a report mean; None if the text isn't one of them."""
     line = text.strip()
     if found := re.fullmatch("check ok ([0-9]{1,10})", line):
         return f"The report is that of a run; {tasks_told(int(found[1]))}."
@@ -69,5 +69,5 @@ def words_of(limits: Limits) -> dict[str, object]:
     """The words of causes that an image's version decides."""
     return {"readable": "text, data and stack" if limits.stack else "text and data",
             "writable": "data and stack" if limits.stack else "the data",
-            "stack": f"more than {limits.stack:,} bytes of stack" if limits.stack else "a stack that isn't there",
+            "stack": f"more than {limits.stack:,} bytes of stack" if limits.stack else "a stack that version 1 lacks",
             "depth": limits.depth, "child": f"{limits.children + 1}th"}

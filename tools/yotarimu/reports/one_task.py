@@ -13,7 +13,7 @@ from yotarimu.reports.explanation import run_lines, trap_lines
 from yotarimu.reports.plain_data import state_data, trap_data
 from yotarimu.reports.report import Name
 
-# So many of what a task asked for are told as text.
+# So many of a task's requests are printed as text.
 MOST_ASKED = 200
 HINT = FIRST_ARGUMENT + 3
 # The calls of docs/guest/TASKS.md, by number.
@@ -84,7 +84,7 @@ class AskingRun(Run):
 @dataclasses.dataclass(frozen=True)
 class OneTask:
     """A task that was run alone: its run, how many turns the report has, the turns of its children by their names, and
-    a sentence on how its turn was come to."""
+    a sentence on how its turn was reached."""
     run: AskingRun
     count: int
     turns: Mapping[Name, int]
@@ -97,7 +97,7 @@ class OneTask:
 
 
 def way_text(start: int, turn: int, why: str) -> str:
-    """How a turn was come to, where that began after so many turns, and why it began at the start."""
+    """How a turn was reached, if that began after so many turns, and why it began at the start."""
     again = turn - 1 - start
     if start and again:
         return f"The program saved the run after {count_text(start, 'turn')}; {again:,} more were run again here."
@@ -109,11 +109,11 @@ def way_text(start: int, turn: int, why: str) -> str:
 
 
 def text_of(told: OneTask, listing: Listing, wants_all: bool = False) -> list[str]:
-    """All that is told, for people; of a trap all registers, where that is wanted."""
+    """The explanation as text, for people; for a trap all registers, if that is wanted."""
     run, asked = told.run, told.run.asked
     lines = [*head_lines(told, listing), "", *(asked_line(it, told, listing) for it in asked[:MOST_ASKED])]
     if len(asked) > MOST_ASKED:
-        lines.append(f"  and {len(asked) - MOST_ASKED:,} more, which --json tells")
+        lines.append(f"  and {len(asked) - MOST_ASKED:,} more, which --json has")
     if asked:
         lines.append("")
     if run.trap is not None:
@@ -130,7 +130,7 @@ def head_lines(told: OneTask, listing: Listing) -> list[str]:
     accesses = [count_text(sum(it.kind == kind for it in run.asked), kind) for kind in ("load", "store")]
     children = "1 child" if run.children == 1 else f"{run.children} children"
     turn = f"turn {run.turn:,} of {told.count:,}" if run.trap is None else f"no turn, after {told.count:,}"
-    return [f"The task {task.name} is {listing.task_words(task.entry, task.arguments)}.",
+    return [f"The task {task.name} is {listing.whole_words(task.entry, task.arguments)}.",
             f"  {turn}; timestamp {task.timestamp}, depth {task.domain.depth}, in an "
             f"{told.kind} domain; made by {creator}",
             f"  enters at {task.entry:08x}" + (f", {place}" if place else ""),
@@ -149,7 +149,7 @@ def asked_words(asked: Asked, told: OneTask, listing: Listing) -> str:
     if asked.child is not None:
         child = asked.child
         turn = told.turns.get(child.name)
-        return (f"{child.name}: {listing.task_words(child.entry, child.arguments)}, timestamp {child.timestamp}, hint "
+        return (f"{child.name}: {listing.whole_words(child.entry, child.arguments)}, timestamp {child.timestamp}, hint "
                 f"{asked.hint}, " + ("no turn" if turn is None else f"turn {turn:,}"))
     if asked.address is not None:
         width = count_text(asked.width or 0, "byte")
@@ -160,7 +160,7 @@ def asked_words(asked: Asked, told: OneTask, listing: Listing) -> str:
 
 
 def plain_data_of(told: OneTask, listing: Listing) -> dict[str, object]:
-    """All that is told, in lists, dictionaries, numbers and texts."""
+    """The explanation in lists, dictionaries, numbers and texts."""
     run, task = told.run, told.run.task
     trap = None
     if run.trap is not None:

@@ -1,4 +1,4 @@
-"""What ./fractal explain tells, for other programs: as plain data, and tasks as rows; and whether a report is of an
+"""What ./fractal explain prints, for other programs: as plain data, and tasks as rows; and whether a report is of an
 image at all."""
 from __future__ import annotations
 
@@ -55,7 +55,7 @@ def other_run(report: Report, machine: Machine, wrong_turn: Optional[str]) -> Op
 
 def all_of(image_path: FilePath, replies: Sequence[ActAnswer], report: Report, machine: Machine, listing: Listing,
            remarks: Sequence[str]) -> dict[str, object]:
-    """All that is told, in lists, dictionaries, numbers and texts."""
+    """The explanation in lists, dictionaries, numbers and texts."""
     image = machine.image
     return {
         "image": {"path": str(image_path), "version": image.version,

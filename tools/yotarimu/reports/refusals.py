@@ -68,21 +68,21 @@ def layout_fault(line: bytes) -> Optional[str]:
     if line.endswith(b"\r"):
         return "the line ends in CRLF, and lines end in a newline alone"
     if b"\t" in line:
-        return "a tab stands in it, where one space is to be"
+        return "it has a tab where one space should be"
     if line.endswith(b" "):
-        return "a blank stands behind its last word"
+        return "a blank follows its last word"
     if line.startswith(b" "):
         return "a blank stands before its first word"
     if b"  " in line:
         return "two blanks stand side by side"
     other = next((byte for byte in line if not 0x20 <= byte < 0x7F), None)
-    return None if other is None else f"the byte {other:02x} (hexadecimal) stands in it, which no line has"
+    return None if other is None else f"the byte {other:02x} (hexadecimal) is in it, which no line has"
 
 
 def number_fault(word: str, what: str, least: int, most: int) -> Optional[str]:
-    """Why a word is no number from least to most in decimal; None where it is one."""
+    """Why a word isn't a number from least to most in decimal; None where it is one."""
     if not re.fullmatch("[0-9]+", word):
-        return f"`{word[:MOST_SHOWN]}` is no number, and {what} is wanted"
+        return f"`{word[:MOST_SHOWN]}` isn't a number, and {what} is wanted"
     if len(word) > 1 and word[0] == "0":
         return f"`{word[:MOST_SHOWN]}` has a leading zero"
     if not least <= int(word[:20]) <= most:
@@ -94,7 +94,7 @@ def name_fault(word: str) -> Optional[str]:
     """What is wrong with a name; None where nothing is."""
     creator, dot, index = word.partition(".")
     if not dot:
-        return f"`{word[:MOST_SHOWN]}` is no name, which is `<creator>.<index>`"
+        return f"`{word[:MOST_SHOWN]}` isn't a name, which is `<creator>.<index>`"
     return number_fault(creator, "a creator", 0, MOST_NAME) or number_fault(index, "an index", 0, MOST_NAME)
 
 
@@ -109,7 +109,7 @@ def script_fault(line: bytes, tiles: int, cores: int) -> Optional[str]:
         return fault
     word, *numbers = line.decode("ascii").split(" ")
     if word not in ACTS:
-        return f"`{word[:MOST_SHOWN]}` is no act, which is {list_text(ACTS)}"
+        return f"`{word[:MOST_SHOWN]}` isn't an act, which is {list_text(ACTS)}"
     places = ("tile", "core")[:ACTS[word].numbers]
     if len(numbers) != len(places):
         wanted = " and ".join(f"a {place}" for place in places) or "nothing"
@@ -117,7 +117,7 @@ def script_fault(line: bytes, tiles: int, cores: int) -> Optional[str]:
     for place, number, count in zip(places, numbers, (tiles, cores)):
         if re.fullmatch("0|[1-9][0-9]*", number) and int(number[:20]) >= count:
             known = "the only one is 0" if count == 1 else f"they are 0 to {count - 1}"
-            return f"there is no {place} {number[:20]}: with --{PLACES[place]} {count} {known}"
+            return f"no {place} {number[:20]}: with --{PLACES[place]} {count} {known}"
         if fault := number_fault(number, f"the number of a {place}", 0, count - 1):
             return fault
     return None
@@ -143,7 +143,7 @@ def report_fault(text: bytes, number: int) -> str:
     if line is None:
         return f"the line is missing: {wanted} is wanted"
     if wanted is None:
-        return "nothing may stand behind the end"
+        return "nothing may follow the end"
     if fault := layout_fault(line):
         return fault
     kind = kind_of(line)

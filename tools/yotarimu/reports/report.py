@@ -42,7 +42,7 @@ class Trap:
 
 @dataclasses.dataclass
 class Report:
-    """A report's parts. `end` is normal, limit, open or trap, and `trap` is told with the last."""
+    """A report's parts. `end` is normal, limit, open or trap, and `trap` is given with the last."""
     entries: list[Entry]
     output: bytes
     window: list[tuple[int, int]]
@@ -69,7 +69,7 @@ class Lines:
 
     def refuse(self, why: str) -> NoReturn:
         """Refuses the next line, with its number."""
-        raise Refusal(f"{self.name}:{self.taken + 1}: this is no report: {why}.")
+        raise Refusal(f"{self.name}:{self.taken + 1}: this isn't a report: {why}.")
 
 
 ENTRY = rf"{NUMBER} {NUMBER}\.{NUMBER} {DEPTH} {NUMBER}"
@@ -92,7 +92,7 @@ def read_report(text: str, name: FilePath, start: int = 0) -> Report:
 
 
 def read_front(text: str, count: int) -> Report:
-    """The first lines of a report, each of them inside the grammar; what they don't tell is empty."""
+    """The first lines of a report, each of them inside the grammar; missing parts are empty."""
     lines = Lines("", text.split("\n")[:count])
     lines.take("fractal 1")
     entries = read_entries(lines)
@@ -124,10 +124,10 @@ def read_window(lines: Lines) -> list[tuple[int, int]]:
 
 
 def output_of(found: re.Match[str]) -> bytes:
-    """The bytes that the line of the output tells."""
+    """The bytes in the line of the output."""
     return b"" if found[1] == "-" else bytes.fromhex(found[1])
 
 
 def trap_of(end: re.Match[str]) -> Optional[Trap]:
-    """The trap that the end tells, if it tells one."""
+    """The trap in the line of the end, if it has one."""
     return Trap(int(end[2]), int(end[3], 16), Name(int(end[4]), int(end[5]))) if end[2] else None

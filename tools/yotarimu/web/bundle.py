@@ -37,9 +37,9 @@ def rows_of(table: str) -> List[List[str]]:
     return [line.split("|") for line in table.splitlines()]
 
 
-def command_line(modules: Dict[str, bytes], table: str, commit: str) -> str:
+def command_line(modules: Dict[str, bytes], table: str, made: Dict[str, str]) -> str:
     """`fractal.mjs`: both programs as a command for Node and Deno."""
-    constants = (constant("table", rows_of(table)), constant("made", {"commit": commit}),
+    constants = (constant("table", rows_of(table)), constant("made", made),
                  constant("modules", {name: pack(module) for name, module in modules.items()}))
     return "".join(("#!/usr/bin/env node\n", *constants, *sources(("host.js", "command_line.js"))))
 
@@ -52,12 +52,14 @@ def sources(names: Sequence[str]) -> List[str]:
 # ---- the pages
 
 # The sources of the page, in the order in which they name each other.
-SHARED = ("texts.js", "machine.js", "labels.js", "orders.js", "items.js", "view.js")
+SHARED = ("texts.js", "history.js", "machine.js", "labels.js", "orders.js", "items.js", "picture.js", "timeline.js",
+          "player.js", "view.js")
 LIVE = ("lines.js", "images.js", "assembler.js", "sections.js", "sources.js", "filters.js", "causes.js", "sentences.js",
-        "machines.js", "fields.js", "live.js", "exports.js", "story.js", "exercises.js", "start.js")
+        "machines.js", "fields.js", "refusals.js", "ask.js", "live.js", "editor.js", "exports.js", "story.js",
+        "exercises.js", "own_exercise.js", "profile.js", "kept.js", "start.js")
 # What sentences are made of, and filters, for the tools too.
 TABLES = {"sentences": "common/sentences.json", "exercises": "courses/exercises.json", "story": "web/story.json",
-          "filterTable": "lines/filters.json"}
+          "filterTable": "lines/filters.json", "look": "pictures/timeline.json"}
 
 
 def table_at(path: str) -> Any:
@@ -71,16 +73,26 @@ def script(text: str, name: str = "", kind: str = "") -> str:
     return f"<script{words}>\n{text}</script>\n"
 
 
-def live_page(modules: Dict[str, bytes], table: str, commit: str, examples: List[Dict[str, Any]]) -> str:
+def live_page(modules: Dict[str, bytes], table: str, made: Dict[str, str], examples: List[Dict[str, Any]]) -> str:
     """The page that has both programs inside."""
-    values = {"table": rows_of(table), "made": {"commit": commit}, "examples": examples,
+    values = {"table": rows_of(table), "made": made, "examples": examples,
               "modules": {name: pack(module) for name, module in modules.items()},
               **{name: table_at(path) for name, path in TABLES.items()}}
     scripts = [script("".join(constant(name, value) for name, value in values.items())),
                script(source("host.js"), "host-source"), script(source("worker.js"), "worker-source", "text/plain"),
                *(script(f'"use strict";\n\n{source(name)}') for name in (*SHARED, *LIVE))]
-    parts = {"style": source("run.css") + source("live.css"), "run": source("run.html"), "scripts": "".join(scripts)}
+    parts = {"style": source("run.css") + source("live.css"), "run": run_part(LIVE_PARTS), "scripts": "".join(scripts)}
     return fill_page(source("live.html"), parts)
+
+
+# What stands within the run in the live page alone.
+RUN_PARTS = ("ahead", "moves", "profile", "more", "code")
+LIVE_PARTS = RUN_PARTS
+
+
+def run_part(names: Sequence[str]) -> str:
+    """The part of a page that shows the run, with further parts in it."""
+    return fill_page(source("run.html"), {name: source(f"{name}.html") if name in names else "" for name in RUN_PARTS})
 
 
 def recorded_page(title: str, values: Dict[str, str]) -> str:
@@ -88,8 +100,9 @@ def recorded_page(title: str, values: Dict[str, str]) -> str:
     data = "".join(f'<script type="application/json" id="{name}-data">{value}</script>\n'
                    for name, value in values.items())
     scripts = (script(f'"use strict";\n\n{source(name)}') for name in (*SHARED, "recorded.js"))
-    table = script(constant("sentences", {"order": table_at(TABLES["sentences"])["order"]}))
-    parts = {"title": title, "style": source("run.css"), "run": source("run.html"), "data": data,
+    table = script(constant("sentences", {"order": table_at(TABLES["sentences"])["order"]})
+                   + constant("look", table_at(TABLES["look"])))
+    parts = {"title": title, "style": source("run.css"), "run": run_part(()), "data": data,
              "scripts": "".join((table, *scripts))}
     return fill_page(source("recorded.html"), parts)
 

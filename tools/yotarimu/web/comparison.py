@@ -1,4 +1,4 @@
-"""The modules held against the built programs: stored answers, schedules told act by act, and generated calls."""
+"""The modules compared with the built programs: stored answers, schedules logged act by act, and generated calls."""
 from __future__ import annotations
 
 import base64
@@ -16,12 +16,12 @@ from typing import Any, Counter, Dict, Iterator, List, NamedTuple, Sequence
 from yotarimu.common.outcome import Refusal
 from yotarimu.common.places import EXAMPLES_FOLDER, HOME
 from yotarimu.programs.answers import all_answers
-from yotarimu.programs.calls import need_program
 from yotarimu.programs.cases import cases_of
 from yotarimu.programs.examples import EXAMPLES, SCHEDULES, words_of
-from yotarimu.programs.program import PROGRAM, SECOND_PROGRAM
+from yotarimu.programs.program import PROGRAM, SECOND_PROGRAM, need_program
 from yotarimu.web.bundle import source
-from yotarimu.web.modules import PROGRAMS, module_path, need_module
+from yotarimu.web.crate_sources import PROGRAMS
+from yotarimu.web.modules import module_path, need_modules
 
 ENGINE = "node"
 NATIVE = {"sim": PROGRAM, "watch": SECOND_PROGRAM}
@@ -120,8 +120,8 @@ def stored_calls() -> Iterator[Any]:
 
 
 def schedule_calls() -> Iterator[Call]:
-    """Each schedule told act by act, with views, and the memory that it leaves; and its image run by the machine's own
-    acts."""
+    """Each schedule logged act by act, with views, and the memory that it leaves; and its image run by the machine's
+    own acts."""
     for name in SCHEDULES:
         folder, words = EXAMPLES_FOLDER / name, words_of(name)
         image = (folder / "image.bin").read_bytes()
@@ -131,18 +131,20 @@ def schedule_calls() -> Iterator[Call]:
         yield Call("watch", ("memory", *words), image + script)
         yield Call("watch", ("least", *words[1:]), image)
         yield Call("watch", ("lockstep", "50", "7", *words[1:]), image)
-        yield Call("sim", ("run", "--workers", "2", *words[1:]), image)
+        # With more workers than tiles some wait for others, whom one thread can't run meanwhile.
+        for workers in ("2", "16"):
+            yield Call("sim", ("run", "--workers", workers, *words[1:]), image)
 
 
 def watched_too(call: Any) -> Iterator[Call]:
-    """The same input for the second program, where it is an image with a script."""
+    """The same input for `fractal_watch`, if it is an image with a script."""
     if call.command == "steps":
         yield Call("watch", call.words, call.data)
         yield Call("watch", ("lockstep", "30", "5", *call.words[1:]), call.data)
 
 
 def generated_calls(count: int, seed: int, say: Any) -> Iterator[Call]:
-    """The calls of so many cases of bench/same; what the built program says to a call is what `say` was told last."""
+    """The calls of so many cases of bench/same; `say` returns what the built program answers to the last call."""
     sys.path.insert(0, str(HOME / "bench"))
     try:
         calls_of = importlib.import_module("cases.case").calls_of
@@ -162,7 +164,7 @@ def generated_calls(count: int, seed: int, say: Any) -> Iterator[Call]:
 
 
 class Comparison:
-    """What came of the calls, and where the two first differ."""
+    """The outcomes of the calls, and where the two first differ."""
 
     def __init__(self, running: Engine) -> None:
         self.running = running
@@ -171,7 +173,7 @@ class Comparison:
         self.differences: List[str] = []
 
     def hold(self, asked: Call) -> None:
-        """Holds the module's answer against the built program's."""
+        """Compares the module's answer with the built program's."""
         native, module = native_answer(asked), self.running.answer(asked)
         self.said = native.output
         if native == module:
@@ -188,7 +190,7 @@ class Comparison:
         return native_answer(Call("sim", ("check", *limits), asked.data + answer.output)).status == 0
 
     def hold_stored(self, case: Any) -> None:
-        """Holds the module's answer against what is stored."""
+        """Compares the module's answer with what is stored."""
         answer = self.running.answer(Call("sim", case.words, case.given))
         if answer == (case.status, case.text):
             self.counts["as stored"] += 1
@@ -201,8 +203,7 @@ def compare_all(count: int, seed: int) -> Comparison:
     """All of it, with so many generated cases."""
     for program in NATIVE.values():
         need_program(program)
-    for crate in PROGRAMS.values():
-        need_module(crate)
+    need_modules()
     with engine({name: module_path(crate) for name, crate in PROGRAMS.items()}) as running:
         outcome = Comparison(running)
         for case in stored_calls():

@@ -41,7 +41,7 @@ class Tools:
         self.builtins = builtins_of()
 
     def run(self, tool: pathlib.Path, name: str, words: Sequence[str], folder: pathlib.Path) -> None:
-        """Runs a tool, which goes by the name that it is called by."""
+        """Runs a tool, which behaves by the name that it is called by."""
         done = subprocess.run([name, *words], executable=tool, cwd=folder, capture_output=True, text=True,
                               errors="replace", stdin=subprocess.DEVNULL, check=False)
         if done.returncode:
@@ -54,7 +54,7 @@ class Tools:
 
 
 def builtins_of() -> pathlib.Path:
-    """LLVM's library of what compiled code calls, of the newest version that is there."""
+    """LLVM's library of what compiled code calls, of the newest installed version."""
     found: List[pathlib.Path] = []
     for pattern in BUILTINS_IN:
         found += pathlib.Path("/").glob(f"{pattern[1:]}/{BUILTINS}")

@@ -1,8 +1,11 @@
 """Both programs as WebAssembly modules beside the built ones, and the files that are made of them."""
 from __future__ import annotations
 
+import base64
 import dataclasses
 import difflib
+import gzip
+import json
 import pathlib
 import re
 import subprocess
@@ -11,26 +14,32 @@ from typing import Dict, Optional
 from yotarimu.common.files import read_bytes, read_text, write_whole
 from yotarimu.common.outcome import Refusal
 from yotarimu.common.places import EXAMPLES_FOLDER, HOME
-from yotarimu.programs.program import LAUNCHER
 from yotarimu.programs.table import table_lines
 from yotarimu.web.bundle import command_line, live_page
+from yotarimu.web.crate_sources import PROGRAMS, sources_digest
 from yotarimu.web.toolchain import module_of, toolchain
 from yotarimu.web.linker import Tools, link
 from yotarimu.web.examples import examples_in
 
-# What a file calls each program, and its crate.
-PROGRAMS = {"sim": "fractal_sim", "watch": "fractal_watch"}
 PAGE, COMMAND = "fractal.html", "fractal.mjs"
-# The page stands in the repository, so it is to stay small.
-MOST_BYTES = 1_000_000
-COMMIT = re.compile(r'^const made = \{"commit":"[^"]*"\};$', re.MULTILINE)
+# The page is in the repository, so it is to stay small.
+MOST_BYTES = 1_100_000
+ORIGIN = re.compile(r"^const made = (\{.*\});$", re.MULTILINE)
+INSIDE = re.compile(r"^const modules = (\{.*\});$", re.MULTILINE)
+
+
+@dataclasses.dataclass(frozen=True)
+class Origin:
+    """What modules were built from: a commit, and the digest of the crates' sources there."""
+    commit: str
+    sources: str
 
 
 @dataclasses.dataclass(frozen=True)
 class Modules:
-    """Both modules, and the commit that they were made of."""
+    """Both modules, and what they were built from."""
     programs: Dict[str, bytes]
-    commit: str
+    origin: Origin
 
 
 def module_path(crate: str) -> pathlib.Path:
@@ -38,47 +47,69 @@ def module_path(crate: str) -> pathlib.Path:
     return HOME / "crates" / crate / "out" / f"{crate}.wasm"
 
 
-def commit_path(crate: str) -> pathlib.Path:
-    """Where it is noted of which commit a module was made."""
-    return module_path(crate).with_suffix(".wasm.commit")
+def origin_path(crate: str) -> pathlib.Path:
+    """Where it is noted what a module was built from."""
+    return module_path(crate).with_suffix(".wasm.json")
 
 
 def commit_now() -> str:
-    """The commit that stands here, as the launcher tells it."""
-    done = subprocess.run([LAUNCHER, "--version"], capture_output=True, text=True, check=False,
-                          stdin=subprocess.DEVNULL)
-    return done.stdout.strip().partition(", commit ")[2] or "unknown"
+    """The commit of this clone, and whether something differs from it."""
+    said = [subprocess.run(["git", "-C", HOME, *words], capture_output=True, text=True, check=False).stdout.strip()
+            for words in (("rev-parse", "HEAD"), ("status", "--porcelain"))]
+    return f"{said[0] or 'unknown'}{', with changes' if said[1] else ''}"
 
 
 def make_modules() -> None:
-    """Makes both modules of what is proved here, and notes of which commit they are."""
+    """Makes both modules of what is proved here, and notes what they were built from."""
     tools = Tools(toolchain().compiler)
+    origin = Origin(commit_now(), sources_digest(HOME))
     for crate in PROGRAMS.values():
-        commit = commit_now()
         module = link(module_of(crate, HOME), crate, tools)
-        write_whole({module_path(crate): module, commit_path(crate): f"{commit}\n".encode()})
+        noted = json.dumps(dataclasses.asdict(origin)).encode()
+        write_whole({module_path(crate): module, origin_path(crate): noted})
         print(f"{module_path(crate)}: {len(module):,} bytes")
 
 
-def need_module(crate: str) -> None:
-    """Refuses where the module of a program wasn't made."""
-    if not module_path(crate).is_file() or not commit_path(crate).is_file():
-        raise Refusal(f"{module_path(crate)} isn't there; ./fractal prove --web makes it, of what is proved.")
+def are_made() -> bool:
+    """Whether both modules were made here."""
+    return all(path(crate).is_file() for crate in PROGRAMS.values() for path in (module_path, origin_path))
+
+
+def need_modules() -> None:
+    """Refuses if a module wasn't made here."""
+    for crate in PROGRAMS.values():
+        if not module_path(crate).is_file() or not origin_path(crate).is_file():
+            raise Refusal(f"{module_path(crate)} isn't there; ./fractal prove --web makes it, of what is proved.")
+
+
+def made_modules() -> Modules:
+    """The modules that were made here."""
+    need_modules()
+    origins = {Origin(**json.loads(read_text(origin_path(crate)))) for crate in PROGRAMS.values()}
+    if len(origins) > 1:
+        raise Refusal("the two modules are of different commits; ./fractal prove --web makes both anew.")
+    return Modules({name: read_bytes(module_path(crate)) for name, crate in PROGRAMS.items()}, origins.pop())
+
+
+def modules_in(page: str, name: str) -> Modules:
+    """The modules inside a page, and what they were built from; refuses another text."""
+    origin, inside = told_origin(page), INSIDE.search(page)
+    if origin is None or inside is None:
+        raise Refusal(f"{name}: this isn't a page with the programs inside; ./fractal prove --web makes them.")
+    packed = json.loads(inside[1])
+    return Modules({key: gzip.decompress(base64.b64decode(text)) for key, text in packed.items()}, origin)
 
 
 def modules() -> Modules:
-    """The modules that were made here."""
-    for crate in PROGRAMS.values():
-        need_module(crate)
-    commits = {read_text(commit_path(crate)).strip() for crate in PROGRAMS.values()}
-    if len(commits) > 1:
-        raise Refusal("the two modules are of different commits; ./fractal prove --web makes both anew.")
-    return Modules({name: read_bytes(module_path(crate)) for name, crate in PROGRAMS.items()}, commits.pop())
+    """The modules that were made here, or else those of the repository's page."""
+    page = HOME / PAGE
+    return made_modules() if are_made() or not page.is_file() else modules_in(read_text(page), PAGE)
 
 
 def page_text(found: Modules) -> str:
     """The page with both programs; refuses one that would be too large."""
-    page = live_page(found.programs, "\n".join(table_lines()), found.commit, examples_in(EXAMPLES_FOLDER))
+    made = dataclasses.asdict(found.origin)
+    page = live_page(found.programs, "\n".join(table_lines()), made, examples_in(EXAMPLES_FOLDER))
     if len(page.encode()) > MOST_BYTES:
         raise Refusal(f"the page would have {len(page.encode()):,} bytes, and at most {MOST_BYTES:,} are to be.")
     return page
@@ -86,25 +117,25 @@ def page_text(found: Modules) -> str:
 
 def command_text(found: Modules) -> str:
     """The command with both programs."""
-    return command_line(found.programs, "\n".join(table_lines()), found.commit)
+    return command_line(found.programs, "\n".join(table_lines()), dataclasses.asdict(found.origin))
 
 
 def make_files(folder: pathlib.Path) -> None:
     """Writes the page and the command into a folder."""
     if not folder.is_dir():
-        raise Refusal(f"{folder}: there is no such folder.")
+        raise Refusal(f"{folder}: no such folder.")
     found = modules()
     files = {folder / PAGE: page_text(found).encode(), folder / COMMAND: command_text(found).encode()}
     write_whole(files)
     for path, data in files.items():
-        print(f"{path}: {len(data):,} bytes, of the commit {found.commit}")
+        print(f"{path}: {len(data):,} bytes, its programs of the commit {found.origin.commit}")
 
 
 def difference(path: pathlib.Path) -> Optional[str]:
-    """Where a page isn't the one that would be made now, in a sentence; the commit that each tells may differ."""
+    """How a page differs from the one that would be made now, in a sentence; the commits in both may differ."""
     if not path.is_file():
-        raise Refusal(f"{path}: there is no such page.")
-    there, now = (COMMIT.sub("", text).splitlines() for text in (read_text(path), page_text(modules())))
+        raise Refusal(f"{path}: no such page.")
+    there, now = (ORIGIN.sub("", text).splitlines() for text in (read_text(path), page_text(modules())))
     for line in difflib.unified_diff(there, now, n=0, lineterm=""):
         if line[0] in "+-" and not line.startswith(("+++", "---")):
             return f"the first line that differs begins `{line[1:80]}`"
@@ -112,6 +143,13 @@ def difference(path: pathlib.Path) -> Optional[str]:
 
 
 def told_version(page: str) -> str:
-    """The version that a page tells; nothing where it tells none."""
+    """The version in a page; nothing if it has none."""
     found = re.search(r'\["version","([^"]+)"\]', page)
     return found[1] if found else ""
+
+
+def told_origin(page: str) -> Optional[Origin]:
+    """What a page's programs were built from; None if it doesn't say."""
+    found = ORIGIN.search(page)
+    told = json.loads(found[1]) if found else {}
+    return Origin(**told) if set(told) == {"commit", "sources"} else None

@@ -182,9 +182,11 @@ u64 pthread_self(void) { return 1; }
 int pthread_detach(u64 thread) { __builtin_trap(); }
 int pthread_join(u64 thread, void *result) { __builtin_trap(); }
 
-// A futex: a wake finds nobody, and a wait for another thread would never end.
-enum { FUTEX = 202, FUTEX_WAKE = 1, FUTEX_KIND = 127 };
+// A futex: a wake finds nobody. A wait with a time limit, as of a worker that lets others go on, ends at once, since
+// nobody else runs; one without would never end.
+enum { FUTEX = 202, FUTEX_WAIT = 0, FUTEX_WAKE = 1, FUTEX_KIND = 127, TIMED_OUT = 110 };
 long long syscall(u64 number, void *place, u64 operation, u64 value, void *time, ...) {
     if (number == FUTEX && (operation & FUTEX_KIND) == FUTEX_WAKE) return 0;
+    if (number == FUTEX && (operation & FUTEX_KIND) == FUTEX_WAIT && time) return failed(TIMED_OUT);
     __builtin_trap();
 }

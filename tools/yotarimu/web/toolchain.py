@@ -1,7 +1,7 @@
 """The LLVM module of a proved program, kept as the toolchain makes it.
 
 The toolchain proves the program's crate over what was proved before, lowers it to LLVM, and has its own clang compile
-that. Here a script stands in that clang's place: it keeps the module, and then calls clang as it was asked to.
+that. Here a script replaces that clang: it keeps the module, and then calls clang with its arguments.
 """
 from __future__ import annotations
 
@@ -119,7 +119,7 @@ def module_of(program: str, home: pathlib.Path) -> bytes:
 
 
 def build_words(program: str, crates: Crates, kit: Toolchain) -> List[str]:
-    """What the toolchain is told of a program: its crate, and what it stands on."""
+    """The toolchain's description of a program: its crate, and the crates below it."""
     words = ["--crate-name", program, "src/main.rt", "--extern", f"std={kit.library('std')}"]
     for name in crates.below[program]:
         words += ["--extern", f"{name}={crates.library(name) if name in crates.below else kit.library(name)}"]

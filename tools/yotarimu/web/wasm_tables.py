@@ -17,7 +17,7 @@ I32_CONST, I64_CONST, END, WRAP = 0x41, 0x42, 0x0B, 0xA7
 CALLS_INDIRECT = (0x11, 0x13)
 BLOCKS = (0x02, 0x03, 0x04)
 BRANCH_TABLE, SELECT_TYPED, PREFIX = 0x0E, 0x1C, 0xFC
-# How many numbers stand behind each instruction that has some; others have none.
+# How many numbers follow each instruction that has some; others have none.
 WITH_ONE = (*BLOCKS, 0x0C, 0x0D, 0x10, 0x12, *range(0x20, 0x27), 0xD2, 0x3F, 0x40, 0x41, 0x42, 0xD0)
 NUMBERS = {**dict.fromkeys(WITH_ONE, 1), **dict.fromkeys((*CALLS_INDIRECT, *range(0x28, 0x3F)), 2)}
 BYTES = {0x43: 4, 0x44: 8}

@@ -46,8 +46,11 @@ class Place {
   get text() { return this.source.text.split("\n")[this.line - 1].trim(); }
 }
 
+// What a sentence cites of a source, which may be as long as the source: the first letters are enough.
+const LONG_CITATION = /`([^`]{80})[^`]+`/g;
+
 /** A sentence on a line of a source. */
-function refuseLine(place, why) { throw new Refusal(`${place.told}: ${why}.`); }
+function refuseLine(place, why) { throw new Refusal(`${place.told}: ${why.replace(LONG_CITATION, "`$1…`")}.`); }
 
 // ---- words of instructions
 
@@ -136,13 +139,13 @@ class Expression {
     TOKEN.lastIndex = 0;
     for (let found; TOKEN.lastIndex < text.trimEnd().length; this.tokens.push(found[1])) {
       found = TOKEN.exec(text);
-      if (!found) refuseLine(line, `\`${text.trim()}\` is no number, no label and no sum of these`);
+      if (!found) refuseLine(line, `\`${text.trim()}\` isn't a number, a label or a sum of these`);
     }
   }
 
   whole() {
     const value = this.level(0);
-    if (this.place < this.tokens.length) refuseLine(this.line, `\`${this.tokens[this.place]}\` can't stand here`);
+    if (this.place < this.tokens.length) refuseLine(this.line, `\`${this.tokens[this.place]}\` isn't allowed here`);
     return value;
   }
 

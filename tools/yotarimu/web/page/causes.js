@@ -142,7 +142,8 @@ class CauseSayer {
 
   did(own) {
     return filled(own.isStore ? this.texts.stored : this.texts.loaded,
-      {value: own.isStore ? own.value : own.old, place: this.labels.labelled(own.address), spot: this.spot(own)});
+      {value: signed(own.isStore ? own.value : own.old, own.bytes), place: this.labels.labelled(own.address),
+        spot: this.spot(own)});
   }
 
   sharing({own, other, sharing}) {

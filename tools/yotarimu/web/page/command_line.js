@@ -49,7 +49,7 @@ function helpPage() {
   return [
     "Simulates a machine that runs tasks ahead of their turn and commits them in order. An image comes from standard",
     "input, and what was asked for goes to standard output.", "", "usage: node fractal.mjs COMMAND [OPTION]... < IMAGE",
-    "       node fractal.mjs watch [memory, views K or counts] COURSE [OPTION]... < IMAGE", "",
+    "       node fractal.mjs watch [memory, views K or counts] MODE [OPTION]... < IMAGE", "",
     "Commands:", ...rows("command", ([, name, words, , does]) => row(`${name} ${words}`.trim(), does)), "",
     "Courses of watch:", ...rows("course", ([, name, words, , does]) => row(`${name} ${words}`.trim(), does)), "",
     "Options:",
@@ -63,10 +63,10 @@ function versionLine() {
   return `fractal ${table.find(([kind]) => kind === "version")[1]}, commit ${made.commit}, as WebAssembly\n`;
 }
 
-/** What a person at a terminal is told of a status. */
+/** What a person at a terminal is told of a status; the launcher tells it itself. */
 function sayStatus(status) {
   const found = table.find(([kind, number]) => kind === "status" && number === String(status));
-  if (status === 0 || !found || !process.stderr.isTTY) return;
+  if (status === 0 || !found || !process.stderr.isTTY || process.env.FRACTAL_LAUNCHER) return;
   write(ERRORS, `fractal: ${found[2]}${found[3] ? ` (${found[3]})` : ""}: status ${status}.\n`);
 }
 

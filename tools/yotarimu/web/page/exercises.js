@@ -1,4 +1,4 @@
-// ---- exercises, which judge themselves: the texts stand in exercises.json, which the tools in Python read too
+// ---- exercises and their judges; their texts are in exercises.json, which the tools in Python read too
 
 const MOST_SHOWN = 40;
 
@@ -126,7 +126,7 @@ async function judgeDomains({image}, answer) {
 const REASONS = {child: "child", touched: "touched", room: "room", abort: "script"};
 const SHARED = ["byte", "line", "bit"];
 
-/** Why each task was taken back by a script: an act, a task, a word, and the task that it goes back to. */
+/** Why a script aborts each task: an act, the task, a term, and the task that caused it. */
 async function reasonsOf({image, words, script}) {
   const acts = numbered(script).map(([, act]) => act), run = new ToldRun();
   await run.take((await machines.call("watch", words, withBehind(image, scriptText(acts)))).output);
@@ -164,45 +164,90 @@ const JUDGES = {journal: judgeJournal, abort: judgeAbort, stall: judgeStall, fal
 
 // ---- the page's part
 
-const exerciseExample = (name) => examples.find((it) => it.name === `exercises/${name}`);
-
-function buildExercises() {
-  at("exercise").innerHTML = Object.entries(exercises.exercises)
-    .map(([name, {title}]) => `<option value="${name}">${escaped(title)}</option>`).join("");
+const WHERE = {script: "Your answer is the acts that you make.", source: "Your answer is the text of the editor.",
+  text: "Write your answer under Answer."};
+/** An exercise by its name: what it says, and the image, the script and the words that its judge takes. */
+function exerciseOf(name) {
+  if (name === OWN) return ownExerciseRead();
+  const example = exerciseExample(name), words = example.words[0] === "steps" ? example.words : ["steps"];
+  const {image, script} = example;
+  return {...exercises.exercises[name], judgeIt: JUDGES[name], image: bytesOf(image), script, words};
 }
 
-/** Opens an exercise: its image before the first act, where no answer is told yet, its text, and a place for the
-    answer. */
-function openExercise() {
-  const name = at("exercise").value, {text, answer} = exercises.exercises[name], example = exerciseExample(name);
+const exerciseExample = (name) => examples.find((it) => it.name === `exercises/${name}`);
+
+let openedExercise = null, openedAnswer = null;
+
+/** The acts of an answer that is a script are kept as other answers are. */
+function keepActs() {
+  if (openedAnswer === "script" && courseNow().kind === "steps")
+    keep("answers", answerKey(openedExercise), scriptText());
+}
+
+function buildExercises() {
+  at("exercise").innerHTML = `<option value="">choose</option>${Object.entries(exercises.exercises)
+    .map(([name, {title}]) => `<option value="${name}">${escaped(title)}</option>`).join("")}
+    <option value="${OWN}">my own</option>`;
+}
+
+/** Opens an exercise before the first act. Acts that would give the answer of a text away aren't made. */
+function openExercise(name) {
+  if (name === OWN) return perform(openOwn);
+  const {answer} = exercises.exercises[name], example = exerciseExample(name);
+  const more = answer === "text" ? {course: {kind: "steps"}, acts: actsIn(example.script).slice(0, -1)}
+    : answer === "script" ? {acts: actsIn(kept.answers[name] ?? "")} : {};
   return perform(async () => {
-    await openExample(example, 0);
-    if (answer !== "script") setAnswer(answer === "source" ? example.source : "");
-    at("exercise-text").textContent = text + (answer === "script" ? " Your answer is the acts that you make." : "");
-    at("answer-box").hidden = answer === "script";
-    at("source-text").value = example.source;
-    at("exercise-box").hidden = false;
-    showVerdict("", "");
+    await openExample(example, 0, more);
+    showExercise(name);
   });
 }
 
-function setAnswer(text) { at("answer").value = text; }
+/** Shows the task of an exercise, or none. */
+function showExercise(name) {
+  openedExercise = name;
+  openedAnswer = name === null ? null : exerciseOf(name).answer;
+  at("exercise-box").hidden = at("tab-answer").hidden = name === null;
+  at("exercise").value = name ?? "";
+  showVerdict("", "");
+  if (name === null && !at("answer-pane").hidden) chooseTab("source");
+  if (name === null) return;
+  const {text, answer, script: played} = exerciseOf(name);
+  const last = answer === "text" ? actsIn(played).at(-1) : undefined;
+  const rest = last ? ` The last act, \`${last}\`, isn't made here yet.` : "";
+  show(at("exercise-text"), toldHtml(`${text} ${WHERE[answer]}${rest}`));
+  at("tab-answer").hidden = answer !== "text";
+  at("answer").value = kept.answers[answerKey(name)] ?? "";
+  if (answer === "text") chooseTab("answer");
+}
 
 function showVerdict(kind, text) {
   at("verdict").className = kind;
-  at("verdict").textContent = text;
+  at("verdict").innerHTML = toldHtml(text);
+  showAnswers();
+}
+
+/** Whether an exercise is open whose answer the conflicts of the run would give away. */
+function isUnanswered() {
+  return openedAnswer !== null && openedAnswer !== "script" && at("verdict").className !== "right";
+}
+
+/** Shows what would answer a question of the story or of an exercise only when that is answered. */
+function showAnswers() {
+  const isTold = !at("story").hidden;
+  at("controls").hidden = at("told-box").hidden = at("curves").hidden = isTold;
+  at("profile").hidden = isTold || isUnanswered();
+  drawGutter();
 }
 
 function judge() {
-  const name = at("exercise").value, {answer} = exercises.exercises[name], example = exerciseExample(name);
-  const own = {image: bytesOf(example.image), script: example.script,
-    words: example.words[0] === "steps" ? example.words : ["steps"]};
+  const own = exerciseOf(openedExercise), {answer} = own;
+  if (answer === "source" && checkSource()) return goToWrong();
   return perform(async () => {
     showVerdict("", "");
-    const given
-      = answer === "script" ? scriptText(subject.name === example.name ? actsSoFar() : []) : at("answer").value;
+    const given = {script: () => scriptText(actsSoFar()), text: () => at("answer").value,
+      source: openedExercise === OWN ? sourcesNow : sourceText}[answer]();
     try {
-      showVerdict("right", filled(exercises.verdicts.right, {why: await JUDGES[name](own, given)}));
+      showVerdict("right", filled(exercises.verdicts.right, {why: await own.judgeIt(own, given)}));
     } catch (error) {
       if (!(error instanceof Wrong)) throw error;
       showVerdict("wrong", filled(exercises.verdicts.wrong, {why: error.message}));
@@ -211,16 +256,13 @@ function judge() {
 }
 
 function listenToExercises() {
-  at("exercise-open").addEventListener("click", openExercise);
-  at("exercise").addEventListener("change", () => { at("exercise-box").hidden = true; });
+  at("exercise").addEventListener("change", async () => {
+    const name = at("exercise").value;
+    if (name === OWN && !ownExercise) at("file").click();
+    else if (name && await mayLeave()) openExercise(name);
+    at("exercise").value = openedExercise ?? "";
+  });
+  at("exercise-close").addEventListener("click", () => showExercise(null));
+  at("answer").addEventListener("input", () => keep("answers", answerKey(openedExercise), at("answer").value));
   at("judge").addEventListener("click", judge);
-  at("assemble")
-    .addEventListener("click", () => perform(() => openSources([{name: "task.s", text: at("source-text").value}])));
-}
-
-/** Assembles sources, and opens what they make. */
-async function openSources(sources, more = {course: {kind: "least"}}, place = 0) {
-  const assembly = assembled(...sources), image = imageOf(assembly);
-  await open({name: sources[0].name, image, listing: listingOf(assembly), sources, ...more}, place);
-  at("assembled").textContent = `The image has ${plural(image.length, "byte")}.`;
 }

@@ -11,8 +11,7 @@ function reportCall() {
   if (kind === "least") return [["run", ...words], subject.image];
   const other = optionRows.find((row) => !ofBoth.includes(row) && options[row[1]] !== row[3]);
   if (other) {
-    throw new Refusal(`The first program makes the report, and has ${other[1]} ${other[3]} alone; choose that, or `
-      + "the least task's acts.");
+    throw new Refusal(`A report is made with ${other[1]} ${other[3]} only; choose that, or the least task's acts.`);
   }
   const acts = kind === "steps" ? script : actsSoFar();
   return [["steps", ...words], withBehind(subject.image, scriptText(acts))];
@@ -29,7 +28,7 @@ async function makeReport() {
   const {status, output} = await machines.call("sim", words, input);
   showText("report", reportIn(new TextDecoder().decode(output)));
   const told = status === UNWRITTEN ? "So long a report isn't made whole here" : statusTold(status);
-  at("report-said").textContent = `fractal ${words.join(" ")}: status ${status}. ${told}.`;
+  show(at("report-said"), toldHtml(`\`fractal ${words.join(" ")}\`: status ${status}. ${told}.`));
 }
 
 /** Hands the report to `check`, also where it was changed by hand. */
@@ -40,7 +39,7 @@ async function checkReport() {
   const text = textIn("report");
   const {output} = await machines.call("sim", words, withBehind(subject.image, text));
   const said = new TextDecoder().decode(output).trim();
-  at("report-said").textContent = checkTold(said, text);
+  show(at("report-said"), toldHtml(checkTold(said, text)));
 }
 
 /** What `check` says, in a sentence. */
@@ -87,8 +86,23 @@ async function packedText(bytes) {
   return btoa(text).replaceAll("+", "-").replaceAll("/", "_").replace(/=+$/, "");
 }
 
+/** What an address has packed; refused where it would be larger than all that the page takes. */
 async function unpackedText(text) {
-  return through(new DecompressionStream("gzip"), bytesOf(text.replaceAll("-", "+").replaceAll("_", "/")));
+  const bytes = bytesOf(text.replaceAll("-", "+").replaceAll("_", "/"));
+  // The last four bytes say the size, and needn't be right: so what comes is counted too.
+  if (bytes.length >= 4 && new DataView(bytes.buffer).getUint32(bytes.length - 4, true) > MOST_INPUT) refuseSize();
+  const reader = new Blob([bytes]).stream().pipeThrough(new DecompressionStream("gzip")).getReader(), pieces = [];
+  for (let size = 0; ;) {
+    const {done, value} = await reader.read();
+    if (done) return joined(pieces, size);
+    size += value.length;
+    if (size > MOST_INPUT) refuseSize();
+    pieces.push(value);
+  }
+}
+
+function refuseSize() {
+  throw new Refusal(`The address has more than ${grouped(MOST_INPUT)} bytes packed, so it isn't followed.`);
 }
 
 /** The part of an address behind its `#`: an example's name or an image, options, course, acts, place. */
@@ -102,13 +116,18 @@ async function addressNow() {
     parts.set("name", subject.name);
     parts.set("image", await packedText(subject.image));
   }
-  const {kind, rounds, seed} = courseNow();
-  parts.set("acts", [kind, ...(kind === "lockstep" ? [rounds, seed] : [])].join(" "));
+  const {kind} = courseNow();
+  parts.set("acts", courseWords().join(" "));
   for (const [, name, , usual] of optionRows) {
     const value = optionsNow()[name];
     if (value !== usual) parts.set(name, value);
   }
-  if (kind === "steps" && script.length) parts.set("script", await packedText(new TextEncoder().encode(scriptText())));
+  if (script.length && (kind === "steps" || areMade()))
+    parts.set("script", await packedText(new TextEncoder().encode(scriptText())));
+  if (subject.from) parts.set("from", subject.from);
+  if (openedExercise) parts.set("exercise", openedExercise);
+  if (openedExercise === OWN) parts.set(OWN, await packedText(new TextEncoder().encode(JSON.stringify(ownExercise))));
+  if (!at("story").hidden) parts.set("story", String(storyPlace));
   parts.set("at", String(current));
   return parts.toString();
 }
@@ -120,28 +139,56 @@ function writeAddress() {
   clearTimeout(writing);
   writing = setTimeout(async () => {
     const address = await addressNow();
-    if (address.length > MOST_ADDRESS || address === written) return;
-    written = address;
-    location.replace(`#${address}`);
+    if (address === written) return;
+    if (address.length <= MOST_ADDRESS) {
+      written = address;
+      location.replace(`#${address}`);
+    }
+    keepPlace(address);
   }, 300);
 }
 
-/** Opens what an address tells; an odd one is refused in a sentence. */
-async function openAddress() {
-  const address = location.hash.slice(1);
+/** Opens what an address has; an odd one is refused in a sentence. */
+async function openAddress(address = location.hash.slice(1)) {
   if (!address || address === written) return false;
-  const parts = new URLSearchParams(address), [kind, rounds, seed] = (parts.get("acts") ?? "steps").split(" ");
-  if (!["steps", "least", "lockstep"].includes(kind))
+  const parts = new URLSearchParams(address), exercise = parts.get("exercise"), before = ownExercise;
+  if (parts.has(OWN)) ownExercise = ownExerciseIn(new TextDecoder().decode(await read(parts.get(OWN))));
+  try {
+    await openParts(parts, address);
+  } catch (error) {
+    ownExercise = before;
+    throw error;
+  }
+  if (exercise === OWN ? ownExercise : Object.hasOwn(exercises.exercises, exercise ?? "")) showExercise(exercise);
+  const step = Number(parts.get("story") ?? NaN);
+  if (Number.isInteger(step) && subject.name === story.example) {
+    showStory(true);
+    tellStory(step);
+  }
+  return true;
+}
+
+async function openParts(parts, address) {
+  const words = (parts.get("acts") ?? "steps").split(" ");
+  if (!["steps", "least", "lockstep"].includes(words[0]))
     throw new Refusal("The address has acts of no kind that is known here.");
   const options
     = Object.fromEntries(optionRows.filter(([, name]) => parts.has(name)).map(([, name]) => [name, parts.get(name)]));
   const acts = parts.has("script") ? actsIn(new TextDecoder().decode(await read(parts.get("script")))) : [];
   const number = Number(parts.get("at") ?? NaN), place = Number.isInteger(number) && number >= 0 ? number : Infinity;
-  const more = {options, acts, course: {kind, rounds, seed}};
-  if (parts.get("sources")) await openSources(sourcesRead(await read(parts.get("sources"))), more, place);
+  const more = {options, acts, course: courseRead(words)};
+  const from = parts.get("from") ?? parts.get("example"), example = examples.find((it) => it.name === from);
+  if (example) Object.assign(more, {from, given: example.words[0] === "steps" ? actsIn(example.script) : []});
+  else more.given = [];
+  // The place that was left has its texts under their name; a link of somebody else's changes none that is kept here.
+  const {key, originals} = address === kept.place.address ? kept.place : {};
+  if (areSources(originals)) Object.assign(more, {key, originals});
+  else if (parts.has(OWN)) more.key = answerKey(OWN);
+  if (parts.get("exercise") === OWN && ownExercise?.sources.length) more.originals = ownExercise.sources;
+  const sources = parts.get("sources");
+  if (sources) await openSources(sourcesIn(new TextDecoder().decode(await read(sources))), more, place);
   else await open({...(await imageAt(parts)), ...more}, place);
   written = address;
-  return true;
 }
 
 /** The image that an address names or has. */
@@ -152,17 +199,40 @@ async function imageAt(parts) {
   return {name: parts.get("name") || "image", image: await read(parts.get("image"))};
 }
 
-function sourcesRead(bytes) {
-  const sources = JSON.parse(new TextDecoder().decode(bytes));
-  at("source-text").value = sources[0].text;
-  return sources;
+/** The sources of a text: a list of objects, each with a name and a text. */
+function sourcesIn(text) {
+  const sources = jsonIn(text);
+  if (!areSources(sources) || !sources.length)
+    throw new Refusal("The address has no list of sources, so it isn't followed.");
+  return sources.map(({name, text: own}) => ({name, text: own}));
+}
+
+/** A text as JSON; null if it is none. */
+function jsonIn(text) {
+  try {
+    return JSON.parse(text);
+  } catch {
+    return null;
+  }
+}
+
+const areSources = (list) => Array.isArray(list)
+  && list.every((it) => typeof it?.name === "string" && typeof it.text === "string");
+
+/** An exercise of one's own that an address has: texts, and perhaps sources. */
+function ownExerciseIn(text) {
+  const own = jsonIn(text);
+  if (!["name", "wanted", "words", "script"].every((field) => typeof own?.[field] === "string")
+    || !areSources(own.sources) || typeof (own.image ?? "") !== "string")
+    throw new Refusal("The address has no exercise that can be read, so it isn't followed.");
+  return own;
 }
 
 async function read(text) {
   try {
     return await unpackedText(text);
-  } catch {
-    throw new Refusal("The address isn't whole, so it isn't followed.");
+  } catch (error) {
+    throw error instanceof Refusal ? error : new Refusal("The address isn't whole, so it isn't followed.");
   }
 }
 
@@ -174,11 +244,11 @@ async function copyLink() {
   const link = `${location.href.split("#")[0]}#${address}`;
   try {
     await navigator.clipboard.writeText(link);
-    at("report-said").textContent = "The link is copied. Whoever has this page sees this state by it.";
+    show(at("report-said"), "The link is copied. It brings everyone who has this page to this state.");
   } catch {
     written = address;
     location.replace(`#${address}`);
-    at("report-said").textContent = "The link stands in the address of this page: copy it there.";
+    show(at("report-said"), "The link is the address of this page: copy it from there.");
   }
 }
 
@@ -189,5 +259,9 @@ function listenToTexts() {
   for (const button of document.querySelectorAll("[data-save]")) {
     button.addEventListener("click", () => perform(() => save(button.dataset.save)));
   }
-  addEventListener("hashchange", () => { if (location.hash.slice(1) !== written) perform(openAddress); });
+  addEventListener("hashchange", async () => {
+    if (location.hash.slice(1) === written) return;
+    if (await mayLeave()) perform(openAddress);
+    else location.replace(`#${written}`);
+  });
 }

@@ -8,18 +8,23 @@ const UNWRITTEN = 7;
 // Those of both programs, and behind them those of the second program alone.
 const ofBoth = table.filter(([kind, name]) => kind === "option" && name !== "workers");
 const optionRows = [...ofBoth, ...table.filter(([kind]) => kind === "course-option")];
+// What the program calls the number of rounds without a commit after which the least task advances, and the usual one.
+const STARVED = /\[(\w+) M\]/.exec(table.find(([, name]) => name === "lockstep")?.[2])?.[1] ?? "starved";
+const USUAL_STARVED = "16";
 const actWords = {dispatch: 1, step: 2, take: 2, give: 2, abort: 1, commit: 0, coalesce: 1, split: 1, advance: 0};
 // Replies to what nothing asked for, in rounds.
 const NOT_ASKED_FOR = ["empty", "busy", "stale", "ended"];
 
+let cutTold = "";
 let machines, toldRun = new ToldRun();
-let subject = {name: "", image: new Uint8Array(0), listing: [], labels: new Labels([])};
-let script = [], undoLengths = [], lastOptions = null, callTold = "";
+let subject = {name: "", image: new Uint8Array(0), listing: [], labels: new Labels([]), given: []};
+// What stood before acts were made or cut, the latest last.
+let script = [], past = [], lastOptions = null, callTold = "";
 
 /** What can't be done: its text is the sentence for the person. */
 class Refusal extends Error {}
 
-const tell = (sentence) => { at("message").textContent = sentence; };
+const tell = (sentence) => { at("message").innerHTML = toldHtml(sentence); };
 
 // ---- one thing after another
 
@@ -78,16 +83,24 @@ function optionWords(options = optionsNow(), rows = optionRows) {
 
 function courseNow() {
   const kind = at("course").value;
-  return kind === "lockstep" ? {kind, rounds: at("rounds").value, seed: at("seed").value} : {kind};
+  if (kind !== "lockstep") return {kind};
+  return {kind, rounds: at("rounds").value, seed: at("seed").value, starved: at("starved").value};
 }
 
-function setCourse({kind, rounds, seed}) {
+function setCourse({kind, rounds, seed, starved = USUAL_STARVED}) {
   at("course").value = document.body.dataset.course = kind;
-  if (rounds !== undefined) [at("rounds").value, at("seed").value] = [rounds, seed];
+  if (rounds !== undefined) [at("rounds").value, at("seed").value, at("starved").value] = [rounds, seed, starved];
 }
 
-function courseWords({kind, rounds, seed} = courseNow()) {
-  return kind === "lockstep" ? [kind, rounds, seed] : [kind];
+function courseWords({kind, rounds, seed, starved} = courseNow()) {
+  if (kind !== "lockstep") return [kind];
+  return [kind, rounds, seed, ...(starved === USUAL_STARVED ? [] : [STARVED, starved])];
+}
+
+/** The mode that words begin with, such as `lockstep 1000 1`; the usual one where none is known. */
+function courseRead([word, rounds, seed, further, starved]) {
+  if (word !== "lockstep") return {kind: word === "steps" ? word : "least"};
+  return {kind: word, rounds, seed, ...(["starved", "barren"].includes(further) ? {starved} : {})};
 }
 
 const scriptText = (acts = script) => acts.map((act) => `${act}\n`).join("");
@@ -100,14 +113,14 @@ function withBehind(image, text) {
 /** All that decides what is played, and what was told of it. */
 function stateNow() {
   return {
-    subject, script, undoLengths, toldRun, callTold, lastOptions, bytes: toldRun.bytes, place: current,
+    subject, script, past, toldRun, callTold, lastOptions, bytes: toldRun.bytes, place: current,
     options: optionsNow(), course: courseNow()
   };
 }
 
 /** Brings a state back. What was read since then is read as it was: that can't be stopped. */
 async function setState(state) {
-  ({subject, script, undoLengths, toldRun, callTold, lastOptions} = state);
+  ({subject, script, past, toldRun, callTold, lastOptions} = state);
   setOptions(state.options);
   setCourse(state.course);
   showScript();
@@ -139,6 +152,14 @@ async function play(place = Infinity) {
   clearTexts();
 }
 
+/** Who makes the acts, and on what machine. */
+function showRun({tiles, cores}) {
+  const {kind, seed} = courseNow();
+  const who = {steps: "my acts", least: "least task", lockstep: "lockstep"}[kind];
+  at("run-told").textContent = `${who}, ${tiles} × ${plural(cores, "core")}`;
+  at("run-told").title = `${settingsTold(course.head)}. Open this to change it.`;
+}
+
 function showAnswer({isNew, kept, place}) {
   ({course} = toldRun);
   const sayer = new Sayer(toldRun.head, subject.labels);
@@ -147,17 +168,27 @@ function showAnswer({isNew, kept, place}) {
   if (isNew) {
     build(subject.listing);
     buildPlaces(toldRun.head);
-  } else if (kept !== course.length || at("slider").max !== String(course.length)) {
+  } else {
     buildCurves();
+    timeline.open(course);
   }
+  showProfile();
+  keepActs();
+  showRun(toldRun.head);
   showScript();
-  at("example").value = String(examples.findIndex((it) => it.name === subject.name));
+  showExample();
   go(place);
+}
+
+function showExample() {
+  at("example").value = String(examples.findIndex((it) => it.name === subject.from));
 }
 
 function sentenceAt(sayer, act, before, behind) {
   const told = act === 0 ? sayer.opening() : sayer.sentence(course.acts[act - 1], before, behind);
-  return act === course.length && toldRun.end ? `${told} ${sayer.end(toldRun.end)}` : told;
+  // Whoever makes acts knows that the run isn't over yet.
+  const isClear = toldRun.end?.end === "open" && (act === 0 || past.length);
+  return act === course.length && toldRun.end && !isClear ? `${told} ${sayer.end(toldRun.end)}` : told;
 }
 
 /** Does what changes the state; where that is refused or stopped, all is as it was. */
@@ -186,13 +217,13 @@ function brokenOff(status) {
 
 function statusTold(status) {
   const row = table.find(([kind, number]) => kind === "status" && number === String(status));
-  return row ? `${row[2][0].toUpperCase()}${row[2].slice(1)}` : "The program told nothing";
+  return row ? `${row[2][0].toUpperCase()}${row[2].slice(1)}` : "The program wrote nothing";
 }
 
 function faultTold(fault) {
   switch (fault.fault) {
     case "image":
-      return `${subject.name} is no image: ${sentences["image faults"][fault.number]} (at its byte ${fault.offset}).`;
+      return `${subject.name} isn't an image: ${sentences["image faults"][fault.number]} (at byte ${fault.offset}).`;
     case "script": return actFault(script[fault.line - 1] ?? "", fault.line);
     case "long": return `The image and its script have more than ${grouped(MOST_INPUT)} bytes.`;
     default: return `An option is outside its range: ${optionFault()}.`;
@@ -203,7 +234,7 @@ function optionFault() {
   const options = optionsNow();
   const wrong = optionRows.find(([, name, values]) => !isAllowed(values, options[name]));
   return wrong ? `${wrong[1]} is ${wrong[2].replace("..", " to ").replaceAll(",", ", ")}, and not ${options[wrong[1]]}`
-    : "rounds are 1 to 1,000,000, and a seed is 0 to 4,294,967,295";
+    : "rounds, also those without a commit, are 1 to 1,000,000, and a seed is 0 to 4,294,967,295";
 }
 
 function isAllowed(values, text) {
@@ -217,9 +248,9 @@ function actFault(act, line) {
   const [word, ...numbers] = act.split(" "), {tiles, cores} = optionsNow();
   const where = line ? `Line ${line}, \`${act.slice(0, 40)}\`` : `\`${act.slice(0, 40)}\``;
   if (!Object.hasOwn(actWords, word))
-    return `${where}${line ? "," : ""} is no act; an act begins with ${Object.keys(actWords).join(", ")}.`;
+    return `${where}${line ? "," : ""} isn't an act; an act begins with ${Object.keys(actWords).join(", ")}.`;
   if (numbers.length !== actWords[word])
-    return `${where}: it wants ${["no number", "a tile", "a tile and a core"][actWords[word]]}.`;
+    return `${where}: it takes ${["no number", "a tile", "a tile and a core"][actWords[word]]}.`;
   if (numbers.some((it) => /^0\d/.test(it))) return `${where}: a number has no leading zero.`;
   if (numbers[0] !== undefined && !isAllowed(`0..${tiles - 1}`, numbers[0]))
     return `${where}: the tiles are 0 to ${tiles - 1}.`;
@@ -237,10 +268,18 @@ function actsSoFar() {
     [line.do, ...[line.tile, line.core].slice(0, actWords[line.do])].join(" ")));
 }
 
-/** Puts further acts behind those that stand. */
+/** The acts up to what is shown. */
+function actsUpToHere() {
+  return courseNow().kind === "steps" ? script.slice(0, current) : actsSoFar();
+}
+
+/** Puts further acts behind what is shown. Those that stood there are cut; undoing brings them back. */
 function append(more) {
-  undoLengths = [...undoLengths, script.length];
-  script = [...actsSoFar(), ...more];
+  const isCut = current < course.length;
+  const cut = plural(course.length - current, "act");
+  cutTold = isCut ? `${cut} after act ${grouped(current)} were replaced; undo restores them.` : "";
+  past = [...past, {script, course: courseNow(), place: current}];
+  script = [...actsUpToHere(), ...more];
   setCourse({kind: "steps"});
 }
 
@@ -249,7 +288,7 @@ const addActs = (more) => perform(() => change(() => append(more)));
 /** Makes acts of which only those stay that something asked for; where none stays, the sentence says why. */
 function addAsked(more, notAskedFor, sentence) {
   return attempt(async () => {
-    const before = actsSoFar().length;
+    const before = actsUpToHere().length;
     append(more);
     await play();
     const asked = script.filter((_, place) => place < before || !notAskedFor.includes(course.acts[place]?.reply));
@@ -278,22 +317,38 @@ function runRounds(count) {
   });
 }
 
-/** Leaves so many acts of the script as `length()` gives. */
-function undoTo(length) {
+/** Leaves out the last acts. */
+function undo(count) {
   return perform(() => {
-    if (courseNow().kind !== "steps") throw new Refusal("The machine made these acts; choose another course.");
+    if (courseNow().kind !== "steps") throw new Refusal("The machine made these acts; choose your own acts instead.");
     if (!script.length) throw new Refusal("No act is left to undo.");
     return change(() => {
-      script = script.slice(0, Math.max(0, length()));
-      undoLengths = undoLengths.filter((it) => it < script.length);
+      past = [...past, {script, course: courseNow(), place: current}];
+      script = script.slice(0, Math.max(0, script.length - count));
     });
   });
 }
 
-const undo = (count) => undoTo(() => script.length - count);
+/** Plays other acts in place of those so far, which undo restores. */
+function replaceScript(text) {
+  return change(() => {
+    past = [...past, {script, course: courseNow(), place: current}];
+    script = actsIn(text);
+    setCourse({kind: "steps"});
+  });
+}
 
-/** Undoes what the last button did. */
-const undoLast = () => undoTo(() => undoLengths.filter((it) => it < script.length).at(-1) ?? script.length - 1);
+/** Brings back what stood before the last button. */
+function undoLast() {
+  if (!past.length) return undo(1);
+  const before = past.at(-1);
+  return perform(() => change(() => {
+    past = past.slice(0, -1);
+    script = before.script;
+    cutTold = "";
+    setCourse(before.course);
+  }, before.place));
+}
 
 function doTyped() {
   const text = at("typed").value.split("#")[0].trim().replace(/\s+/g, " ");
@@ -314,24 +369,28 @@ function addTyped(text) {
 // ---- what is opened
 
 /** Shows another image with its script and its options. */
-function open({name, image, listing = [], acts = [], options = {}, course: wanted = {kind: "steps"}, sources = null},
-  place = Infinity) {
+function open({name, image, listing = [], acts = [], options = {}, course: wanted = {kind: "steps"}, sources = null,
+  from = name, given = acts}, place = Infinity) {
   return change(() => {
-    const rows = listing.length ? listing : disassembled(image);
-    subject = {name, image, listing: rows, labels: new Labels(rows), sources};
+    const rows = listing.length ? listing : disassembled(image), example = examples.find((it) => it.name === from);
+    subject = {name, image, listing: rows, labels: new Labels(rows), sources, given, from: example && from};
     showStory(false);
+    showExercise(null);
     script = acts;
-    undoLengths = [];
+    past = [];
+    cutTold = "";
     setOptions(options);
     setCourse(wanted);
     toldRun = new ToldRun();
+    editor.isOfC = Boolean(example?.c);
+    if (!sources) openTexts(name, example?.c ? [{name: `${name}.c`, text: example.c}] : example?.sources ?? []);
   }, place);
 }
 
-function openExample(example, place = example.words[0] === "steps" ? Infinity : 0) {
+function openExample(example, place = Infinity, more = {}) {
   const {course: wanted, options} = wordsRead(example.words);
   return open({name: example.name, image: bytesOf(example.image), listing: listingRows(example.listing),
-    acts: actsIn(example.script), options, course: wanted}, place);
+    acts: actsIn(example.script), options, course: wanted, ...more}, place);
 }
 
 const bytesOf = (base64) => Uint8Array.from(atob(base64), (sign) => sign.charCodeAt(0));
@@ -342,9 +401,11 @@ const actsIn
 function wordsRead(words) {
   const options = {};
   words.forEach((word, place) => { if (word.startsWith("--")) options[word.slice(2)] = words[place + 1]; });
-  const kind = ["steps", "lockstep"].includes(words[0]) ? words[0] : "least";
-  return {course: kind === "lockstep" ? {kind, rounds: words[1], seed: words[2]} : {kind}, options};
+  return {course: courseRead(words), options};
 }
+
+// What is opened without acts of its own: rounds in which tasks run ahead.
+const IN_LOCKSTEP = {kind: "lockstep", rounds: "1000", seed: "1"};
 
 /** Files of one's own: an image with what belongs to it, or a source. */
 async function openFiles(files) {
@@ -355,21 +416,18 @@ async function openFiles(files) {
   }
   const read = await Promise.all(
     files.map(async (file) => ({name: file.name, bytes: new Uint8Array(await file.arrayBuffer())})));
+  if (read.some(({name}) => name === "wanted")) return openOwnFiles(read);
   const kinds = {};
   for (const file of read) kinds[kindOf(file)] ??= file;
   const text = (file) => (file ? new TextDecoder().decode(file.bytes) : "");
   if (!kinds.image && kinds.source) {
-    at("source-text").value = text(kinds.source);
-    return openSources(
-      read.filter((file) => kindOf(file) === "source").map((file) => ({name: file.name, text: text(file)})));
+    return openSources(read.filter((file) => kindOf(file) === "source")
+      .map((file) => ({name: file.name.replace(/\s+/g, "_"), text: text(file)})));
   }
-  if (!kinds.image && kinds.script && !kinds.other) return change(() => {
-    script = actsIn(text(kinds.script));
-    setCourse({kind: "steps"});
-  });
+  if (!kinds.image && kinds.script && !kinds.other) return replaceScript(text(kinds.script));
   const image = kinds.image ?? kinds.other ?? read[0];
   return open({name: image.name, image: image.bytes, listing: kinds.listing ? listingRows(text(kinds.listing)) : [],
-    acts: actsIn(text(kinds.script)), course: {kind: kinds.script ? "steps" : "least"}}, kinds.script ? Infinity : 0);
+    acts: actsIn(text(kinds.script)), course: kinds.script ? {kind: "steps"} : IN_LOCKSTEP});
 }
 
 function kindOf({name, bytes}) {
@@ -401,7 +459,7 @@ function showScript() {
 
 function clearTexts() {
   showText("report", "");
-  at("report-said").textContent = "";
+  show(at("report-said"), "");
 }
 
 function fieldHtml([, name, values, usual, bounds]) {
@@ -423,39 +481,46 @@ function buildControls() {
   at("options").innerHTML = optionRows.map(fieldHtml).join("");
   setOptions({});
   const groups = [...new Set(examples.map((it) => it.group))];
-  at("example").innerHTML = `<option value="-1">of my own</option>${groups.map(groupHtml).join("")}`;
+  at("example").innerHTML = `<option value="-1">my own</option>${groups.map(groupHtml).join("")}`;
   at("made").textContent
-    = `Version ${table.find(([kind]) => kind === "version")[1]}; both programs are of the commit ${made.commit}.`;
+    = ` Version ${table.find(([kind]) => kind === "version")[1]}; both programs are of the commit ${made.commit}.`;
 }
 
 function listenToControls() {
   const on = (id, event, action) => at(id).addEventListener(event, action);
-  on("example", "change", () => {
-    if (at("example").value === "-1") at("file").click();
-    else perform(() => openExample(examples[at("example").value]));
+  on("example", "change", async () => {
+    const wanted = at("example").value;
+    if (wanted === "-1") at("file").click();
+    else if (await mayLeave()) perform(() => openExample(examples[wanted]));
+    else showExample();
   });
   on("options", "change", () => perform(changedOption));
-  for (const id of ["course", "rounds", "seed"]) on(id, "change", () => perform(changedOption));
-  on("file", "change", () => perform(() => openFiles([...at("file").files]).finally(() => { at("file").value = ""; })));
+  for (const id of ["course", "rounds", "seed", "starved"]) on(id, "change", () => perform(changedOption));
+  for (const id of ["tile", "core"]) on(id, "change", () => showRefusals(lastShown.machine));
+  on("file", "change", async () => {
+    const files = [...at("file").files];
+    at("file").value = "";
+    if (await mayLeave()) perform(() => openFiles(files));
+  });
   for (const button of document.querySelectorAll("[data-act]"))
-    button.addEventListener("click", () => addActs([actOf(button)]));
+    button.addEventListener("click", () => {
+      if (button.getAttribute("aria-disabled") !== "true") addActs([actOf(button)]);
+      else show(at("cut"), `${escaped(actOf(button))}: ${escaped(button.title)}`);
+    });
   on("run-many", "click", () => withCount(runMany));
   on("run-rounds", "click", () => withCount(runRounds));
   on("undo", "click", undoLast);
   on("stop", "click", stop);
   on("typed", "keydown", (event) => { if (event.key === "Enter") doTyped(); });
   on("script-box", "toggle", showScript);
-  on("script", "change", () => perform(() => change(() => {
-    script = actsIn(at("script").value);
-    setCourse({kind: "steps"});
-  })));
+  on("script", "change", () => perform(() => replaceScript(at("script").value)));
 }
 
 /** A field was changed: where the machine refuses what stands there, the field is as it was. */
 function changedOption() {
   document.body.dataset.course = at("course").value;
   const before = {...stateNow(), ...lastOptions};
-  return attempt(() => play(at("course").value === "steps" ? Infinity : 0), before);
+  return attempt(() => play(), before);
 }
 
 function actOf(button) {

@@ -310,6 +310,7 @@ class Course {
     this.curves = Object.fromEntries(CURVES.map((name) => [name, []]));
     this.machine = new Machine(opening);
     this.copies = [this.machine.copy()];
+    this.history = new History(head, opening);
     this.count(this.machine);
   }
 
@@ -318,7 +319,9 @@ class Course {
   follow(line) {
     this.acts.push(line);
     const place = this.acts.length, {machine} = this;
+    this.history.before(line, machine, place);
     machine.follow(line);
+    this.history.behind(line, machine, place);
     this.memory.follow(place, machine.act.writes);
     if (machine.act.committed) this.commit(line, place);
     if (place % EVERY === 0) this.copies.push(machine.copy());
@@ -358,6 +361,18 @@ class Course {
     emitted.places.length = emitted.digits.length = countUpTo(emitted.places, place);
     emitted.total = emitted.total.slice(0, emitted.digits.at(-1) ?? 0);
     for (const name of CURVES) this.curves[name].length = place + 1;
+    this.tellHistory();
+  }
+
+  /** Tells the history anew, which goes forth alone. */
+  tellHistory() {
+    const {history} = this, machine = new Machine(this.opening);
+    history.clear();
+    this.acts.forEach((line, act) => {
+      history.before(line, machine, act + 1);
+      machine.follow(line);
+      history.behind(line, machine, act + 1);
+    });
   }
 
   /** The digits of what was emitted behind so many acts, from the first one on. */

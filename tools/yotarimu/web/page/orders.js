@@ -125,7 +125,7 @@ function showPair() {
   const told = picked.map((label, place) => (
     tasks[place] ? orders.taskTold(tasks[place], labels) : filled(sentences.order.none, {task: label})));
   if (tasks.length === 2 && tasks[0] && tasks[1]) told.push(orders.orderTold(...tasks));
-  show(at("pair-told"), told.map((text) => `<p>${escaped(text)}</p>`).join(""));
+  show(at("pair-told"), told.map((text) => `<p>${toldHtml(text)}</p>`).join(""));
 }
 
 function listenToPair() {

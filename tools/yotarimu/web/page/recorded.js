@@ -8,8 +8,8 @@ function begin() {
   for (const line of acts) course.follow(line);
   saying = (place) => sentences[place] + (place === course.length ? ` ${sentences[place + 1] ?? ""}` : "");
   onPlace = writeHash;
-  build(data("listing"));
   listen();
+  build(data("listing"));
   addEventListener("hashchange", goByHash);
   goByHash();
 }

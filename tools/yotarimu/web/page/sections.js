@@ -89,7 +89,7 @@ class Assembly {
       places[count] = {offset: this.section.bytes.length, section: this.section};
       this.locals.set(name, places);
     } else {
-      if (this.pass === 1 && this.labels.has(name)) refuseLine(line, `the label \`${name}\` stands twice`);
+      if (this.pass === 1 && this.labels.has(name)) refuseLine(line, `the label \`${name}\` is defined twice`);
       this.labels.set(name, {offset: this.section.bytes.length, section: this.section, line});
     }
   }
@@ -113,14 +113,14 @@ class Assembly {
     const place = (this.seen.get(number) ?? 0) - (direction === "b" ? 1 : 0);
     const found = this.locals.get(number)?.[place];
     if (!found && this.pass === 1 && direction === "f") return {value: 0, section: this.section};
-    if (!found) refuseLine(line, `no label \`${number}:\` stands ${direction === "b" ? "before" : "behind"} this`);
+    if (!found) refuseLine(line, `no label \`${number}:\` is ${direction === "b" ? "before" : "after"} this line`);
     return {value: found.section.address + found.offset, section: found.section};
   }
 
   /** A number that no address decides. */
   constant(text, line) {
     const {value, section, isUnknown} = this.number(text, line);
-    if (isUnknown || section !== null) refuseLine(line, `\`${text}\` is no number that is known here`);
+    if (isUnknown || section !== null) refuseLine(line, `\`${text}\` isn't a number known here`);
     return value;
   }
 
@@ -207,7 +207,7 @@ class Assembly {
   }
 
   instruct(word, operands, line) {
-    if (/^\.s?bss/.test(this.section.name)) refuseLine(line, "no instruction stands in .bss");
+    if (/^\.s?bss/.test(this.section.name)) refuseLine(line, ".bss can't have instructions");
     new Instruction(this, word, operands, line).make();
   }
 }
@@ -224,7 +224,7 @@ class Instruction {
 
   register(text) {
     const number = NUMBERS_OF.get((text ?? "").trim());
-    if (number === undefined) this.refuse(`\`${text ?? ""}\` is no register`);
+    if (number === undefined) this.refuse(`\`${text ?? ""}\` isn't a register`);
     return number;
   }
 
@@ -248,7 +248,7 @@ class Instruction {
     else if (name in immediate) this.immediate(immediate[name][0], operands);
     else if (name in shift) this.shift(...shift[name]);
     else if (name in register) this.registers(...register[name]);
-    else refuseLine(this.line, `\`${name}\` is no instruction of RV32I that is known here`);
+    else refuseLine(this.line, `\`${name}\` isn't an instruction of RV32I`);
   }
 
   short(count, text) {
@@ -340,7 +340,7 @@ class Instruction {
     const [source, text, through] = this.operands, place = through === undefined && this.place(text);
     if (place) this.put(wordS(kind, place[1], this.register(source), place[0]));
     else {
-      if (through === undefined) this.refuse("behind a label it wants a register to reckon in");
+      if (through === undefined) this.refuse("after a label it needs a register for the address");
       this.far(through, text, (distance) => wordS(kind, this.register(through), this.register(source), distance));
     }
   }

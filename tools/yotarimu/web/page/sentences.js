@@ -54,8 +54,10 @@ class Sayer {
   requested(line, behind) {
     switch (line.asks) {
       case "go": return {place: this.labels.labelled(line.pc)};
-      case "load": return {access: this.access(line)};
-      case "store": return {access: this.access(line), value: line.value % 2 ** (8 * line.bytes)};
+      case "load": case "store": {
+        const value = signed(line.value % 2 ** (8 * line.bytes), line.bytes);
+        return {access: this.access(line), old: signed(line.old, line.bytes), value};
+      }
       case "enqueue": return this.child(line, behind);
       case "emit": return {text: printable(line.byte.toString(16).padStart(2, "0"))};
       case "trap": return {place: this.labels.labelled(line.pc), trap: this.trap(line)};

@@ -21,13 +21,13 @@ class Described {
     const window = this.seen.get("window");
     if (window) this.window = this.windowOf(window);
     if (!this.tasks.length)
-      throw new Refusal("No line tells an initial task: `# image: task LABEL [ts N] [args A [B [C]]]`.");
+      throw new Refusal("No line names an initial task: `# image: task LABEL [ts N] [args A [B [C]]]`.");
   }
 
   follow(it) {
     const {line, words} = it, [word = ""] = words;
     if (!Object.hasOwn(FORMS, word))
-      refuseLine(line, `\`${word}\` describes nothing; ${Object.keys(FORMS).join(", ")} do`);
+      refuseLine(line, `\`${word}\` isn't a description; ${Object.keys(FORMS).join(", ")} do`);
     if (word !== "task" && this.seen.has(word)) refuseLine(line, `a second line on \`${word}\``);
     this.seen.set(word, it);
     if (word === "root") this.isOrdered = this.oneOf(it, ["ordered", "unordered"]) === "ordered";
@@ -59,9 +59,9 @@ class Described {
 
   labelOf(name, sections, what, line) {
     const label = this.assembly.labels.get(name);
-    if (!label) refuseLine(line, `there is no label \`${name}\``);
+    if (!label) refuseLine(line, `no label \`${name}\``);
     if (!sections.some((it) => isPart(label.section, it))) {
-      refuseLine(line, `the label \`${name}\` doesn't stand in the ${what}`);
+      refuseLine(line, `the label \`${name}\` isn't in the ${what}`);
     }
     return label.section.address + label.offset;
   }
@@ -70,7 +70,7 @@ class Described {
     if (it.words.length < 2 || it.words.length > 3) this.misshapen(it);
     const [, name, told] = it.words, offset = this.labelOf(name, SECTIONS.slice(3), "data", it.line) - DATA_START;
     if (offset % 4)
-      refuseLine(it.line, `the label \`${name}\` doesn't stand at a multiple of 4: \`.balign 4\` above it helps`);
+      refuseLine(it.line, `the label \`${name}\` isn't at a multiple of 4: put \`.balign 4\` above it`);
     const words = told === undefined ? Math.ceil((this.assembly.sizes.get(name) ?? 0) / 4)
       : this.number(told, "the number of words", MOST_WINDOW, it.line);
     if (told === undefined && !(words > 0 && words <= MOST_WINDOW)) this.misshapen(it);

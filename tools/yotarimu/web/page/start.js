@@ -1,18 +1,28 @@
 // ---- the page's beginning
 
 async function begin() {
-  onPlace = writeAddress;
+  readKept();
+  onPlace = () => {
+    followStory();
+    writeAddress();
+    showRefusals(lastShown.machine);
+    show(at("cut"), cutTold);
+  };
   buildControls();
   buildExercises();
+  listenToQuestions();
+  listenToEditor();
   listen();
+  chooseTab("source");
   listenToControls();
   listenToTexts();
   listenToStory();
   listenToExercises();
+  listenToProfile();
   machines = new Machines(modules);
   await machines.start();
   let isFollowed = false;
-  await perform(async () => { isFollowed = await openAddress(); });
+  await perform(async () => { isFollowed = await openAddress(addressToBegin()); });
   const refused = at("message").textContent;
   if (!isFollowed) await openStory();
   if (refused) tell(refused);
@@ -23,5 +33,5 @@ const ready = typeof WebAssembly === "undefined" || typeof DecompressionStream =
   ? Promise.resolve(tell("This browser is too old for the machine: it has no WebAssembly, or no DecompressionStream."))
   : begin().catch((error) => {
     document.body.dataset.failed = "yes";
-    tell(`The machine can't be had in this browser: ${error.message}.`);
+    tell(`The machine doesn't start in this browser: ${error.message}.`);
   });

@@ -5,6 +5,9 @@ const hex = (number) => number.toString(16).padStart(8, "0");
 const {format: grouped} = new Intl.NumberFormat("en");
 const plural = (count, one) => `${grouped(count)} ${one}${count === 1 ? "" : "s"}`;
 
+/** A value in memory as people read it: a word is a signed number, a shorter value isn't. */
+const signed = (value, bytes = 4) => (bytes === 4 ? value | 0 : value);
+
 /** A text with the values that it names between braces. */
 function filled(text, values) {
   return text.replace(/\{(\w+)\}/g, (_, name) => values[name]);
@@ -24,4 +27,9 @@ function printable(digits) {
 /** A text as it stands in HTML. */
 function escaped(text) {
   return text.replace(/[&<>"]/g, (sign) => `&#${sign.charCodeAt(0)};`);
+}
+
+/** A text in HTML in which what stands between backticks is code. */
+function toldHtml(text) {
+  return escaped(text).replace(/`([^`]*)`/g, "<code>$1</code>");
 }

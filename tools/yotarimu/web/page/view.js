@@ -4,7 +4,7 @@ const MOST_ENTRIES = 12;
 const MOST_LINES = 12;
 // So many acts are looked back at for them.
 const MOST_LOOKED_AT = 5000;
-const MOST_IN_BLOCK = 24;
+const MOST_IN_BLOCK = 6, MOST_IN_QUEUE = 12;
 const MOST_EMITTED = 120;
 const PAGE_OF_ACTS = 20;
 const MOST_POINTS = 1000;
@@ -56,8 +56,8 @@ function taskHtml(machine, name, task) {
 const MARKS = [
   {isOn: (act, task) => task.id !== null && act.own === task.id, name: "own", sign: "*", words: "the act's task"},
   {isOn: (act, task) => task.id !== null && act.arrived === task.id, name: "new", sign: "new",
-    words: "came by this act"},
-  {isOn: (act, task) => act.back.has(task.id), name: "back", sign: "back", words: "taken back by this act"},
+    words: "created by this act"},
+  {isOn: (act, task) => act.back.has(task.id), name: "back", sign: "aborted", words: "aborted by this act"},
   {isOn: (act, task) => act.spilled.has(task), name: "moved", sign: "spilled", words: "spilled by this act"},
 ];
 
@@ -77,7 +77,7 @@ function detail(task) {
 
 /** The items of each lane of a tile, by keys. */
 const LANE_ITEMS = {
-  queue: (machine, tile) => [...tasksAs("queue", machine, machine.queues[tile]), ...discardedOf(machine, tile)],
+  queue: (machine, tile) => [...queueItems(machine, machine.queues[tile]), ...discardedOf(machine, tile)],
   cores: (machine, tile) => machine.cores[tile].map((id, core) => (
     [core, id === null ? '<li class="free">free</li>' : taskHtml(machine, "cores", machine.tasks.get(id))])),
   finished: (machine, tile) => tasksAs("finished", machine, machine.finished[tile]),
@@ -86,6 +86,19 @@ const LANE_ITEMS = {
 
 function tasksAs(name, machine, ids) {
   return ids.map((id) => [id, taskHtml(machine, name, machine.tasks.get(id))]);
+}
+
+/** The tasks of a queue: of a long one those that do something or are marked, and the first that wait. */
+function queueItems(machine, ids) {
+  if (ids.length <= MOST_IN_QUEUE) return tasksAs("queue", machine, ids);
+  let room = MOST_IN_QUEUE;
+  const isSeen = (id) => {
+    const task = machine.tasks.get(id);
+    return task.state !== "idle" || marksOf(machine.act, task).length > 0;
+  };
+  room -= ids.filter(isSeen).length;
+  const chosen = ids.filter((id) => isSeen(id) || room-- > 0), rest = ids.length - chosen.length;
+  return [...tasksAs("queue", machine, chosen), ...(rest ? [["more", `<li class="free">${rest} more idle</li>`]] : [])];
 }
 
 function discardedOf(machine, tile) {
@@ -98,7 +111,7 @@ function discardedOf(machine, tile) {
 
 function blockItems(machine, block) {
   const latest = block.slice(-MOST_IN_BLOCK), rest = block.length - latest.length;
-  return [...(rest ? [["more", `<li>${rest} more</li>`]] : []),
+  return [...(rest ? [["more", `<li class="free">${rest} more</li>`]] : []),
     ...latest.map((task) => [task.name.join("."), taskHtml(machine, "block", task)])];
 }
 
@@ -143,8 +156,8 @@ function showJournal(machine, place) {
   journalRows.show(body);
   const digits = course.outputAt(place);
   const count = digits.length / 2 + course.opening.emitted;
-  at("output").textContent = `${plural(machine.commits, "task")} committed, ${plural(count, "byte")} of output`
-    + (digits ? `: ${printable(digits.slice(-2 * MOST_EMITTED))}` : "");
+  at("output").textContent = `${plural(machine.commits, "task")} committed`
+    + (count ? `, ${plural(count, "byte")} of output: ${printable(digits.slice(-2 * MOST_EMITTED))}` : "");
 }
 
 const isAccess = (line) => line.reply === "ok" && (line.asks === "load" || line.asks === "store");
@@ -162,27 +175,42 @@ function latestLines(place) {
   return [...found].sort((one, two) => one - two);
 }
 
+/** A word by its label, else by its address, which is read out with both. */
+function wordTold(address) {
+  const label = labels.label(address);
+  return label ? `${escaped(label)} <span class="heard">${hex(address)}</span>` : hex(address);
+}
+
 function memoryRow(address, place, line) {
   const word = course.memory.at(address, place);
   if (!word) return [];
   const own = course.memory.lineOf(address);
   const isHit = line && isAccess(line) && course.memory.lineOf(line.addr) === own;
   const isIt = isHit && address === line.addr - (line.addr % 4);
-  const said = isIt ? `${line.asks}s` : word.isNew ? "undone" : isHit ? "the same line" : "";
+  const said = isIt ? `${line.asks}s` : word.isNew ? "rolled back" : isHit ? "same line" : "";
   const digits = [...word.bytes].reverse().map((byte) => (
     byte === null ? ".." : byte.toString(16).padStart(2, "0"))).join("");
-  const value = word.bytes.includes(null) ? "" : parseInt(digits, 16);
+  const value = word.bytes.includes(null) ? "" : parseInt(digits, 16) | 0;
   const html = `<tr class="${isHit ? "hit" : ""}" data-address="${address}"><td>${own}</td>`
-    + `<td class="digits">${hex(address)}</td><td class="digits">${digits}</td><td>${value}</td><td>${said}</td></tr>`;
+    + `<td class="digits" title="${hex(address)}">${wordTold(address)}</td><td class="digits">${digits}</td>`
+    + `<td>${value}</td><td>${said}</td></tr>`;
   return [[address, html]];
 }
+
+// How high a row is, as the style has it, and which was brought into sight.
+const MEMORY_ROW_HIGH = 20.75;
+let hitRow = 0;
 
 function showMemory(_, place, line) {
   const body = latestLines(place).flatMap((chosen) => course.memory.lines.get(chosen) ?? [])
     .flatMap((address) => memoryRow(address, place, line));
   memoryRows.show(body);
-  at("touched").textContent = body.length ? `The words of the ${MOST_LINES} lines touched last at most; `
-    + "bytes that no task has touched are told as two dots" : "No data was touched.";
+  const hit = Math.max(0, body.findIndex(([, html]) => html.startsWith('<tr class="hit"')));
+  if (hit !== hitRow) at("memory").parentNode.scrollTop = (hit > 2 ? hit - 1 : 0) * MEMORY_ROW_HIGH;
+  hitRow = hit;
+  at("untouched").hidden = body.length > 0;
+  at("touched").textContent = body.length ? `The words of at most ${MOST_LINES} lines, those accessed last; `
+    + "a byte that no task has accessed is shown as two dots" : "No data was accessed.";
 }
 
 // ---- the listing
@@ -194,7 +222,6 @@ function buildListing(listing) {
   places.clear();
   marked.clear();
   ownRow = null;
-  at("source").hidden = !listing.length;
   at("listing").innerHTML = listing.map(([address, text]) => (
     `<div${address === null ? "" : ` data-address="${address}"`}><span></span>${escaped(text) || " "}</div>`)).join("");
   for (const row of at("listing").children) {
@@ -203,6 +230,7 @@ function buildListing(listing) {
 }
 
 function showListing(machine, _, line) {
+  if (at("listing-pane").hidden) return;
   const {texts, own} = marksIn(machine, line);
   for (const row of marked.keys()) if (!texts.has(row)) row.firstChild.textContent = "";
   for (const [row, text] of texts) if (marked.get(row) !== text) row.firstChild.textContent = text;
@@ -275,9 +303,9 @@ function showCurves(_, place) {
   for (const mark of document.querySelectorAll(".mark"))
     mark.style.transform = `translateX(${(across * 100).toFixed(3)}%)`;
   const [idle, running, finished, spilled, useful, wasted] = CURVES.map((name) => course.curves[name][place]);
-  at("counts").textContent = `Behind this act: ${plural(idle, "task")} idle, ${running} running or trapped, `
+  at("counts").textContent = `After this act: ${plural(idle, "task")} idle, ${running} running or trapped, `
     + `${finished} finished, ${spilled} spilled; ${plural(useful, "instruction")} executed by tasks that committed, `
-    + `${grouped(wasted)} wasted by tasks that were taken back.`;
+    + `${grouped(wasted)} wasted by aborted tasks.`;
 }
 
 // ---- going from act to act
@@ -298,12 +326,13 @@ function go(wanted) {
   current = Math.max(0, Math.min(course.length, wanted));
   const line = course.acts[current - 1];
   const {before, machine} = machinesAt(current);
-  at("said").textContent = saying(current, before, machine);
+  show(at("said"), toldHtml(saying(current, before, machine)));
   document.body.dataset.at = machine.at;
   document.body.dataset.n = machine.events;
   showTiles(machine, line);
   showPair();
   showPlace(machine.at);
+  timeline.show(current);
   showParts((id) => !unseen.has(id));
 }
 
@@ -312,7 +341,7 @@ function go(wanted) {
 // After so many milliseconds without another act what isn't on the screen is drawn too.
 const MOST_WAITING = 100;
 // What shows a part by the machine, its act and its line. The listing asks where a row is, so it comes last.
-const PARTS = {journal: showJournal, memory: showMemory, tasks: showCurves, listing: showListing};
+const PARTS = {journal: showJournal, memory: showMemory, tasks: showCurves, told: showTold, listing: showListing};
 // The parts that aren't on the screen, and those that don't show the act that the others show.
 const unseen = new Set(), late = new Set();
 let waitingParts;
@@ -350,9 +379,8 @@ let onPlace = () => {};
 function showPlace(number) {
   const last = (course.acts.at(-1) ?? course.opening).at;
   const told = `act ${grouped(number)} of ${grouped(last)}`;
-  if (at("slider").max !== String(course.length)) at("slider").max = course.length;
-  at("slider").value = current;
-  at("slider").setAttribute("aria-valuetext", told);
+  const slider = {valuemin: 0, valuemax: course.length, valuenow: current, valuetext: told};
+  for (const [name, value] of Object.entries(slider)) at("lanes").setAttribute(`aria-${name}`, value);
   at("where").textContent = told;
   onPlace(number);
 }
@@ -378,6 +406,7 @@ function goToNumber(number) {
 }
 
 const KEYS = {
+  " ": () => player.toggle(),
   ArrowRight: () => go(current + 1), ArrowLeft: () => go(current - 1), PageDown: () => go(current + PAGE_OF_ACTS),
   PageUp: () => go(current - PAGE_OF_ACTS), Home: () => go(0), End: () => go(course.length),
   a: () => next(tookBack), c: () => next(committed), A: () => previous(tookBack), C: () => previous(committed),
@@ -388,10 +417,12 @@ const BUTTONS = {
 
 function onKey(event) {
   const isScrolling = event.target.closest?.(".scrolls") && event.key.length > 1;
-  const isTyping = event.target.closest?.("textarea, select, input:not([type=range])");
+  const isTyping = event.target.closest?.("textarea, select, input")
+    || (event.key === " " && event.target.closest?.("button, summary"));
   if (event.ctrlKey || event.altKey || event.metaKey || isScrolling || isTyping || !Object.hasOwn(KEYS, event.key))
     return;
   event.preventDefault();
+  if (event.key !== " ") player.stop();
   KEYS[event.key]();
 }
 
@@ -399,7 +430,8 @@ const NUMBERED = "; the numbers of acts count those too that nothing asked for, 
 
 function settingsTold(head) {
   const isLockstep = head.course === "lockstep";
-  const rounds = isLockstep ? ` of ${plural(head.rounds, "round")}, seed ${head.seed}` : "";
+  const rounds = isLockstep ? ` of ${plural(head.rounds, "round")}, seed ${head.seed}`
+    + `, at most ${head.starved ?? head.barren} starved` : "";
   return `${head.course}${rounds}: ${plural(head.tiles, "tile")} of ${plural(head.cores, "core")}`
     + `, task queues of ${head.task_queue}, commit queues of ${head.commit_queue}, lines of ${head.line} bytes, `
     + `filters of the kind ${head.filter ?? "modulo"}, quantum ${head.quantum}, phase ${head.phase}`
@@ -415,12 +447,16 @@ function build(listing) {
   [journalRows, memoryRows] = ["journal", "memory"].map((id) => new Items(at(id).tBodies[0]));
   buildListing(listing);
   buildCurves();
+  timeline.open(course);
 }
 
 function listen() {
-  at("slider").addEventListener("input", () => go(Number(at("slider").value)));
-  for (const [id, action] of Object.entries(BUTTONS)) at(id).addEventListener("click", action);
+  listenToTimeline();
+  for (const [id, action] of Object.entries(BUTTONS)) at(id).addEventListener("click", () => {
+    player.stop();
+    action();
+  });
   document.addEventListener("keydown", onKey);
   listenToPair();
-  for (const id of Object.keys(PARTS)) onScreen.observe(at(id).closest("section"));
+  for (const id of Object.keys(PARTS)) onScreen.observe(at(id).closest("section, details"));
 }
