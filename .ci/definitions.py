@@ -1,8 +1,8 @@
 """Reads the definitions of the crates name by name: those under specs/, and the types, traits and constants of src/
-that contracts see. Of each it tells the lines, and the names that it uses.
+that contracts see. For each it returns the lines, and the names that it uses.
 
-It knows only as much of both languages as this repository has of them. A name that is bound in a definition and is also
-that of another definition counts as a use of the latter, so what it finds is never too little.
+It knows only as much of both languages as this repository uses. A name that is bound in a definition and is also that
+of another definition counts as a use of the latter, so what it finds is never too little.
 """
 from __future__ import annotations
 
@@ -26,6 +26,8 @@ HEAD = re.compile(r"^( {0,2})(?:(?:abbrev|unfoldable) (?:pub )?|pub (record |dat
                   r"(?<! )(record |data ))([^\s(:]+)")
 BLOCK = re.compile(r"^module _ (.*) where$")
 ITEM = re.compile(r"^(?:pub )?(?:struct|enum|trait|const|type|fn) (\w+)")
+# A crate that another one passes on to the crates above: as a module of its specs/, or of what it passes on of proofs.
+PASSED_ON = re.compile(r"^\w+\.(specs|proofs)\.(?:Below\.)?(" + "|".join(sorted(CRATE_NAMES)) + r")(?=\.|$)")
 # A name of another module, or of this one: the module's path below the crates, and the name.
 Name = tuple[str, str]
 
@@ -78,7 +80,7 @@ def uses_of(text: str) -> tuple[dict[str, Name], dict[str, str]]:
     names: dict[str, Name] = {}
     aliases: dict[str, str] = {}
     for path, group, alias in USE.findall(text):
-        path = path.removeprefix("Rattle.")
+        path = PASSED_ON.sub(r"\2.\1", path.removeprefix("Rattle."))
         if alias:
             aliases[alias] = path
         for name in str(group).replace(",", " ").split():
@@ -113,7 +115,7 @@ def parts_of(lines: list[str]) -> tuple[str, ...]:
 
 
 def block_of(lines: list[str]) -> str:
-    """The parameters of the block that the last of some lines stands in."""
+    """The parameters of the block that contains the last of some lines."""
     return next((matched[1] for line in reversed(lines) if (matched := BLOCK.match(line))), "")
 
 
@@ -200,6 +202,8 @@ def path_of_use(path: pathlib.Path, target: list[str]) -> str:
     """The file, as a path below the crates, in which an item stands that is used from another file."""
     here = path.relative_to(CRATES).parts[0]
     crate, *steps = target[:-1] if len(target) > 1 else (here,)
+    while crate in CRATE_NAMES and steps and steps[0] in CRATE_NAMES:
+        crate, *steps = steps
     if crate in ("self", "super") or crate not in (*CRATE_NAMES, "crate"):
         local = path.parent / "/".join([crate, *steps])
         return f"{here}.src.{crate}" if local.with_suffix(".rt").is_file() else crate

@@ -1,4 +1,4 @@
-"""Limits that stand in several files, held against each other: where each one is decided, and where it stands again."""
+"""Limits that several files have, compared with each other: where each one is decided, and where it is repeated."""
 from __future__ import annotations
 
 import re
@@ -71,15 +71,15 @@ PLACES: dict[str, tuple[tuple[str, str], ...]] = {
         ("crates/spec_state/src/numbers.rt", "DISPATCH_NUMBERS: u64 = #;"),
         ("docs/machine/MACHINE.md", r"at most # \(`DISPATCH_NUMBERS`\)"),
         ("docs/proof/SOUNDNESS.md", "the next dispatch number is at most #")),
-    "barren rounds": (
-        ("crates/fractal_watch/src/words.rt", "BARREN_ROUNDS: u32 = #;"),
-        (FORMATS, "M is 1 to 1,000,000, and # unless it is given"), (FORMATS, "With # this changes nothing"),
-        ("docs/DECISIONS.md", "# rounds in a row without a commit")),
+    "starved rounds": (
+        ("crates/fractal_watch/src/words.rt", "STARVED_ROUNDS: u32 = #;"),
+        (FORMATS, "M is 1 to 1,000,000, and # unless it is given"),
+        ("docs/DECISIONS.md", "# starved rounds in a row")),
 }
 
 
 def numbers_at(path: str, pattern: str) -> list[int]:
-    """The numbers that stand in a file where a pattern has them."""
+    """The numbers of a file that match a pattern."""
     found = re.findall(pattern.replace("#", NUMBER), read_text(HOME / path), re.M)
     return [int(re.sub("[,_]", "", number)) for number in found]
 

@@ -14,26 +14,25 @@ from yotarimu.common.acts import ACTS
 from yotarimu.common.outcome import Refusal
 from yotarimu.common.places import HOME
 from yotarimu.common.sentences import SENTENCES
-from yotarimu.courses.study import value_text
 from yotarimu.lines.fields import COURSES, EVENTS, PLACES, SETTINGS
 from yotarimu.lines.filters import DIGITS, FILTERS
 from yotarimu.lines.reader import RANGES
 from yotarimu.lines.replay import MADE
-from yotarimu.pictures.lanes import CORNERS
 from yotarimu.programs.answers import READERS, SHOWN
-from yotarimu.programs.table import Option, Table
+from yotarimu.programs.table import Table
 
 # The modules of bench/ stand beside its scripts.
 sys.path.append(str(HOME / "bench"))
 from cases.kinds import OPTIONS, TABLES  # noqa: E402
 from cases.scripts import MOODS  # noqa: E402
 
-FORMATS, README, SETTINGS_PAGE = "docs/guest/FORMATS.md", "README.md", "docs/machine/SETTINGS.md"
+FORMATS, SETTINGS_PAGE = "docs/guest/FORMATS.md", "docs/machine/SETTINGS.md"
 GRAMMAR, REQUESTS = "crates/step_script/specs/Grammar.antt", "crates/command_line/specs/Requests.antt"
 SETTINGS_SPECS, COURSE_WORDS = "crates/command_line/specs/Settings.antt", "crates/fractal_watch/specs/Words.antt"
 STATUSES, PAGE = "crates/program_call/src/statuses.rt", "tools/yotarimu/web/page/live"
+BUTTONS = "tools/yotarimu/web/page/moves.html"
 FILTER_WORDS, HASHES = "crates/watch_text/specs/Fields.antt", "crates/line_table/src/hash.rt"
-DRIVE = "tools/tries/browser/drive.mjs"
+DRIVE = "tools/tries/browser/looks.mjs"
 CODES = r'\(codes "([a-z-]+)"\)'
 # Sentences on what was asked for that belong to a request of a step, and to no act.
 OF_STEPS = {"leg", "enqueue", "end"}
@@ -49,7 +48,7 @@ def part_of(path: str, start: str, end: str) -> str:
     """The text of a file between two others, the first of which it has."""
     _, found, rest = whole(path).partition(start)
     if not found:
-        raise Refusal(f"{path}: `{start.strip()}` isn't there any more, behind which .ci/lists.py reads a list.")
+        raise Refusal(f"{path}: `{start.strip()}` isn't there any more, after which .ci/lists.py reads a list.")
     return rest.partition(end)[0]
 
 
@@ -67,7 +66,7 @@ def places_of_acts() -> Iterator[Place]:
     yield GRAMMAR, "the grammar", re.findall(CODES, whole(GRAMMAR))
     yield FORMATS, "the table of lines", first_cells(FORMATS, "| Line | Does |")
     yield "sentences.json", "wishes", set(SENTENCES["wishes"]) - OF_STEPS
-    yield f"{PAGE}.html", "the buttons", re.findall('data-act="([a-z]+)"', whole(f"{PAGE}.html"))
+    yield BUTTONS, "the buttons", re.findall('data-act="([a-z]+)"', whole(BUTTONS))
     yield "lines/fields.py", "PLACES", PLACES
     yield "bench/cases/scripts.py", "MOODS", (word for mood in MOODS.values() for word in mood)
     yield DRIVE, "the acts by buttons", re.findall('"([a-z]+)"', part_of(DRIVE, "(const act of [", "]"))
@@ -75,7 +74,6 @@ def places_of_acts() -> Iterator[Place]:
 
 def places_of_commands(table: Table) -> Iterator[Place]:
     yield REQUESTS, "command_by", codes_in(REQUESTS, "command_by word text =", "\n\n")
-    yield README, "the table of commands", first_cells(README, "| Command | Reads | Does |")
     yield FORMATS, "the first words", re.findall("`([a-z]+)`", part_of(FORMATS, "The first word is the command:", "."))
     yield "programs/answers.py", "SHOWN", SHOWN
     readers = [*READERS, *(name for name, row in table.command_rows.items() if not row[1])]
@@ -117,23 +115,10 @@ def differing(what: str, wanted: Iterable[str], places: Iterable[Place]) -> Iter
             yield f"{path}: {name} has `{word}`, which isn't {what}"
 
 
-def told_values(option: Option) -> str:
-    """The values of an option and the one unless given, as tables of documents have them."""
-    values = [value_text(value) for value in option.values]
-    range_told = f"{values[0]} to {values[-1]}" if isinstance(option.values, range) else ", ".join(values)
-    return f"{range_told} | {value_text(option.default)}"
-
-
-def values_that_differ(table: Table) -> Iterator[str]:
-    """Ranges and defaults in documents."""
-    for path, start, options in ((FORMATS, "| Option | Range | Unless given |", table.options),
-                                 (SETTINGS_PAGE, "| Option | Range |", table.course_options)):
-        rows = dict(re.findall(r"^\| `--([a-z-]+)`[^|]*\| ([^|]*\|[^|]*?) \|", part_of(path, start, "\n\n"), re.M))
-        yield from differing("an option", options, [(path, "the table of options", rows)])
-        for name, option in options.items():
-            told = rows.get(name, "").replace(" or ", ", ")
-            if told and told != told_values(option):
-                yield f"{path}: --{name} is `{told}`, and `{told_values(option)}` in the launcher's table"
+def options_that_differ(table: Table) -> Iterator[str]:
+    """Options of the page on settings; their ranges and defaults are on a generated page."""
+    rows = re.findall("`--([a-z-]+)`", part_of(SETTINGS_PAGE, "| Option | Published |", "\n\n"))
+    yield from differing("an option", table.course_options, [(SETTINGS_PAGE, "the table of options", rows)])
 
 
 def lists_that_differ() -> Iterator[str]:
@@ -142,14 +127,12 @@ def lists_that_differ() -> Iterator[str]:
     yield from differing("an act", ACTS, places_of_acts())
     yield from differing("an act with so many numbers", (f"{word}: {kind.numbers}" for word, kind in ACTS.items()),
                          [(f"{PAGE}.js", "actWords", part_of(f"{PAGE}.js", "const actWords = {", "}").split(", "))])
-    yield from differing("an act that a line tells as done", (word for word, kind in ACTS.items() if "ok" in kind.told),
+    yield from differing("an act that a line reports", (word for word, kind in ACTS.items() if "ok" in kind.told),
                          [("sentences.json", "done", SENTENCES["done"])])
     yield from differing("an event", EVENTS, [("lines/replay.py", "MADE", MADE)])
-    yield from differing("an act without a core", (word for word, kind in ACTS.items() if kind.numbers < 2),
-                         [("pictures/lanes.py", "CORNERS", CORNERS)])
     yield from differing("a command", table.commands, places_of_commands(table))
     yield from differing("an option", table.options, places_of_options())
-    yield from values_that_differ(table)
+    yield from options_that_differ(table)
     yield from differing("a kind of filter", map(str, table.course_options["filter"].values), places_of_filters())
     yield from differing("a constant of the hashes", (f"{place}: {it:x}" for place, it in enumerate(DIGITS)),
                          [(HASHES, "DIGITS", digits_in_crates())])

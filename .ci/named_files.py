@@ -1,4 +1,4 @@
-"""Files that ARCHITECTURE.md, PLACES.md and INSIDE.md of docs/maintain name, each of which is to be there."""
+"""Files that docs/maintain/ARCHITECTURE.md names, each of which has to exist."""
 from __future__ import annotations
 
 import pathlib
@@ -7,7 +7,7 @@ from collections.abc import Iterator
 
 from yotarimu.common.places import HOME, TOOLS_FOLDER
 
-PAGES = [f"docs/maintain/{name}.md" for name in ("ARCHITECTURE", "PLACES", "INSIDE")]
+PAGES = ["docs/maintain/ARCHITECTURE.md"]
 # A name with a folder, in code. Without an ending it is a folder, or a source of a crate.
 NAMED = re.compile(r"`([\w.-]+/[\w./-]*)`")
 ENDINGS = ("", ".antt", ".rt")

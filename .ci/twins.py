@@ -1,8 +1,8 @@
 """Definitions of specs/ that are the same but for their names: where one of them might serve for both.
 
-Of two definitions all names of this repository are taken as they first come, those that are bound and those of other
-definitions; names of the toolchain's library and of fields that are read stay. Where both are the same then, they are a
-pair. Which pairs may be stands below, with the reason.
+Of two definitions all names of this repository are numbered in order of appearance, those that are bound and those of
+other definitions; names of the toolchain's library and of fields that are read stay. If both are the same then, they
+are a pair. The pairs that may exist are below, with the reason.
 """
 from __future__ import annotations
 
@@ -66,7 +66,7 @@ def twins() -> list[list[Definition]]:
 
 
 def notes_on_twins() -> Iterator[tuple[str, bool]]:
-    """What is told of definitions that are the same, and whether that is a fault."""
+    """Notes on definitions that are the same, and whether that is a fault."""
     found = {tuple(sorted(it.name for it in group)): group for group in twins()}
     for names, group in sorted(found.items()):
         if names not in MAY_BE:

@@ -102,7 +102,7 @@ class Low:
 
 @dataclasses.dataclass(frozen=True)
 class Call:
-    """A jump to a part of a text, with the address behind it in `rd`."""
+    """A jump to a part of a text, with the address after it in `rd`."""
     rd: int
     part: int
 

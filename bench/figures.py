@@ -14,7 +14,7 @@ from yotarimu.common.outcome import Refusal
 from yotarimu.common.tables import table
 
 HEAD = ["table", "case", "figure", "value"]
-# A file each: the figures of one state of the program, of which the documents tell.
+# A file each: the figures of one state of the program, which the documents discuss.
 FROZEN = pathlib.Path(__file__).resolve().parent / "before"
 MACHINE, PROCESSORS, BEFORE, AFTER = "machine", "processors", "load before", "load after"
 # By which part of it a figure may be off, where nothing changed: counts of instructions repeat, times don't.
@@ -75,7 +75,7 @@ def rows_in(path: FilePath) -> Iterator[list[str]]:
     try:
         yield from rows
     except csv.Error as error:
-        raise Refusal(f"{path}:{rows.line_num}: this is no row of CSV: {error}.") from None
+        raise Refusal(f"{path}:{rows.line_num}: this isn't a row of CSV: {error}.") from None
 
 
 def read(path: FilePath) -> dict[Key, float]:
@@ -83,7 +83,7 @@ def read(path: FilePath) -> dict[Key, float]:
     values: dict[Key, float] = {}
     for number, row in enumerate(rows_in(path), 1):
         if number == 1 and row != HEAD:
-            raise Refusal(f"{path}: these are no figures: the first line isn't `{','.join(HEAD)}`.")
+            raise Refusal(f"{path}: these aren't figures: the first line isn't `{','.join(HEAD)}`.")
         if number == 1:
             continue
         try:
@@ -92,13 +92,13 @@ def read(path: FilePath) -> dict[Key, float]:
             if not math.isfinite(value):
                 raise ValueError
         except ValueError:
-            raise Refusal(f"{path}:{number}: this is no figure: a table, a case, a figure and a number are "
+            raise Refusal(f"{path}:{number}: this isn't a figure: a table, a case, a figure and a number are "
                           "wanted.") from None
         if Key(name, case, figure) in values:
             raise Refusal(f"{path}:{number}: `{case}: {figure}` stands twice.")
         values[Key(name, case, figure)] = value
     if not values:
-        raise Refusal(f"{path}: there are no figures in it.")
+        raise Refusal(f"{path}: it has no figures.")
     return values
 
 
@@ -107,17 +107,17 @@ def load_text(values: Mapping[Key, float]) -> str:
     count, before, after = (values.get(Key(MACHINE, "", name)) for name in (PROCESSORS, BEFORE, AFTER))
     if count is None or before is None or after is None:
         return ""
-    more = "; so its times tell little, and its counts are right" if max(before, after) > count else ""
+    more = "; so its times mean little, and its counts are right" if max(before, after) > count else ""
     return f"{count:.0f} processors, a load of {before:.2f} before and of {after:.2f} after{more}"
 
 
 def number_text(value: float) -> str:
-    """A number with as many digits as tell something."""
+    """A number with as many digits as are significant."""
     return f"{value:,.0f}" if abs(value) >= 1_000 else f"{value:.4g}"
 
 
 def beside_frozen(values: Mapping[Key, float]) -> list[str]:
-    """A table of the figures that also stand in a frozen file, with their ratios to those."""
+    """A table of the figures that a frozen file also has, with their ratios to those."""
     frozen = {path.stem.replace("_", " "): read(path) for path in sorted(FROZEN.glob("*.csv"))}
     rows = []
     for key, value in values.items():
@@ -151,7 +151,7 @@ def compare(old_path: FilePath, new_path: FilePath) -> tuple[list[str], bool]:
         alone = sum(key not in other and key.table != MACHINE for key in one)
         told = load_text(one)
         lines.append(f"{path}: {told or 'nobody noted how loaded the machine was'}."
-                     + (f" {alone} of its figures stand there alone." if alone else ""))
+                     + (f" {alone} of its figures are there alone." if alone else ""))
     return lines, bool(slower)
 
 

@@ -1,1 +1,1 @@
-"""Generated calls of the program: images, scripts and reports, and counts of what came of them."""
+"""Generated calls of the program: images, scripts and reports, and counts of their outcomes."""

@@ -125,7 +125,7 @@ def skip(chance: Chance, shape: Shape) -> Words:
 
 
 def jump(chance: Chance, _shape: Shape) -> Words:
-    """A jump over words, of which some are no instructions."""
+    """A jump over words, of which some aren't instructions."""
     between = [chance.below(1 << 32) for _ in range(chance.between(1, 3))]
     if chance.is_one_of(2):
         return [jal(chance.pick((ZERO, RA, T0)), 4 * len(between) + 4), *between]

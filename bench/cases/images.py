@@ -31,7 +31,7 @@ def text_of(chance: Chance, shape: Shape) -> tuple[list[int], list[int]]:
 
 
 def with_trap(chance: Chance, shape: Shape, cause: int, words: Words) -> Words:
-    """The task with a piece that traps, at its end or at its front. Now and then only some tasks come to it."""
+    """The task with a piece that traps, at its end or at its front. Now and then only some tasks reach it."""
     piece = traps.PIECES[cause](chance, shape)
     front = len(bodies.prologue(chance))
     if cause != TOO_DEEP and chance.is_one_of(3):
@@ -90,7 +90,7 @@ def scramble(chance: Chance, data: bytes) -> bytes:
 
 
 def two_tasks() -> Image:
-    """A task that only ends, and later ones that add to a word: the second is to be taken back again and again."""
+    """A task that only ends, and later ones that add to a word: the second is to be aborted again and again."""
     words = [addi(A7, ZERO, 0), ECALL, lui(S4, 0x10000), load(LW, A0, S4, 0), addi(A0, A0, 1),
              store(SW, S4, A0, 0), addi(A7, ZERO, 0), ECALL]
     tasks = [InitialTask(TEXT, 0, (0, 0, 0)), InitialTask(TEXT + 8, 1, (0, 0, 0)), InitialTask(TEXT + 8, 2, (0, 0, 0))]

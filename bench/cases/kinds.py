@@ -1,4 +1,4 @@
-"""What came of the calls, counted by kind: how runs ended, what acts were answered, what was taken back, which
+"""What came of the calls, counted by kind: how runs ended, what acts were answered, what was aborted, which
 instructions the tasks executed. Each kind is there from the start, so that one that never came shows as 0."""
 from __future__ import annotations
 
@@ -39,8 +39,8 @@ TABLES = (
     ("Other answers", (*(f"fault image {number}" for number in FAULTS), "fault usage", "fault script", "fault journal",
                        "check ok", "a saved image", "fault nested", "fault tasks")),
     ("Replies", tuple(f"{act} {reply}" for act, replies in REPLIES.items() for reply in replies)),
-    ("Tasks taken back", (*(f"by {act}" for act in TAKERS), "by accesses, as `trace` tells")),
-    ("Last events that `trace` tells", EVENTS),
+    ("Tasks aborted", (*(f"by {act}" for act in TAKERS), "by accesses, as `trace` prints")),
+    ("Last events that `trace` prints", EVENTS),
     ("Scripts", ("more dispatches than dispatch numbers",)),
     ("Options", tuple(f"--{name}" for name in OPTIONS)),
     ("Images", ("version 1", "version 2", "an ordered root domain", "an unordered root domain", "depth 8",
@@ -183,7 +183,7 @@ def count_steps(counts: Counts, call: Call, text: str) -> None:
         counts["Replies"][f"{word} {said.reply}"] += 1
         made += (word, said.reply) == ("dispatch", "ok")
         if said.taken_back:
-            counts["Tasks taken back"][f"by {word}"] += said.taken_back
+            counts["Tasks aborted"][f"by {word}"] += said.taken_back
     counts["Scripts"]["more dispatches than dispatch numbers"] += made > DISPATCH_NUMBERS
     counts["Ends of `steps`"][end_in(text)] += 1
 
@@ -198,5 +198,5 @@ def count_trace(counts: Counts, said: bytes) -> None:
     numbers = re.findall(rb"(?m)^[0-9]+$", said)
     # Tap 0 has five numbers an event, tap 1 seventeen in all.
     for kind in numbers[:len(numbers) - 17:5]:
-        counts["Last events that `trace` tells"][EVENTS[int(kind) - 1]] += 1
-    counts["Tasks taken back"]["by accesses, as `trace` tells"] += sum(map(int, numbers[-17:]))
+        counts["Last events that `trace` prints"][EVENTS[int(kind) - 1]] += 1
+    counts["Tasks aborted"]["by accesses, as `trace` prints"] += sum(map(int, numbers[-17:]))

@@ -1,5 +1,5 @@
-"""Cases of the second program: each of its courses on one image. Lines are the same where only the order differs in
-which tasks that an event took back or spilled are listed."""
+"""Cases of `fractal_watch`: each of its modes on one image. Lines are the same if only the order differs in which tasks
+that an event aborted or spilled are listed."""
 from __future__ import annotations
 
 import collections
@@ -47,7 +47,7 @@ def missing_kinds(counts: Counts) -> list[str]:
 
 
 def count(counts: Counts, call: Call, said: bytes) -> None:
-    """Adds what came of one call."""
+    """Adds the outcome of one call."""
     counts[CALLS_TABLE][call.command] += 1
     lines = said.splitlines()
     end = json.loads(lines[-1]).get("end") if lines else None

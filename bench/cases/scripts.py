@@ -67,7 +67,7 @@ def bad_text(chance: Chance, acts: Sequence[Act]) -> str:
 
 
 def renumbering_acts(times: int) -> list[Act]:
-    """The second task is dispatched and taken back until all dispatch numbers were given, and more."""
+    """The second task is dispatched and aborted until all dispatch numbers were given, and more."""
     again = [Act("dispatch", 0), Act("abort", 0)] * times
     return [Act("dispatch", 0), *again, Act("dispatch", 0), *[Act("step", 0, core) for core in (0, 1)] * 6,
             *[Act("commit"), Act("dispatch", 0)] * 3, *[Act("advance")] * 20]

@@ -12,7 +12,7 @@ TRAPS = range(1, 18)
 
 @dataclasses.dataclass
 class Shape:
-    """The numbers of an image. `trap` is the cause of a trap that it may come to, or None."""
+    """The numbers of an image. `trap` is the cause of a trap that it may reach, or None."""
     version: int = 1
     is_ordered: bool = True
     # Bytes of the data, and the offsets of words that most accesses go to.
