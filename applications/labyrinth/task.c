@@ -1,37 +1,9 @@
-/* Wires through a labyrinth of free cells in layers. The root is unordered: a task lays a wire. Its subdomain is
-   ordered: a breadth-first search from one end, and behind it the way back from the other, which takes the cells. For
-   all others the two are one step. */
-#include "task.h"
-#include "sizes.h"
+/* The root is unordered: a task lays a wire. Its subdomain is ordered: a task for each visit of a cell, and at last one
+   for the way back. For all others these are one step. */
+#include "wires.h"
 // image: root unordered
 // image: task feed
 // image: data wires wires.bin
-
-#define CELLS_OF_A_HINT 16
-
-struct wire { uint32_t from, to; } wires[WIRES];
-uint16_t owner[CELLS];        /* a wire's number plus 1; 0: free */
-uint16_t steps[WIRES][CELLS]; /* of each wire: how many cells a way to here has; 0: none was found */
-uint32_t laid[WIRES];         /* how many cells the wire has; 0: it isn't laid */
-
-/* Lists the cells beside a cell, and hands out how many they are. */
-static inline uint32_t beside(uint32_t cell, uint32_t list[6])
-{
-    uint32_t count = 0, x = cell % WIDTH, y = cell / WIDTH % WIDTH;
-    if (x > 0)
-        list[count++] = cell - 1;
-    if (x < WIDTH - 1)
-        list[count++] = cell + 1;
-    if (y > 0)
-        list[count++] = cell - WIDTH;
-    if (y < WIDTH - 1)
-        list[count++] = cell + WIDTH;
-    if (cell >= LAYER)
-        list[count++] = cell - LAYER;
-    if (cell + LAYER < CELLS)
-        list[count++] = cell + LAYER;
-    return count;
-}
 
 TASK(reach, uint32_t cell, uint32_t wire, uint32_t, uint32_t ts)
 {
@@ -45,17 +17,7 @@ TASK(reach, uint32_t cell, uint32_t wire, uint32_t, uint32_t ts)
 
 TASK(trace, uint32_t wire)
 {
-    uint32_t cell = wires[wire].to, left = steps[wire][cell];
-    laid[wire] = left;
-    while (left--) {
-        owner[cell] = wire + 1;
-        uint32_t list[6], count = beside(cell, list), k = 0;
-        while (left && steps[wire][list[k]] != left) {
-            k++;
-            require(k < count);
-        }
-        cell = list[k];
-    }
+    trace_wire(wire);
 }
 
 TASK(lay, uint32_t wire)

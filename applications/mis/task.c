@@ -1,26 +1,14 @@
-/* A set of nodes of which no two are neighbours, and to which no node can be added. The root is unordered: each node
-   has a task, which takes it if it is open, and excludes its neighbours in an unordered subdomain. For all others the
-   two are one step. */
-#include "task.h"
-#include "sizes.h"
+/* The root is unordered. A node that is taken excludes its neighbours in an unordered subdomain, a task for each, which
+   is one step for all others. */
+#include "nodes.h"
 // image: root unordered
 // image: task begin
 // image: data first first.bin
 // image: data adjacent adjacent.bin
 
-#define NODES_OF_A_HINT 16
-
-/* The neighbours of a node are those in `adjacent` from its own place in `first` up to the next node's. */
-uint32_t first[NODES + 1], adjacent[EDGES];
-enum { OPEN, TAKEN, EXCLUDED };
-uint8_t state[NODES];
-
-TASK(exclude, uint32_t edge, uint32_t end)
+TASK(exclude, uint32_t node)
 {
-    if (spread(exclude, 0, edge, end))
-        return;
-    for (; edge < end; edge++)
-        state[adjacent[edge]] = EXCLUDED;
+    state[node] = EXCLUDED;
 }
 
 TASK(visit, uint32_t node)
@@ -31,7 +19,8 @@ TASK(visit, uint32_t node)
     if (first[node] == first[node + 1])
         return;
     make_subdomain(UNORDERED);
-    enqueue_sub(exclude, 0, first[node], first[node + 1], .hint = node / NODES_OF_A_HINT);
+    for (uint32_t edge = first[node]; edge < first[node + 1]; edge++)
+        enqueue_sub(exclude, 0, adjacent[edge], .hint = adjacent[edge] / NODES_OF_A_HINT);
 }
 
 TASK(feed, uint32_t node, uint32_t end)

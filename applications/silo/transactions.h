@@ -20,7 +20,7 @@ struct line { uint32_t item, quantity, amount; } lines[WAREHOUSES * DISTRICTS * 
 struct payment { uint32_t customer, amount; } payments[TRANSACTIONS];
 
 /* A line of an order: so much of an item is taken from the stock of a warehouse, which orders 91 when it gets low. */
-TASK(take, uint32_t transaction, uint32_t number, uint32_t place)
+static inline void take_line(uint32_t transaction, uint32_t number, uint32_t place)
 {
     const struct wish *wish = &wishes[transactions[transaction].first_wish + number];
     struct stock *stock = &stocks[wish->warehouse * ITEMS + wish->item];
@@ -34,7 +34,8 @@ TASK(take, uint32_t transaction, uint32_t number, uint32_t place)
     orders[place].total += amount;
 }
 
-TASK(order, uint32_t transaction, uint32_t, uint32_t, uint32_t ts)
+/* The head of an order: its place among all orders. */
+static inline uint32_t open_order(uint32_t transaction)
 {
     const struct transaction *it = &transactions[transaction];
     uint32_t district = it->warehouse * DISTRICTS + it->district;
@@ -44,6 +45,18 @@ TASK(order, uint32_t transaction, uint32_t, uint32_t, uint32_t ts)
     orders[place].customer = it->customer;
     orders[place].transaction = transaction;
     orders[place].lines = it->count;
+    return place;
+}
+
+TASK(take, uint32_t transaction, uint32_t number, uint32_t place)
+{
+    take_line(transaction, number, place);
+}
+
+TASK(order, uint32_t transaction, uint32_t, uint32_t, uint32_t ts)
+{
+    const struct transaction *it = &transactions[transaction];
+    uint32_t place = open_order(transaction);
     for (uint32_t k = 0; k < it->count; k++)
         enqueue(take, ts + 1, transaction, k, place, .hint = wishes[it->first_wish + k].item);
 }

@@ -1,5 +1,5 @@
 // Twelve numbers are counted by bins of ten, and added up; then each count is doubled. The result is wrong: a bug is
-// planted here, and docs/guide/WRONG_RESULT.md goes after it.
+// planted here, and docs/guide/DEBUGGER.md traces it.
 #include "task.h"
 // image: root ordered
 // image: task start ts 0

@@ -1,5 +1,5 @@
 # Exercise 4, repair a false conflict: two tasks store to two words, and a third one emits both. The words are different,
-# and yet the script has a task taken back.
+# and yet an act of the script aborts a task.
 #
 # image: root ordered
 # image: task late ts 2
