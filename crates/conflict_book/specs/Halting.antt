@@ -17,7 +17,7 @@ use Rattle.event_step.specs.event_def.Advancing.{AdvanceAnswers, AdvancesBy, Has
 use Rattle.event_step.specs.event_def.Book.{BookView}
 use Rattle.event_step.specs.event_def.Telling.{ComesTelling}
 
--- what comes of the event for the least task, and what it tells
+-- the outcome of the event for the least task, and what it reports
 abbrev pub NextComes : Type 0 → ImageValue → BookView → Came → View → List Policy → EffectValue → Type 0
 NextComes N image book came new placers effect =
     (event : Event N) × IsNextEvent image book.view event × ComesTelling book event came new placers effect
@@ -28,7 +28,7 @@ FallsIfMoved (answers.Moved aborted) old new = (before after : ℕ) → HasRest 
     → after < before
 FallsIfMoved other old new = Unit {0}
 
--- what an advance answers of an event that was made, by its deed and how many tasks it took back
+-- what an advance answers of an event that was made, by its deed and how many tasks it aborted
 abbrev pub advance_by : Deed → ℕ → Advance
 advance_by deed.Commit aborted = answers.Committed
 advance_by other aborted = answers.Moved aborted
@@ -47,8 +47,8 @@ abbrev pub last_answer : Halt → Advance
 last_answer (halts.Ended end) = answers.Ended end
 last_answer halts.Memory = answers.Memory
 
--- so many events for the least tasks were made, and then the run halted; with the commits among them they are no
--- more than the budget and 4 for each commit and one more
+-- `made` events for the least tasks were made, and then the run halted; with the commits among them they are at most
+-- the budget and 4 for each commit and one more
 pub record RunsLeast (N : Type 0) (image : ImageValue) (old : BookView) (halt : Halt) (new : BookView) : Type 0 where
   pub made : ℕ
   pub advances : AdvancesBy N image made old new

@@ -11,7 +11,8 @@ use Rattle.conflict_book.specs.declared.advancing.NextEvent.{NextEvent}
 use Rattle.conflict_book.specs.declared.advancing.NextEvent.TheVariants.{Over, Came}
 use Rattle.conflict_book.specs.Halting.{NextComes}
 
--- the run is over and ended so, nothing changes, and nothing is told; or this came of the event for the least task
+-- the run is over and ended so, nothing changes, and nothing is reported; or this is the outcome of the event for the
+-- least task
 abbrev pub ComesNext : Type 0 → ImageValue → BookView → NextEvent → View → List Policy → EffectValue → Type 0
 ComesNext N image book (Over end) new placers effect =
     HasEnd book.view end × IsAsBefore book new placers × (effect ≡ nothing)

@@ -147,7 +147,7 @@ fn come_least<N: Naming, P: Placer>(
     }
 }
 
-/// The end of a run that is over, or what came of the event for the least task.
+/// The end of a run that is over, or the outcome of the event for the least task.
 enum NextEvent {
     Over(End),
     Came(Came),
@@ -211,7 +211,7 @@ fn enough_events(settings: &Settings) -> u64
 }
 
 impl<N: Naming, P: Placer, T: Tap> Book<N, P, T> {
-    /// The same as `advance`, of which it proves what is answered.
+    /// Makes the event for the least task, as `advance` does, and proves the answer.
     fn advance_once(&mut self, image: &Image) -> Advance
         requires image { image.now ≡ N.image }
         ensures { let old = view_of P.policy T.notes self.old in

@@ -105,7 +105,7 @@ impl<N: Naming, P: Placer, T: Tap> Book<N, P, T> {
         }
     }
 
-    /// The same as `apply`, of an event that the caller keeps.
+    /// Makes or refuses an event, as `apply` does, and leaves it to the caller.
     fn apply_kept(&mut self, event: &Event<N>) -> Applied
         requires given { let old = view_of P.policy T.notes self.old in
             IsInRange old.view.settings event.now }
@@ -128,8 +128,8 @@ impl<N: Naming, P: Placer, T: Tap> Book<N, P, T> {
         }
     }
 
-    /// Makes an event on a tile and a core that are there, or refuses it, and then nothing changes. Each event that
-    /// is made is counted, the taps note it, and `effect` tells what it did. A stopped book answers `Memory`.
+    /// Makes an event on one of the machine's tiles and cores, or refuses it, and then nothing changes. Each event that
+    /// is made is counted, the taps note it, and `effect` lists what it did. A stopped book answers `Memory`.
     pub fn apply(&mut self, event: Event<N>) -> Applied
         requires given { let old = view_of P.policy T.notes self.old in
             IsInRange old.view.settings event }
@@ -145,8 +145,8 @@ impl<N: Naming, P: Placer, T: Tap> Book<N, P, T> {
         self.apply_kept(&event)
     }
 
-    /// Makes or refuses events one after another, and lists their answers. `AllocError` where there is no memory
-    /// for the list, and then no event was tried.
+    /// Makes or refuses events one after another, and lists their answers. `AllocError` where memory for the list runs
+    /// out, and then no event was tried.
     pub fn apply_all(&mut self, events: Vec<Event<N>>) -> Result<Vec<Applied>, AllocError>
         requires given { let old = view_of P.policy T.notes self.old in
             All (IsInRange old.view.settings) events.items }

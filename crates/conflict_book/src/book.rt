@@ -31,11 +31,11 @@ impl<N: Naming> Model for SoundState<N> {
     ghost invariant = { λ s. Sound N.image s.state.view };
 }
 
-/// The book of a machine: a sound state, the placers that are left, of which the first serves, the taps that note
-/// each event, and whether it was stopped.
+/// The book of a machine: a sound state, the placers that are left, of which the first serves, the taps that note each
+/// event, and whether it was stopped.
 ///
-/// It has no invariant of its own, so that boxed placers and taps may stand in it; what holds of every book is kept
-/// by [`SoundState`].
+/// It has no invariant of its own, so that its placers and taps may be boxed; [`SoundState`] keeps what is true of
+/// every book.
 #[derive(Drop)]
 pub struct Book<N: Naming, P: Placer = Box<dyn Placer + Send>, T: Tap = Box<dyn Tap + Send>> {
     pub(crate) sound: SoundState<N>,

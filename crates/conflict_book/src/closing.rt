@@ -24,7 +24,7 @@ fn undo<N: Naming>(state: &mut State<N>)
     undo_all(state);
 }
 
-/// What a sound state leaves once its uncommitted tasks are taken back.
+/// What a sound state leaves once its uncommitted tasks are aborted.
 fn close_state<N: Naming>(sound: SoundState<N>) -> Closed
     ensures closes { (book : BookView) → book.view ≡ sound.view → book.steps ≡ sound.steps
         → Closes book result }
@@ -46,8 +46,8 @@ fn close_state<N: Naming>(sound: SoundState<N>) -> Closed
 }
 
 impl<N: Naming, P: Placer, T: Tap> Book<N, P, T> {
-    /// The committed tasks, with their memory and output, once all other tasks are taken back: a run of the serial
-    /// machine. It takes no memory.
+    /// The committed tasks, with their memory and output, once all other tasks are aborted: a run of the serial
+    /// machine. It allocates no memory.
     pub fn close(self) -> Closed
         ensures closes { Closes (view_of P.policy T.notes self) result }
         ensures run { let book = view_of P.policy T.notes self in

@@ -1,4 +1,4 @@
-//! What comes of an event, of a sound state and its placers.
+//! The outcome of an event, for a sound state and its placers.
 
 ghost use Rattle.std.specs.Prelude.{◌≡◌, ◌<◌, ℕ, List, length, map};
 ghost use Rattle.trace_tap.specs.TapValue.{TapValue};
@@ -33,7 +33,8 @@ fn pass_on<P: Placer>(placers: &mut Vec<P>, phase: u32, commits: u32)
     }
 }
 
-/// The same after a commit that was made; after one that was refused the placers stay.
+/// Passes on to the next placer where it is due after a commit that was made; after one that was refused the placers
+/// stay.
 pub(crate) fn pass_after<N: Naming, P: Placer>(state: &State<N>, placers: &mut Vec<P>, came: &Came)
     ensures { let view = state.now.view in
         let before = map P.policy placers.old.items in
@@ -75,7 +76,7 @@ fn is_given<N: Naming>(state: &State<N>, event: Legless)
     }
 }
 
-/// Law: a leg may be handed in for a tile and a core that are there, since its type keeps of which image it is.
+/// Law: a leg may be handed in for any tile and core of the machine, since its type keeps of which image it is.
 fn leg_is_given<N: Naming>(state: &State<N>, tile: u32, core: u32, leg: &Leg<N>)
     requires tile { tile < state.now.view.settings.tiles }
     requires core { core < state.now.view.settings.cores }
@@ -85,7 +86,7 @@ fn leg_is_given<N: Naming>(state: &State<N>, tile: u32, core: u32, leg: &Leg<N>)
     let _ = leg.from();
 }
 
-/// What comes of an event without a leg, on a tile that is there.
+/// The outcome of an event without a leg, on one of the machine's tiles.
 fn come<N: Naming, P: Placer>(state: &mut State<N>, placers: &mut Vec<P>, event: Legless) -> Came
     requires sound { Sound N.image state.old.view }
     requires given { IsInRange {N = N} state.old.view.settings (event_of event) }
@@ -104,7 +105,7 @@ fn come<N: Naming, P: Placer>(state: &mut State<N>, placers: &mut Vec<P>, event:
     }
 }
 
-/// What comes of a leg that is handed in for a core that is there.
+/// The outcome of a leg that is handed in for one of the machine's cores.
 fn come_step<N: Naming, P: Placer>(
     state: &mut State<N>,
     placers: &mut Vec<P>,
@@ -125,7 +126,7 @@ fn come_step<N: Naming, P: Placer>(
 }
 
 impl<N: Naming> SoundState<N> {
-    /// What comes of an event without a leg, on a tile that is there.
+    /// The outcome of an event without a leg, on one of the machine's tiles.
     pub(crate) fn come<P: Placer>(&mut self, placers: &mut Vec<P>, event: Legless) -> Came
         requires given { IsInRange {N = N} self.old.view.settings (event_of event) }
         requires fresh { self.old.effect ≡ nothing }
@@ -140,7 +141,7 @@ impl<N: Naming> SoundState<N> {
         come(&mut self.state, placers, event)
     }
 
-    /// What comes of a leg that is handed in for a core that is there.
+    /// The outcome of a leg that is handed in for one of the machine's cores.
     pub(crate) fn come_step<P: Placer>(
         &mut self,
         placers: &mut Vec<P>,

@@ -8,7 +8,7 @@ pub enum Legless {
         /// The tile.
         tile: u32,
     },
-    /// The latest dispatched task of a tile is taken back.
+    /// The latest dispatched task of a tile is aborted.
     Abort {
         /// The tile.
         tile: u32,

@@ -1,11 +1,10 @@
-//! The book of the speculative machine: a sound state, with the placers that pick tiles for its tasks and the taps
-//! that note its events.
+//! The book of the speculative machine: a sound state, with the placers that pick tiles for its tasks and the taps that
+//! note its events.
 //!
-//! Its type keeps that the state is sound. A book keeps its state beside the placers, so that to pick a tile costs
-//! one call of a placer. It stands on all crates of the machine, and on the readings of a board, as one of which it
-//! tells how far its run has come (`counts`); scripts, workers, runs, `watch_play`, `fractal_watch` and a bench call
-//! it, and saved images take what it froze. An event costs a look at the least task beside its own change; no call
-//! copies the data.
+//! Its type keeps that the state is sound. A book keeps its state beside the placers, so that to pick a tile costs one
+//! call of a placer. It uses all crates of the machine, and the readings of a board, in whose form it reports how far
+//! its run has come (`counts`); scripts, workers, runs, `watch_play`, `fractal_watch` and a bench call it, and saved
+//! images take what it froze. An event costs a look at the least task beside its own change; no call copies the data.
 #![tactic(auto)]
 
 mod advancing;

@@ -1,4 +1,4 @@
-//! What a book tells of itself, and how it is stopped. No call takes memory.
+//! Queries of a book, and how it is stopped. No call allocates memory.
 
 ghost use Rattle.std.specs.Prelude.{◌≡◌, ◌↔◌, ◌<◌, ◌≤◌, ℕ, true, Some, IsNone, IfSome, IsTrue, length};
 ghost use Rattle.std.specs.Prelude.{map, option_map, option_and_then, slice_get};
@@ -81,7 +81,7 @@ impl<N: Naming, P: Placer, T: Tap> Book<N, P, T> {
         self.sound.state().has_limits();
     }
 
-    /// The state, for whoever tells what stands in it.
+    /// The state, for reports of it.
     pub fn state(&self) -> &State<N>
         ensures view { result.now.view ≡ machine_view self.now }
         ensures sound { Sound N.image result.now.view }
@@ -89,8 +89,8 @@ impl<N: Naming, P: Placer, T: Tap> Book<N, P, T> {
         self.sound.state()
     }
 
-    /// What the last event did beside its one change: whom it took back, whom it spilled, and who came. Nothing where
-    /// it was refused, and before the first one.
+    /// What the last event did beside its one change: the tasks that it aborted, spilled and created. Nothing where it
+    /// was refused, and before the first one.
     pub fn effect(&self) -> &Effect
         ensures { result.now ≡ effect_of self.now }
     {
@@ -154,8 +154,8 @@ impl<N: Naming, P: Placer, T: Tap> Book<N, P, T> {
         self.sound.state().loads()
     }
 
-    /// The tile in which an enqueue of this hint would place the child, as the serving placer picks it now. The placer
-    /// is told of no placement, so its state stays.
+    /// The tile in which an enqueue of this hint would place the child, as the serving placer picks it now. No
+    /// placement is reported to the placer, so its state stays.
     pub fn tile_for(&self, hint: u32) -> u32
         ensures tile { result ≡ picked_tile (view_of P.policy T.notes self.now) hint }
         ensures inside { result < (machine_view self.now).settings.tiles }
@@ -181,7 +181,8 @@ impl<N: Naming, P: Placer, T: Tap> Book<N, P, T> {
         }
     }
 
-    /// The same core as [`core_at`](Book::core_at) gives, with whether its stack is known to be empty (`NotedCore`).
+    /// The core of the task that runs there, as [`core_at`](Book::core_at) gives it, with whether its stack is known to
+    /// be empty (`NotedCore`). None exactly where no task runs there.
     pub fn core_in_place(&self, tile: u32, core: u32) -> Option<&NotedCore>
         ensures within { let view = machine_view self.now in
             IfSome result (λ c. c.now.used ≤ view.settings.budget) }

@@ -21,8 +21,8 @@ use Rattle.event_law.specs.spec_law.Sound.{Sound}
 use Rattle.event_basis.specs.Falling.{RestIsWithin}
 use Rattle.event_basis.specs.Forcing.{LeavesIdle, LeavesRoom, RunsIfTask, TakesStill}
 
--- what an event forces for a running task of a tile: what conflicts with its access is taken back, a place of the
--- commit queue is freed, or room is made for its child
+-- what an event forces for a running task of a tile: what conflicts with its access is aborted, a place of the commit
+-- queue is freed, or room is made for its child
 pub data IsForcedFor (tile id : ℕ) (task : Task) (old : View) (aborted : ℕ) (mid : View) : Type 0 where
   conflicts : (offset : ℕ) (write : Bool) → TakesConflicts task offset write old aborted mid
       → IsForcedFor tile id task old aborted mid
@@ -54,7 +54,7 @@ RoomIsLeft =
     → Sound image old → RunsIfTask old asker
     → MakesRoom tile asker old aborted mid → LeavesRoom image tile old mid
 
--- once a firm victim is taken back for who asks as the least task, it is idle and firm, so it moves
+-- once a firm victim is aborted for a requester that is the least task, it is idle and firm, so it moves
 abbrev pub VictimMoves : Type 0
 VictimMoves =
     (image : ImageValue) (tile : ℕ) (asker : Asker) (old : View) (v : ℕ) (task : Task)

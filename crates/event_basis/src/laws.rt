@@ -22,8 +22,8 @@ pub fn room_is_left()
     ensures { RoomIsLeft }
 {}
 
-/// Once a firm victim is taken back for who asks as the least task, it is an idle firm task of its tile, so that
-/// a coalescing may begin.
+/// Once a firm victim is aborted for a requester that is the least task, it is an idle firm task of its tile, so that a
+/// coalescing may begin.
 pub fn victim_moves()
     ensures { VictimMoves }
 {}

@@ -49,14 +49,14 @@ pub record IsNextEvent {N : Type 0} (image : ImageValue) (view : View) (event : 
   pub goes_on : IsOver view → ⊥
   pub least : IsLeastEvent image view event
 
--- the event is no commit
+-- the event isn't a commit
 abbrev pub IsNoCommit : {N : Type 0} → Event N → Type 0
 IsNoCommit event.Commit = ⊥
 IsNoCommit other = Unit {0}
 
--- what an advance is answered: the end of a run that is over; else, by the event for the least task, that it
--- committed, that another event was made, and how many tasks that took back, or that memory ran out, which a stopped
--- book answers always
+-- what an advance is answered: the end of a run that is over; else, by the event for the least task, that it committed,
+-- that another event was made, and how many tasks that aborted, or that memory ran out, which a stopped book answers
+-- always
 abbrev pub AdvanceAnswers : Type 0 → ImageValue → BookView → Advance → BookView → Type 0
 AdvanceAnswers N image old (answers.Ended end) new = (old.stopped ≡ false) × HasEnd old.view end × (new ≡ old)
 AdvanceAnswers N image old answers.Committed new =

@@ -31,7 +31,7 @@ pub record CountedView : Type 0 where
 abbrev pub picked_tile : BookView → ℕ → ℕ
 picked_tile book hint = serving_tile book.placers hint (loads book.view)
 
--- the count of events after one more, which stands at its greatest value
+-- the count of events after one more, which stays at its greatest value
 abbrev pub next_count : ℕ → ℕ
 next_count steps = min (steps + 1) (2 ^ 64 - 1)
 

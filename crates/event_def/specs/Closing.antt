@@ -5,8 +5,7 @@ use Rattle.spec_state.specs.Aborts.{UndoesAll}
 use Rattle.run_journal.specs.declared.closed.Closed.{Closed}
 use Rattle.event_def.specs.Book.{BookView}
 
--- the journal, the output and the memory that are left where all uncommitted tasks are taken back, and the count of
--- events
+-- the journal, the output and the memory that an abort of all uncommitted tasks leaves, and the count of events
 pub record Closes (book : BookView) (closed : Closed) : Type 0 where
   pub left : View
   pub undone : UndoesAll book.view left

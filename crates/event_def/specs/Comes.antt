@@ -1,4 +1,4 @@
--- What comes of an event in a book that wasn't stopped, before its taps note it.
+-- The outcome of an event in a book that wasn't stopped, before its taps note it.
 use Rattle.std.specs.Prelude.{◌≡◌, List}
 use Rattle.place_policy.specs.Policy.{Policy}
 use Rattle.spec_state.specs.View.{View}

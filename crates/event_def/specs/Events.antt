@@ -26,7 +26,7 @@ use Rattle.event_def.specs.declared.event.Event.TheVariants as event
 use Rattle.event_def.specs.Book.{BookView, picked_tile, placers_after_commit}
 use Rattle.event_def.specs.Causes.{AllCoresHeld, IsCommitFull}
 
--- a core of the tile is free, or else the latest task on one is taken back
+-- a core of the tile is free, or else the latest task on one is aborted
 pub data FreesCore (tile : ℕ) (old : View) : ℕ → View → Type 0 where
   has_free : (core : ℕ) → IsFreeCore old tile core → FreesCore tile old 0 old
   aborts_latest : (aborted v : ℕ) (task : Task) (new : View) → AllCoresHeld old tile
@@ -43,19 +43,19 @@ pub record DispatchEvent (tile : ℕ) (old : View) (aborted : ℕ) (new : View) 
   pub change : change.Dispatches tile ready new
 
 -- the commit queue of the tile has a free place, or else the latest task in it, which is later than this one, is
--- taken back
+-- aborted
 pub data FreesCommit (tile : ℕ) (task : Task) (old : View) : ℕ → View → Type 0 where
   has_free : length (finished_at old tile) < old.settings.commit_queue → FreesCommit tile task old 0 old
   aborts_latest : (aborted v : ℕ) (x : Task) (new : View) → IsCommitFull old tile → IsLatestFinished old tile v x
       → IsLater old task v x
       → Aborts (OnlyNode v) old aborted new → FreesCommit tile task old aborted new
 
--- none is taken back and no placer is told
+-- no task is aborted, and nothing is reported to a placer
 pub record IsQuiet (aborted : ℕ) (before after : List Policy) : Type 0 where
   pub none : aborted ≡ 0
   pub same : after ≡ before
 
--- the cascades of all tasks that conflict with an access at this offset, a store if `write`, are taken back as one set
+-- the cascades of all tasks that conflict with an access at this offset, a store if `write`, are aborted as one set
 abbrev pub TakesConflicts : Task → ℕ → Bool → View → ℕ → View → Type 0
 TakesConflicts task offset write old aborted new =
     Aborts (Conflicts old task (offset / old.settings.line) write) old aborted new
@@ -63,7 +63,7 @@ TakesConflicts task offset write old aborted new =
 -- what the task of this id does at the end of the leg that it took, on this core of this tile: the step event by its
 -- request
 module _ (tile core : ℕ) (leg : LegValue) (id : ℕ) (task : Task) where
-  -- a load: what conflicts with it is taken back, and then it is made
+  -- a load: what conflicts with it is aborted, and then it is made
   pub record LoadEvent (width : LoadWidth) (rd offset : ℕ) (old : View) (aborted : ℕ) (new : View) : Type 0 where
     pub mid : View
     pub forced : TakesConflicts task offset false old aborted mid
@@ -75,8 +75,8 @@ module _ (tile core : ℕ) (leg : LegValue) (id : ℕ) (task : Task) where
     pub forced : TakesConflicts task offset true old aborted mid
     pub change : change.StoresTo id task leg offset width value mid new
 
-  -- an enqueue: the tile that the serving placer picks, which is there, makes room, the child stands in it, and that
-  -- placer is told
+  -- an enqueue: the tile that the serving placer picks, which the machine has, makes room, its task queue gets the
+  -- child, and this is reported to that placer
   pub record EnqueueEvent (spawn : Spawn) (book : BookView) (aborted : ℕ) (new : View)
       (placers : List Policy) : Type 0 where
     pub inside : picked_tile book spawn.hint < book.view.settings.tiles
@@ -91,7 +91,7 @@ module _ (tile core : ℕ) (leg : LegValue) (id : ℕ) (task : Task) where
     pub forced : FreesCommit tile task old aborted mid
     pub change : change.Finishes tile core id task leg mid new
 
-  -- what comes of each request
+  -- the outcome of each request
   abbrev pub ComesTo : Request → BookView → ℕ → View → List Policy → Type 0
   ComesTo Continue book aborted new placers =
       change.KeepsQuantum id task leg book.view new × IsQuiet aborted book.placers placers
@@ -108,7 +108,7 @@ module _ (tile core : ℕ) (leg : LegValue) (id : ℕ) (task : Task) where
   ComesTo (Trap cause) book aborted new placers =
       change.KeepsTrap id task leg core cause book.view new × IsQuiet aborted book.placers placers
 
--- a step: the task that runs there takes the leg, and what it asks for at the end comes to be
+-- a step: the task that runs there takes the leg, and what it asks for at the end is done
 pub record StepEvent (tile core : ℕ) (leg : LegValue) (book : BookView) (aborted : ℕ) (new : View)
     (placers : List Policy) : Type 0 where
   pub id : ℕ
@@ -116,7 +116,7 @@ pub record StepEvent (tile core : ℕ) (leg : LegValue) (book : BookView) (abort
   pub takes : TakesLeg book.view tile core leg id task
   pub comes : ComesTo tile core leg id task (request_of book.view task leg) book aborted new placers
 
--- the latest dispatched task of the tile is taken back
+-- the latest dispatched task of the tile is aborted
 pub record AbortEvent (tile : ℕ) (old : View) (aborted : ℕ) (new : View) : Type 0 where
   pub id : ℕ
   pub task : Task
@@ -131,7 +131,7 @@ pub record SplitEvent (tile : ℕ) (old : View) (aborted : ℕ) (new : View) : T
   pub forced : MakesRoom tile Splitter old aborted mid
   pub change : Splits tile mid new
 
--- the event leads from a book to this view and these placers, and takes so many tasks back
+-- the event leads from a book to this view and these placers, and aborts `aborted` tasks
 abbrev pub Makes : {N : Type 0} → BookView → Event N → ℕ → View → List Policy → Type 0
 Makes book (event.Dispatch tile) aborted new placers = DispatchEvent tile book.view aborted new
     × (placers ≡ book.placers)

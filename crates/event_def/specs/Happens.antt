@@ -22,7 +22,7 @@ pub record IsMade {N : Type 0} (old : BookView) (event : Event N) (aborted : ℕ
   pub steps : new.steps ≡ next_count old.steps
   pub stopped : new.stopped ≡ false
 
--- nothing is changed, and no task is taken back
+-- nothing is changed, and no task is aborted
 pub record IsUnchanged (old : BookView) (aborted : ℕ) (new : BookView) : Type 0 where
   pub none : aborted ≡ 0
   pub same : new ≡ old
@@ -39,7 +39,7 @@ pub record Refuses {N : Type 0} (old : BookView) (event : Event N) (reply : Repl
   pub refused : IsRefused old event reply
   pub unchanged : IsUnchanged old aborted new
 
--- from a book the event has this reply, takes so many tasks back, and leaves this book
+-- from a book the event has this reply, aborts `aborted` tasks, and leaves this book
 abbrev pub Happens : {N : Type 0} → BookView → Event N → Reply → ℕ → BookView → Type 0
 Happens old event replies.Ok aborted new = IsMade old event aborted new
 Happens old event replies.Memory aborted new = MayRunOutOfMemory old event × IsUnchanged old aborted new

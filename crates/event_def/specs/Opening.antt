@@ -33,8 +33,8 @@ image_descriptor kind index task = record {
   kinds = root_kinds kind;
 }
 
--- an initial task is placed: the serving placer picks its tile, as for a child; the tile coalesces first where its
--- task queue is full; the task, idle and made by the image, stands there as the last one, and that placer is told
+-- an initial task is placed: the serving placer picks its tile, as for a child; the tile coalesces first where its task
+-- queue is full; the task, idle and made by the image, is the last one there, and this is reported to that placer
 pub record PlacesImageTask (kind : Kind) (index : ℕ) (task : ImageTask) (old new : BookView) : Type 0 where
   pub inside : picked_tile old index < old.view.settings.tiles
   pub mid : View

@@ -1,5 +1,6 @@
--- What an event tells of what it did beside its one change: the tasks that it took back, those that it spilled, and the
--- one that came. It is told of the event's own cascade, its own coalescing and its own newcomer, and of no other.
+-- What an event reports of what it did beside its one change: the tasks that it aborted, those that it spilled, and the
+-- one that it created. The report is about the event's own cascade, its own coalescing and its own new task, and no
+-- other.
 use Rattle.std.specs.Prelude.{◌≡◌, ℕ, Bool, List, [], Some, None, map}
 use Rattle.place_policy.specs.Policy.{Policy}
 use Rattle.guest_image.specs.ImageValue.{ImageValue}
@@ -28,19 +29,19 @@ use Rattle.event_def.specs.Events as events
 use Rattle.event_def.specs.Events.{ComesTo, FreesCommit, FreesCore, Makes}
 use Rattle.event_def.specs.Happens.{Happens}
 
--- these are told as taken back, from here with these marks, and none as spilled
+-- these are reported as aborted, from here with these marks, and none as spilled
 abbrev pub TellsAbort : View → List Bool → EffectValue → Type 0
 TellsAbort old marks effect = TellsBack old marks effect.back × (effect.spilled ≡ [])
 
--- the tasks of these ids are told as spilled, from here
+-- the tasks of these ids are reported as spilled, from here
 abbrev pub TellsSpilled : View → List ℕ → EffectValue → Type 0
 TellsSpilled old ids effect = effect.spilled ≡ map (told_spilled old) ids
 
--- none is told as taken back or spilled
+-- none is reported as aborted or spilled
 abbrev pub TellsNeither : EffectValue → Type 0
 TellsNeither effect = (effect.back ≡ []) × (effect.spilled ≡ [])
 
--- what is told where a core is freed
+-- what is reported where a core is freed
 abbrev pub TellsCore : (tile : ℕ) (old : View) (aborted : ℕ) (mid : View) → FreesCore tile old aborted mid
     → EffectValue → Type 0
 TellsCore tile old aborted mid (events.has_free core free) effect = TellsNeither effect
@@ -67,7 +68,7 @@ TellsRoom tile asker old aborted mid
     (room.aborts_creator taken v c x new full none least victim loose made_by aborts) effect =
     TellsAbort old aborts.marks effect
 
--- what a step tells, by what the task asks for at the end of its leg
+-- what a step reports, by what the task asks for at the end of its leg
 abbrev pub TellsRequest : (tile core : ℕ) (leg : LegValue) (id : ℕ) (task : Task) (request : Request) (book : BookView)
     (aborted : ℕ) (new : View) (placers : List Policy)
     → ComesTo tile core leg id task request book aborted new placers → EffectValue → Type 0
@@ -82,7 +83,7 @@ TellsRequest tile core leg id task requests.End book aborted new placers comes e
     TellsCommit tile task book.view aborted comes.0.mid comes.0.forced effect × (effect.arrived ≡ None)
 TellsRequest tile core leg id task other book aborted new placers comes effect = effect ≡ nothing
 
--- what an event tells that makes this
+-- what an event reports that makes this
 abbrev pub Tells : {N : Type 0} (book : BookView) (e : Event N) (aborted : ℕ) (new : View) (placers : List Policy)
     → Makes book e aborted new placers → EffectValue → Type 0
 Tells book (event.Dispatch tile) aborted new placers makes effect =
@@ -99,7 +100,7 @@ Tells book (event.Split tile) aborted new placers makes effect =
     TellsRoom tile Splitter book.view aborted makes.0.mid makes.0.forced effect
     × (effect.arrived ≡ Some (record { 0 = makes.0.change.id }))
 
--- what comes of an event, and what it tells where it is made; where it is refused, nothing
+-- the outcome of an event, and what it reports where it is made; where it is refused, nothing
 abbrev pub TellsComing : {N : Type 0} (book : BookView) (e : Event N) (came : Came) (view : View)
     (placers : List Policy) → Comes book e came view placers → EffectValue → Type 0
 TellsComing book e (Made seen) view placers comes effect = Tells book e seen.aborted view placers comes.1 effect
@@ -109,7 +110,7 @@ abbrev pub ComesTelling : {N : Type 0} → BookView → Event N → Came → Vie
 ComesTelling book e came view placers effect =
     (comes : Comes book e came view placers) × TellsComing book e came view placers comes effect
 
--- an event happens so, and what it tells where it is made; where it is refused, nothing
+-- an event happens so, and what it reports where it is made; where it is refused, nothing
 abbrev pub TellsHappening : {N : Type 0} (old : BookView) (e : Event N) (reply : Reply) (aborted : ℕ)
     (new : BookView) → Happens old e reply aborted new → EffectValue → Type 0
 TellsHappening old e replies.Ok aborted new happens effect =
@@ -120,7 +121,7 @@ abbrev pub HappensTelling : {N : Type 0} → BookView → Event N → Reply → 
 HappensTelling old e reply aborted new effect =
     (happens : Happens old e reply aborted new) × TellsHappening old e reply aborted new happens effect
 
--- what an advance tells, by the event for the least task; nothing where none is made
+-- what an advance reports, by the event for the least task; nothing where none is made
 abbrev pub TellsAdvance : (N : Type 0) (image : ImageValue) (old : BookView) (reply : Advance) (new : BookView)
     → AdvanceAnswers N image old reply new → EffectValue → Type 0
 TellsAdvance N image old (answers.Moved aborted) new answered effect =

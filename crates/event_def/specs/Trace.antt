@@ -30,7 +30,7 @@ line_of_request size (Load width rd offset) = Some (offset / size)
 line_of_request size (Store offset width value) = Some (offset / size)
 line_of_request size other = None
 
--- the record of a deed in a tile that took so many tasks back and left this view
+-- the record of a deed in a tile that aborted `aborted` tasks and left this view
 abbrev pub record_of : Deed → ℕ → Option ℕ → ℕ → View → Record
 record_of deed tile line aborted new = record {
   deed = deed;

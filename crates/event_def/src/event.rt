@@ -21,7 +21,7 @@ pub enum Event<N: Naming> {
         /// The leg, from the core that the task has.
         leg: Leg<N>,
     },
-    /// The latest dispatched task of a tile is taken back.
+    /// The latest dispatched task of a tile is aborted.
     Abort {
         /// The tile.
         tile: u32,
@@ -51,9 +51,8 @@ pub enum Reply {
     Empty,
     /// All cores of the tile hold tasks, and its least idle task isn't the least task.
     Busy,
-    /// A queue is full for a task that isn't the least one: the task queue that a child was to stand in, where no
-    /// idle firm task moves; the task queue that a spilled task was to come back to; or the commit queue, where no
-    /// task in it is later.
+    /// A queue is full for a task that isn't the least one: the task queue for a child, where no idle firm task moves;
+    /// the task queue to which a spilled task was to return; or the commit queue, where no task in it is later.
     Stall,
     /// No task runs on that core, or the leg doesn't begin at the core that it has.
     Stale,
@@ -65,30 +64,30 @@ pub enum Reply {
     Memory,
 }
 
-/// The reply to an event, and how many tasks it took back.
+/// The reply to an event, and how many tasks it aborted.
 #[derive(Clone, Copy, Debug, PartialEq, Eq)]
 pub struct Applied {
     /// The reply.
     pub reply: Reply,
-    /// How many tasks were taken back.
+    /// How many tasks were aborted.
     pub aborted: u32,
 }
 
-/// What came of one event.
+/// The outcome of one event.
 #[derive(Clone, Copy, Debug, PartialEq, Eq)]
 pub enum Came {
-    /// It was made, and the taps note it; the record has how many tasks it took back.
+    /// It was made, and the taps note it; the record has how many tasks it aborted.
     Made(Record),
-    /// It was refused with this reply, which is never `Ok`, and took no task back.
+    /// It was refused with this reply, which is never `Ok`, and aborted no task.
     Refused(Reply),
 }
 
-/// What came of one event for the least task.
+/// The outcome of one event for the least task.
 #[derive(Clone, Copy, Debug, PartialEq, Eq)]
 pub enum Advance {
     /// An event other than a commit was made.
     Moved {
-        /// How many tasks it took back.
+        /// How many tasks it aborted.
         aborted: u32,
     },
     /// The least task committed.

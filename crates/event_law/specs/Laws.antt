@@ -25,7 +25,7 @@ use Rattle.event_def.specs.Advancing.{AdvancesBy, HasRest, IsNextEvent, IsNoComm
 use Rattle.event_def.specs.Causes.{IsGranted}
 use Rattle.spec_law.specs.Sound.{Sound}
 
--- an event that is not answered Ok changes nothing and takes no task back
+-- an event that is not answered Ok changes nothing and aborts no task
 abbrev pub RefusalsChangeNothing : Type 0 → Type 0
 RefusalsChangeNothing N =
     (old new : BookView) (event : Event N) (reply : Reply) (aborted : ℕ)
@@ -63,7 +63,7 @@ EventStaysSound N =
     → Sound image new.view
 
 -- what a book's journal means: it is a run of the serial machine from the image, the output is that run's, and its
--- memory is what is left where all uncommitted tasks are taken back, and nothing else is left then
+-- memory is what an abort of all uncommitted tasks leaves, with nothing else left then
 pub record IsSerialRun (image : ImageValue) (budget : ℕ) (view : View) : Type 0 where
   pub serial : SerialState
   pub is_run : IsRun image budget view.history serial
@@ -108,7 +108,7 @@ AdvancesFall N =
     → Happens old event replies.Ok aborted new
     → HasRest old.view before → HasRest new.view after → after < before
 
--- a sound view has a rest: its run is over, or its least task stands in one of the ways that are told apart
+-- a sound view has a rest: its run is over, or its least task is in one of the states that `HasRest` distinguishes
 abbrev pub RestIsThere : Type 0
 RestIsThere = (image : ImageValue) (view : View) → Sound image view → (left : ℕ) × HasRest view left
 

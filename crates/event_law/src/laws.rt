@@ -7,7 +7,7 @@ ghost use Rattle.event_law.specs.Laws.{RefusalsChangeNothing, ReplyIsOne, RestIs
 
 use rv_core::Naming;
 
-/// An event that is not answered `Ok` changes nothing and takes no task back.
+/// An event that is not answered `Ok` changes nothing and aborts no task.
 pub fn refusals_change_nothing<N: Naming>()
     ensures { RefusalsChangeNothing N }
 {}
@@ -40,8 +40,8 @@ pub fn event_stays_sound<N: Naming>()
 {}
 
 /// From the opening on, of an image within its limits and with valid settings, whatever such events are made and in
-/// whatever order, the journal is a run of the serial machine, the output is that run's, and its memory is what is
-/// left where all uncommitted tasks are taken back.
+/// whatever order, the journal is a run of the serial machine, the output is that run's, and its memory is what an
+/// abort of all uncommitted tasks leaves.
 pub fn histories_are_runs<N: Naming>()
     ensures { HistoriesAreRuns N }
 {}

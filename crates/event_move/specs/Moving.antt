@@ -1,4 +1,4 @@
--- What comes of an event that moves tasks, whatever placers and taps a book has.
+-- The outcome of an event that moves tasks, whatever placers and taps a book has.
 use Rattle.std.specs.Prelude.{ℕ, List, length}
 use Rattle.place_policy.specs.Policy.{Policy}
 use Rattle.trace_tap.specs.TapValue.{TapValue}
@@ -11,8 +11,8 @@ use Rattle.event_prelude.specs.event_def.declared.event.Event.TheVariants as eve
 use Rattle.event_prelude.specs.event_def.Book.{book_of, placers_after_commit}
 use Rattle.event_prelude.specs.event_def.Telling.{ComesTelling}
 
--- from a view an event leads to another one and tells what it did, or is refused, as a book's does, and the placers
--- stay
+-- from a view an event leads to another one and reports what it did, or is refused, as in a book with any placers and
+-- taps, and the placers stay
 abbrev pub ComesSo : (N : Type 0) → View → Event N → Came → View → EffectValue → Type 0
 ComesSo N old event came new effect =
     (placers : List Policy) (taps : List TapValue) (steps : ℕ)

@@ -31,8 +31,8 @@ fn make_abort<N: Naming>(state: &mut State<N>, tile: u32, id: TaskId) -> Record
     record_of(state, Deed::Abort, tile, aborted)
 }
 
-/// The event `Abort`: the latest dispatched task of a tile is taken back, with all that is taken back with it.
-/// Refused with `Ended`, `Empty` or `Firm`. It takes no memory.
+/// The event `Abort`: the latest dispatched task of a tile is aborted, with its cascade. Refused with `Ended`, `Empty`
+/// or `Firm`. It allocates no memory.
 pub fn abort<N: Naming>(state: &mut State<N>, tile: u32) -> Came
     requires sound { Sound N.image state.old.view }
     requires tile { tile < state.old.view.settings.tiles }

@@ -99,7 +99,7 @@ fn abort_on_core<N: Naming>(state: &mut State<N>, tile: u32) -> u32
     }
 }
 
-/// Takes the latest task on a core of a tile back where none is free, and tells how many tasks that were.
+/// Aborts the latest task on a core of a tile where none is free, and returns how many tasks it aborted.
 fn clear_core<N: Naming>(state: &mut State<N>, tile: u32) -> u32
     requires sound { Sound N.image state.old.view }
     requires tile { tile < state.old.view.settings.tiles }
@@ -131,9 +131,9 @@ pub fn make_dispatch<N: Naming>(state: &mut State<N>, tile: u32, id: TaskId) -> 
     record_of(state, Deed::Dispatch, tile, aborted)
 }
 
-/// The event `Dispatch`: the least idle task of a tile goes to its lowest free core. Where none is free and it is
-/// the least task, the latest task on one is taken back first. Refused with `Ended`, `Empty` or `Busy`. Where a core is
-/// free it looks at each task of the queue, and else at those up to the first idle one.
+/// The event `Dispatch`: the least idle task of a tile goes to its lowest free core. Where none is free and it is the
+/// least task, the latest task on one is aborted first. Refused with `Ended`, `Empty` or `Busy`. Where a core is free
+/// it looks at each task of the queue, and else at those up to the first idle one.
 pub fn dispatch<N: Naming>(state: &mut State<N>, tile: u32) -> Came
     requires sound { Sound N.image state.old.view }
     requires tile { tile < state.old.view.settings.tiles }

@@ -1,10 +1,10 @@
 //! The events that move tasks between queues, cores and blocks: dispatch, abort, commit, coalescing and split.
 //!
-//! Each call first finds the causes to refuse its event, in their order, then takes memory for what it adds, takes
-//! back what stands in its way, and makes its one change. It answers with the record that taps note, or with the reply
-//! that refuses the event, and then nothing has changed. The state, which tells of no event before, then tells what
-//! the event did beside its change: whom it took back, whom it spilled and who came. A call `make_..` makes an event
-//! that is granted already; `has_idle` and `least_in` tell what a dispatch would find. It stands on `spec_dispatch`,
+//! Each call first finds the causes to refuse its event, in their order, then allocates memory for what it adds, aborts
+//! what prevents it, and makes its one change. It answers with the record that taps note, or with the reply that
+//! refuses the event, and then nothing has changed. The state's effect, which is clear before, then lists what the
+//! event did beside its change: the tasks that it aborted, spilled and created. A call `make_..` makes an event that is
+//! granted already; `has_idle` and `least_in` return what a dispatch would find. It uses `spec_dispatch`,
 //! `spec_rollback`, `spec_commit` and `event_prelude`; the book and `watch_play` call it. A call costs what its change
 //! does.
 #![tactic(auto)]

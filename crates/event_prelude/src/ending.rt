@@ -63,7 +63,7 @@ fn trapped_in(least: Where) -> Option<TaskId>
     }
 }
 
-/// How the run ended, by its least task as `least` tells it; None where it goes on.
+/// How the run ended, where `least` is the place of its least task; None where it goes on.
 #[inline(always)]
 pub fn end_with<N: Naming>(state: &State<N>, least: Option<Where>) -> Option<End>
     requires sound { Sound N.image state.now.view }

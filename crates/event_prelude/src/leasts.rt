@@ -17,7 +17,7 @@ fn queued_in(least: Where) -> Option<TaskId>
     }
 }
 
-/// Whether the least task is the one of this id, as `least` tells where it stands.
+/// Whether the least task, whose place is `least`, has this id.
 pub fn is_at(least: Where, id: TaskId) -> bool
     ensures { IsTrue result ↔ (queued_in least ≡ Some id.0) }
 {

@@ -1,9 +1,9 @@
 //! What events ask of a state first: how a run ended, which task is the least one, and room in a task queue.
 //!
-//! A full task queue gets a free place by moving idle firm tasks into the tile's block, or, for who asks as the
-//! least task, by taking its victim back, or else the victim's creator. Whether a cause stands to refuse an event,
-//! and what it changes where none does, is decided above. It stands on the state and on what takes tasks back and
-//! spills them; `event_move`, `event_step`, the book and `watch_play` call it. To look costs what `least` does.
+//! A full task queue gets a free place by moving idle firm tasks into the tile's block, or, if the requester is the
+//! least task, by aborting its victim, or else the victim's creator. The crates above decide whether there is a cause
+//! to refuse an event, and what it changes where there is none. It uses the state and the crates that abort and spill
+//! tasks; `event_move`, `event_step`, the book and `watch_play` call it. A query costs what `least` does.
 #![tactic(auto)]
 
 mod ending;

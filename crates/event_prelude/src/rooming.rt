@@ -48,8 +48,8 @@ pub fn stalls<N: Naming>(state: &State<N>, tile: u32, asker: Option<TaskId>) -> 
     !asks_as_least(state, tile, asker)
 }
 
-/// Whether the least task of a tile's block may come back: the task queue has a free place, or it is the least task,
-/// as `least` tells where that stands.
+/// Whether the least task of a tile's block may return to the task queue: the queue has a free place, or it is the
+/// least task of all, whose place is `least`.
 pub fn may_return<N: Naming>(state: &State<N>, tile: u32, least: Where) -> bool
     requires tile { tile < state.now.view.settings.tiles }
     requires least { IsLeast state.now.view least }
@@ -102,9 +102,9 @@ fn take_victim<N: Naming>(state: &mut State<N>, tile: u32, asker: Option<TaskId>
     }
 }
 
-/// Makes a free place in a tile's task queue for who asks, a running task for its child or else the splitter, which
-/// doesn't stall. It tells how many tasks were taken back for it, and in the state which, and which were spilled. The
-/// tile's block has the pushes to spare, so it takes no memory.
+/// Makes a free place in a tile's task queue for the requester, a running task for its child or else the splitter,
+/// which doesn't stall. It returns how many tasks were aborted for it; the state reports which, and which were spilled.
+/// The tile's block has memory for the pushes, so it allocates none.
 pub fn make_room<N: Naming>(state: &mut State<N>, tile: u32, asker: Option<TaskId>) -> u32
     requires sound { Sound N.image state.old.view }
     requires tile { tile < state.old.view.settings.tiles }

@@ -1,4 +1,4 @@
--- Accesses, with what they tell.
+-- Accesses, with what they report.
 use Rattle.std.specs.Prelude.{◌≡◌, ℕ, Bool, None}
 use Rattle.rv_core.specs.LegValue.{LegValue}
 use Rattle.rv_table.specs.declared.instr.LoadWidth.{LoadWidth}
@@ -8,14 +8,14 @@ use Rattle.event_prelude.specs.spec_state.View.{View}
 use Rattle.event_prelude.specs.event_def.Events.{TakesConflicts, LoadEvent, StoreEvent}
 use Rattle.event_prelude.specs.event_def.Telling.{TellsAbort}
 
--- what conflicts with an access is taken back, and it alone is told
+-- what conflicts with an access is aborted, and nothing else is reported
 abbrev pub TakesTelling : Task → ℕ → Bool → View → ℕ → View → EffectValue → Type 0
 TakesTelling task offset write old aborted new effect =
     (takes : TakesConflicts task offset write old aborted new)
     × TellsAbort old takes.marks effect × (effect.arrived ≡ None)
 
 module _ (tile core : ℕ) (leg : LegValue) (id : ℕ) (task : Task) where
-  -- a load, which tells what conflicted with it
+  -- a load, which reports what conflicted with it
   abbrev pub LoadsTelling : LoadWidth → ℕ → ℕ → View → ℕ → View → EffectValue → Type 0
   LoadsTelling width rd offset old aborted new effect =
       (loads : LoadEvent tile core leg id task width rd offset old aborted new)

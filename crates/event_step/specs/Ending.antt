@@ -1,4 +1,4 @@
--- Whether a task in a commit queue is later than one that comes to its end call, and what that call tells.
+-- Whether a task in a commit queue is later than one that makes its end call, and what that call reports.
 use Rattle.std.specs.Prelude.{◌≡◌, ◌↔◌, ℕ, Bool, None, IsTrue, IfSome}
 use Rattle.std.specs.declared.cmp.Ordering.TheVariants.{Less}
 use Rattle.fractal_vt.specs.Keys.{key_cmp}
@@ -18,11 +18,11 @@ HasLater view tile last task = (x : Task) × IsLatestFinished view tile last x �
 abbrev pub HasNoLater : View → ℕ → Task → Type 0
 HasNoLater view tile task = (k : ℕ) (x : Task) → IsFinished view tile k x → IsLater view task k x → ⊥
 
--- an answer tells whether the task of this id has a greater key than the given one
+-- the answer is whether the task of this id has a greater key than the given task
 abbrev pub SaysLater : View → ℕ → Task → Bool → Type 0
 SaysLater view other task answer = IfSome (task_at view other) (λ x. IsTrue answer ↔ (key_cmp task.key x.key ≡ Less))
 
--- an end call, which tells what was taken back for it
+-- an end call, which reports what was aborted for it
 abbrev pub EndsTelling : ℕ → ℕ → LegValue → ℕ → Task → View → ℕ → View → EffectValue → Type 0
 EndsTelling tile core leg id task old aborted new effect =
     (ends : EndEvent tile core leg id task old aborted new)

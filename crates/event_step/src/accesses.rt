@@ -1,4 +1,4 @@
-//! Loads and stores: what conflicts with the access is taken back, and then it is made.
+//! Loads and stores: what conflicts with the access is aborted, and then it is made.
 
 ghost use Rattle.std.specs.Prelude.{◌≡◌, ◌/◌};
 ghost use Rattle.task_request.specs.declared.request.Request.TheVariants.{Load, Store};
@@ -28,8 +28,8 @@ fn line_of<N: Naming>(state: &State<N>, offset: u32) -> u32
     offset / state.settings().line
 }
 
-/// Takes back what conflicts with an access to this line of a task that takes a leg. It tells how many tasks that were,
-/// and in the state which. The task stays as it was.
+/// Aborts what conflicts with an access to this line of a task that takes a leg. It returns how many tasks it aborted;
+/// the state reports which. The task stays as it was.
 fn clear<N: Naming>(
     state: &mut State<N>,
     id: TaskId,
@@ -50,7 +50,8 @@ fn clear<N: Naming>(
     abort_conflicts(state, id, line, write)
 }
 
-/// Makes a load from this line that is spare. It tells how many tasks were taken back for it, and in the state which.
+/// Makes a load from this line, for which the log has memory. It returns how many tasks were aborted for it; the state
+/// reports which.
 fn load_covered<N: Naming>(
     state: &mut State<N>,
     id: TaskId,
@@ -96,7 +97,8 @@ pub(crate) fn load<N: Naming>(
     Came::Made(record_of(state, Deed::Access, tile, Some(line), aborted))
 }
 
-/// Makes a store to this line that is spare. It tells how many tasks were taken back for it, and in the state which.
+/// Makes a store to this line, for which the log has memory. It returns how many tasks were aborted for it; the state
+/// reports which.
 fn store_covered<N: Naming>(
     state: &mut State<N>,
     id: TaskId,

@@ -62,7 +62,7 @@ pub(crate) fn emit_byte<N: Naming>(
     Came::Made(record_of(state, Deed::Call, tile, None, 0))
 }
 
-/// A task that came to a trap keeps its cause, 1 to 17.
+/// A task that trapped keeps its cause, 1 to 17.
 pub(crate) fn keep_trap<N: Naming>(
     state: &mut State<N>,
     tile: u32,

@@ -49,8 +49,8 @@ fn later_finished<N: Naming>(state: &State<N>, tile: u32, id: TaskId) -> Option<
     }
 }
 
-/// Takes the latest task of the full commit queue back, which is later than this one, and then ends this one. It tells
-/// how many tasks were taken back, and in the state which.
+/// Aborts the latest task of the full commit queue, which is later than this one, and then ends this one. It returns
+/// how many tasks were aborted; the state reports which.
 fn finish_after<N: Naming>(
     state: &mut State<N>,
     tile: u32,
@@ -72,7 +72,7 @@ fn finish_after<N: Naming>(
     aborted
 }
 
-/// A task comes to its end call. `Stall` where the commit queue is full and holds no later task.
+/// The end call of a task. `Stall` where the commit queue is full and contains no later task.
 pub(crate) fn end<N: Naming>(state: &mut State<N>, tile: u32, id: TaskId, leg: &Leg<N>) -> Came
     requires sound { Sound N.image state.old.view }
     requires goes_on { IsOver state.old.view → ⊥ }

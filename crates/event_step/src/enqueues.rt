@@ -33,8 +33,8 @@ fn pick<N: Naming, P: Placer>(state: &State<N>, placers: &[P], hint: u32) -> u32
     serving_pick(placers, hint, state.loads().as_slice())
 }
 
-/// Makes room for a child in a tile that gives it a place, and enqueues it there. It tells how many tasks were taken
-/// back for it, and in the state which, which were spilled and which came.
+/// Makes room for a child in a tile that gives it a place, and enqueues it there. It returns how many tasks were
+/// aborted for it; the state reports which, which were spilled and which one was created.
 fn place<N: Naming>(state: &mut State<N>, id: TaskId, leg: &Leg<N>, child: Spawn, tile: u32) -> u32
     requires sound { Sound N.image state.old.view }
     requires tile { tile < state.old.view.settings.tiles }
@@ -50,9 +50,8 @@ fn place<N: Naming>(state: &mut State<N>, id: TaskId, leg: &Leg<N>, child: Spawn
     aborted
 }
 
-/// A task enqueues a child, and the serving placer is told. `Stall` where the tile that it picks
-/// is full and gives the task no place, and `Memory` where memory runs out; the placer is told
-/// nothing then.
+/// Enqueues a child of a task, and reports it to the serving placer. `Stall` where the tile that the placer picks is
+/// full and gives the task no place, and `Memory` where memory runs out; then nothing is reported to the placer.
 pub(crate) fn enqueue<N: Naming, P: Placer>(
     state: &mut State<N>,
     placers: &mut [P],

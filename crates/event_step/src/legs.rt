@@ -47,9 +47,9 @@ pub fn taker<N: Naming>(state: &State<N>, tile: u32, core: u32, leg: &Leg<N>) ->
     }
 }
 
-/// Makes the step of a task that takes the leg, in a tile, where the run goes on: what the task asks for at the end of
-/// the leg comes to be, or the step is refused with `Stall` or `Memory` and nothing changes. The state's effect, which
-/// was cleared before, tells what the step did beside its change.
+/// Makes the step of a task that takes the leg, in a tile, where the run goes on: it does what the task asks for at the
+/// end of the leg, or is refused with `Stall` or `Memory`, and then nothing changes. The state's effect, which was
+/// cleared before, lists what the step did beside its change.
 pub fn make_step<N: Naming, P: Placer>(
     state: &mut State<N>,
     placers: &mut [P],
@@ -87,11 +87,10 @@ pub fn make_step<N: Naming, P: Placer>(
     }
 }
 
-/// The event of a step, from a state of a book that wasn't stopped: the task that runs on that
-/// core of that tile takes the leg, and what it asks for at the end of the leg comes to be.
-/// `Ended` where the run is over, `Stale` where no task there takes the leg, `Stall` where a
-/// queue is full for it, and `Memory` where memory runs out; nothing changes then. The state's
-/// effect, which was cleared before, tells what the step did beside its change.
+/// The event of a step, from a state of a book that wasn't stopped: the task that runs on that core of that tile takes
+/// the leg, and what it asks for at the end of the leg is done. `Ended` where the run is over, `Stale` where no task
+/// there takes the leg, `Stall` where a queue is full for it, and `Memory` where memory runs out; nothing changes then.
+/// The state's effect, which was cleared before, lists what the step did beside its change.
 pub fn step<N: Naming, P: Placer>(
     state: &mut State<N>,
     placers: &mut [P],

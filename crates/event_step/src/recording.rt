@@ -7,7 +7,7 @@ use event_prelude::spec_state::State;
 use rv_core::Naming;
 use trace_tap::{Deed, Record};
 
-/// The record of a deed in a tile that took so many tasks back and left this state.
+/// The record of a deed in a tile that aborted `aborted` tasks and left this state.
 pub(crate) fn record_of<N: Naming>(
     state: &State<N>,
     deed: Deed,

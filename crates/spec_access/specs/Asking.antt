@@ -71,6 +71,6 @@ AsksForSubdomain view leg id = (kind : Kind) × Asks view leg id (MakeSub kind)
 abbrev pub AsksToEmit : View → LegValue → ℕ → Type 0
 AsksToEmit view leg id = (byte : ℕ) × Asks view leg id (Emit byte)
 
--- for nothing: it did its quantum, or came to a trap
+-- the task requests nothing: it did its quantum, or trapped
 abbrev pub AsksForNothing : View → LegValue → ℕ → Type 0
 AsksForNothing view leg id = Asks view leg id Continue ⊎ ((cause : ℕ) × Asks view leg id (Trap cause))

@@ -47,7 +47,7 @@ pub fn end_quantum<N: Naming>(state: &mut State<N>, id: TaskId, leg: &Leg<N>)
     leg.put_end(&mut state.tasks[id.0].core);
 }
 
-/// A task that came to a trap keeps the cause, 1 to 17, and its core as it was at the end of the leg.
+/// A task that trapped keeps the cause, 1 to 17, and its core as it was at the end of the leg.
 pub fn call_trap<N: Naming>(state: &mut State<N>, task: TaskId, leg: &Leg<N>, cause: u8)
     requires asks { Asks state.old.view leg.now task.0 (Trap cause) }
     ensures traps { OfTaker state.old.view leg.now task.0 (λ tile core taker.

@@ -102,8 +102,8 @@ pub fn emit<N: Naming>(state: &mut State<N>, task: TaskId, leg: &Leg<N>)
     put_byte(state, task, leg, byte);
 }
 
-/// A task that did its quantum goes on from the end of its leg; one that came to a trap keeps its cause, and its core
-/// as it was at the end of the leg.
+/// A task that did its quantum goes on from the end of its leg; one that trapped keeps its cause, and its core as it
+/// was at the end of the leg.
 pub fn keep<N: Naming>(state: &mut State<N>, task: TaskId, leg: &Leg<N>)
     requires asks { AsksForNothing state.old.view leg.now task.0 }
     ensures goes_on { OfTakerAsking state.old.view leg.now task.0 Continue (λ tile core t.

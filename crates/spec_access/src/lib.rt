@@ -1,11 +1,11 @@
 //! The forward changes of one running task: each does the one change that the task asks for at the end of its leg.
 //!
-//! What a change may wait for is forced before it: its caller has taken back what conflicts, and made a free place.
-//! A call that adds to a log or to a list of children takes the memory for it before its first change, and needs no
-//! memory where that is spare; no other call takes any. None copies the data: an access costs one read or write of
-//! it, and a child one candidate of the index. `read`, `write`, `spawn`, `make_sub`, `emit` and `keep` find out by
-//! `request_of_task` what the task asks for; what stands behind them is told, by a caller that knows. It stands on the
-//! state, requests and logs; `event_step` calls it. The dispatch, which begins a task, is handed on from
+//! What a change may wait for is forced before it: its caller has aborted what conflicts, and made a free place. A call
+//! that adds to a log or to a list of children allocates the memory for it before its first change, and needs no memory
+//! where that is spare; no other call allocates. None copies the data: an access costs one read or write of it, and a
+//! child one candidate of the index. `read`, `write`, `spawn`, `make_sub`, `emit` and `keep` find out by
+//! `request_of_task` what the task asks for; the calls beneath them get that from a caller that knows. It uses the
+//! state, requests and logs; `event_step` calls it. It re-exports the dispatch, which begins a task, from
 //! `spec_dispatch`.
 #![tactic(auto)]
 

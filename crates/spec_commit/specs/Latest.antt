@@ -17,11 +17,11 @@ pub record HasLessKey (view : View) (a b : ℕ) : Type 0 where
   pub second : task_at view b ≡ Some y
   pub less : key_cmp x.key y.key ≡ Less
 
--- the id stands at one of the first places of the tile's task queue, so many
+-- the id is at one of the first `count` places of the tile's task queue
 abbrev pub IsAmong : View → ℕ → ℕ → ℕ → Type 0
 IsAmong view tile count id = (place : ℕ) × (place < count) × (slice_get (queue_at view tile) place ≡ Some id)
 
--- the id stands at one of the last places of the tile's task queue, so many
+-- the id is at one of the last `count` places of the tile's task queue
 abbrev pub IsAmongLast : View → ℕ → ℕ → ℕ → Type 0
 IsAmongLast view tile count id =
     (place : ℕ) × (length (queue_at view tile) ≤ place + count) × (slice_get (queue_at view tile) place ≡ Some id)
@@ -38,11 +38,11 @@ pub record AreLatest (comes_before : ℕ → ℕ → Type 0) (kind : ℕ → Typ
   pub latest : (stays id : ℕ) → kind stays → (Contains ids stays → ⊥) → Contains ids id → comes_before stays id
   pub rising : AllPairs comes_before ids
 
--- the last of the ids, as many as move at once, once one more stands at this place
+-- the last of the ids, as many as move at once, after one more is inserted at this place
 abbrev pub with_one : List ℕ → ℕ → ℕ → List ℕ
 with_one ids place id = drop (length ids + 1 - MAX_MOVED) (insert ids place id)
 
--- of the first places' ids other than the asker's, the latest
+-- of the first places' ids other than the requester's, the latest
 pub record IsLatestOther (view : View) (tile : ℕ) (asker : Asker) (count id : ℕ) : Type 0 where
   pub among : IsAmong view tile count id
   pub other : asker ≢ Enqueuer id

@@ -20,7 +20,7 @@ const MAX_LISTED: usize = MAX_MOVED + 1;
 /// The ids of the tasks that move, the least first.
 pub(crate) type Chosen = ArrayVec<usize, MAX_LISTED>;
 
-/// Whether the task is idle and firm, where this is the heir.
+/// Whether the task is idle and firm, where `heir` is the dispatched least task.
 fn is_movable(task: &Task, heir: Option<TaskId>) -> bool
     ensures { IsTrue result ↔ (task.now.status ≡ Idle) × IsFirmBy (option_map (λ id. id.0) heir) task.now.creator }
 {

@@ -38,7 +38,8 @@ fn adopt_one(task: &mut Task, id: usize, turn: u32)
     }
 }
 
-/// The same for what stands under one id.
+/// Makes the creator of the task under `key` one that has committed as `turn`, where that creator is the task `id`; all
+/// other tasks stay.
 fn adopt_at(tasks: &mut KeptSlab<Task>, key: usize, id: usize, turn: u32)
     ensures changed { get tasks.new key ≡ after_adoption id turn (get tasks.old key) }
     ensures others { (k : ℕ) → k ≢ key → get tasks.new k ≡ get tasks.old k }
@@ -50,7 +51,7 @@ fn adopt_at(tasks: &mut KeptSlab<Task>, key: usize, id: usize, turn: u32)
     }
 }
 
-/// The same for all tasks. It costs a look at each slot.
+/// Makes the creator of each child of the task `id` one that has committed as `turn`. It costs a look at each slot.
 fn adopt_all(tasks: &mut KeptSlab<Task>, id: usize, turn: u32)
     ensures each { (k : ℕ) → get tasks.new k ≡ after_adoption id turn (get tasks.old k) }
     ensures len { slab_len tasks.new ≡ slab_len tasks.old }
@@ -61,7 +62,8 @@ fn adopt_all(tasks: &mut KeptSlab<Task>, id: usize, turn: u32)
     }
 }
 
-/// The same for what stands under each of these ids.
+/// Makes the creator of each child of the task `id` among these keys one that has committed as `turn`; each other task
+/// stays.
 fn adopt_noted(tasks: &mut KeptSlab<Task>, keys: &[u32], id: usize, turn: u32)
     ensures each { (k : ℕ) → IsAdoptedOrSame id turn (get tasks.old k) (get tasks.new k) }
     ensures noted { (place k : ℕ) → slice_get keys.now place ≡ Some k
@@ -74,8 +76,8 @@ fn adopt_noted(tasks: &mut KeptSlab<Task>, keys: &[u32], id: usize, turn: u32)
     }
 }
 
-/// The same for all children of a task. It costs a look at each place among its children, or at each slot where the
-/// notes aren't complete.
+/// Makes the creator of all children of the task `id` one that has committed as `turn`. It costs a look at each place
+/// among its children, or at each slot where the notes aren't complete.
 fn adopt(tasks: &mut KeptSlab<Task>, children: &Children, id: usize, turn: u32)
     requires noted { AreNoted tasks.old.slots children.now }
     ensures each { (k : ℕ) → get tasks.new k ≡ after_adoption id turn (get tasks.old k) }
@@ -88,7 +90,7 @@ fn adopt(tasks: &mut KeptSlab<Task>, children: &Children, id: usize, turn: u32)
     }
 }
 
-/// The same for the children of a task in a state from which it has just gone.
+/// Makes the creator of all children of a task that has just left the state the last commit.
 fn adopt_children<N: Naming>(state: &mut State<N>, id: TaskId)
     ensures each { (k : ℕ) → task_at state.new.view k
         ≡ after_adoption id.0 (length state.old.view.history) (task_at state.old.view k) }

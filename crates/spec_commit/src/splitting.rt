@@ -20,7 +20,8 @@ use spec_state::{Creator, Fresh, State, TaskId};
 use std::alloc::AllocError;
 use task_desc::{Desc, Name};
 
-/// The creator that gives this name, where so many tasks have committed: the image, one of these tasks, or the heir.
+/// The creator that gives this name, where `count` tasks have committed: the image, one of these tasks, or the
+/// dispatched least task.
 fn creator_named(name: Name, count: u32, heir: Option<TaskId>) -> Creator
     requires heir { count < name.creator → IsSome heir × (name.creator ≡ count + 1) }
     ensures name { name_given result count ≡ name }

@@ -1,4 +1,4 @@
-//! What is told of the tasks that are spilled.
+//! The reports of the tasks that are spilled.
 
 ghost use Rattle.std.specs.Prelude.{◌≡◌, ◌<◌, ◌≤◌, ◌++◌, ◌∷◌, ℕ, [], Contains, IsSome, length, map};
 ghost use Rattle.spec_state.specs.declared.reserving.TheConstants.{MAX_MOVED};
@@ -8,7 +8,7 @@ ghost use Rattle.spec_state.specs.Told.{told_spilled};
 use rv_core::Naming;
 use spec_state::{SpilledTask, State, TaskId, name_given};
 
-/// What is told of the task of this id, which is there.
+/// The report of the task of this id, which exists.
 fn told_spilled<N: Naming>(state: &State<N>, id: usize) -> SpilledTask
     requires { IsSome (task_at state.now.view id) }
     ensures { result ≡ told_spilled state.now.view id }
@@ -29,7 +29,7 @@ fn forget<N: Naming>(state: &mut State<N>)
     state.effect.clear_spilled();
 }
 
-/// Tells of one task more.
+/// Reports one task more.
 fn tell<N: Naming>(state: &mut State<N>, task: SpilledTask)
     requires { length state.old.effect.spilled < MAX_MOVED }
     ensures view { state.new.view ≡ state.old.view }
@@ -40,7 +40,7 @@ fn tell<N: Naming>(state: &mut State<N>, task: SpilledTask)
     state.effect.note_spilled(task);
 }
 
-/// Tells of these tasks, which are to be spilled, in their order.
+/// Reports these tasks, which are to be spilled, in their order.
 pub(crate) fn tell_spilled<N: Naming>(state: &mut State<N>, ids: &[usize])
     requires few { length ids.now ≤ MAX_MOVED }
     requires live { (id : ℕ) → Contains ids.now id → IsSome (task_at state.old.view id) }

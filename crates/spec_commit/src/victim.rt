@@ -12,7 +12,7 @@ use crate::queue::{is_less, queue_ids};
 use rv_core::Naming;
 use spec_state::{Creator, State, TaskId};
 
-/// The later of a task and one that stands at an earlier place, if one is given.
+/// The later of a task and one at an earlier place, if one is given.
 fn later<N: Naming>(state: &State<N>, earlier: Option<usize>, id: usize) -> usize
     requires earlier { IfSome earlier (λ other. IsSome (task_at state.now.view other)) }
     requires own { IsSome (task_at state.now.view id) }
@@ -75,8 +75,8 @@ pub fn creator_of<N: Naming>(state: &State<N>, id: TaskId) -> TaskId
     }
 }
 
-/// The task that is taken back to make room in a full queue: the victim where it is firm, and else its creator. It
-/// costs what `victim_of` and `heir` do.
+/// The task that is aborted to make room in a full queue: the victim where it is firm, and else its creator. It costs
+/// as much as `victim_of` and finding the least task.
 pub fn room_victim<N: Naming>(state: &State<N>, tile: u32, asker: Option<TaskId>) -> TaskId
     requires tile { tile < state.now.view.settings.tiles }
     requires full { IsFull state.now.view tile }

@@ -1,4 +1,4 @@
-//! The dispatch of a task that is told, or of the one that it finds.
+//! The dispatch of a given task, or of the one that it finds.
 
 ghost use Rattle.std.specs.Prelude.{◌≡◌, ◌<◌, ◌≤◌, ℕ};
 ghost use Rattle.spec_state.specs.declared.numbers.TheConstants.{DISPATCH_NUMBERS};

@@ -24,11 +24,11 @@ abbrev pub IsFirst : View → Firsts → ℕ → Type 0
 IsFirst view (OneTask id) = OnlyNode id
 IsFirst view (AllConflicts task line write) = Conflicts view task line write
 
--- with each marked task all that is taken back with it is marked
+-- with each marked task all that is aborted with it is marked
 abbrev pub HoldsPulled : View → List Bool → Type 0
 HoldsPulled view marks = (a b : ℕ) → PullsInView view a b → is_marked marks a ≡ true → is_marked marks b ≡ true
 
--- a cascade holds, with each task, all that is taken back with it
+-- a cascade contains, with each task, all that is aborted with it
 abbrev pub CascadeHoldsPulled : Type 0
 CascadeHoldsPulled =
     (view : View) (firsts : Firsts) (marks : List Bool) → IsCascade view (IsFirst view firsts) marks
@@ -40,13 +40,14 @@ MarkedAreAborted =
     (firsts : Firsts) (old : View) (aborted : ℕ) (new : View) (abort : Aborts (IsFirst old firsts) old aborted new)
     → order.AbortsInKeys (is_marked abort.marks) (keyed_tasks old) (keyed_tasks new)
 
--- in the bags of pending tasks it takes these back
+-- in the bags of pending tasks an abort returns the marked ones to their bags
 abbrev pub MarkedAreIdle : Type 0
 MarkedAreIdle =
     (firsts : Firsts) (old : View) (aborted : ℕ) (new : View) (abort : Aborts (IsFirst old firsts) old aborted new)
     → moves.TakesBackInBags (is_marked abort.marks) (bag_tasks old) (bag_tasks new)
 
--- for memory it takes back a set that holds, with each member, the later tasks that may have seen what it wrote
+-- for memory an abort rolls back a set of tasks that contains, with each member, the later tasks that may have read or
+-- overwritten what it wrote
 abbrev pub MarkedLeaveMemory : Type 0
 MarkedLeaveMemory =
     (firsts : Firsts) (old : View) (aborted : ℕ) (new : View) (abort : Aborts (IsFirst old firsts) old aborted new)
@@ -59,32 +60,32 @@ AbortKeepsSoundMemory =
     (image : ImageValue) (firsts : Firsts) (old : View) (aborted : ℕ) (new : View) (sound : Sound image old)
     → Aborts (IsFirst old firsts) old aborted new → SoundMemory new sound.serial
 
--- the heir, where there is one, is unmarked
+-- the dispatched least task, where there is one, is unmarked
 abbrev pub SparesHeir : List Bool → Option ℕ → Type 0
 SparesHeir marks heir = (id : ℕ) → heir ≡ Some id → is_marked marks id ≡ false
 
--- an abort of a task other than the heir spares the heir
+-- an abort of another task spares the dispatched least task
 abbrev pub CascadeSparesHeir : Type 0
 CascadeSparesHeir =
     (image : ImageValue) (view : View) (first : ℕ) (task : Task) (marks : List Bool) (sound : Sound image view)
     → task_at view first ≡ Some task → sound.heir ≢ Some first → IsCascade view (OnlyNode first) marks
     → SparesHeir marks sound.heir
 
--- an abort of all tasks that conflict with an access spares the heir
+-- an abort of all tasks that conflict with an access spares the dispatched least task
 abbrev pub ConflictsSpareHeir : Type 0
 ConflictsSpareHeir =
     (image : ImageValue) (view : View) (id line : ℕ) (task : Task) (write : Bool) (marks : List Bool)
     (sound : Sound image view)
     → task_at view id ≡ Some task → IsCascade view (Conflicts view task line write) marks → SparesHeir marks sound.heir
 
--- an abort that spares the heir keeps the order of all uncommitted tasks
+-- an abort that spares the dispatched least task keeps the order of all uncommitted tasks
 abbrev pub AbortKeepsSoundOrder : Type 0
 AbortKeepsSoundOrder =
     (firsts : Firsts) (old : View) (aborted : ℕ) (new : View) (heir : Option ℕ)
     (abort : Aborts (IsFirst old firsts) old aborted new)
     → SparesHeir abort.marks heir → SoundOrder old heir → SoundOrder new heir
 
--- an abort that spares the heir keeps the group of tasks, against the same state of the serial machine
+-- an abort that spares the dispatched least task keeps the group of tasks, against the same state of the serial machine
 abbrev pub AbortKeepsSoundTasks : Type 0
 AbortKeepsSoundTasks =
     (image : ImageValue) (firsts : Firsts) (old : View) (aborted : ℕ) (new : View) (heir : Option ℕ)
@@ -97,21 +98,21 @@ AbortKeepsSoundSizes =
     (firsts : Firsts) (old : View) (aborted : ℕ) (new : View) → Aborts (IsFirst old firsts) old aborted new
     → SoundSizes old → SoundSizes new
 
--- an abort that spares the heir leaves it the heir, and makes none where there was none
+-- an abort that spares the dispatched least task keeps it so, and where no least task is dispatched, none is afterwards
 abbrev pub AbortKeepsHeirOfView : Type 0
 AbortKeepsHeirOfView =
     (firsts : Firsts) (old : View) (aborted : ℕ) (new : View) (heir : Option ℕ)
     (abort : Aborts (IsFirst old firsts) old aborted new)
     → SparesHeir abort.marks heir → SoundOrder old heir → SoundSizes old → IsHeir old heir → IsHeir new heir
 
--- an abort that spares the heir keeps a view sound, against the same state of the serial machine
+-- an abort that spares the dispatched least task keeps a view sound, against the same state of the serial machine
 abbrev pub AbortKeepsSound : Type 0
 AbortKeepsSound =
     (image : ImageValue) (firsts : Firsts) (old : View) (aborted : ℕ) (new : View) (sound : Sound image old)
     (abort : Aborts (IsFirst old firsts) old aborted new)
     → SparesHeir abort.marks sound.heir → StaysSound image old sound new
 
--- an abort of one task other than the heir keeps a view sound
+-- an abort of a task other than the dispatched least one keeps a view sound
 abbrev pub AbortOfOneIsSound : Type 0
 AbortOfOneIsSound =
     (image : ImageValue) (first : ℕ) (task : Task) (old : View) (aborted : ℕ) (new : View) (sound : Sound image old)
@@ -133,7 +134,7 @@ AbortOfLaterIsSound =
     → task_at old id ≡ Some task → IsLater old task v x → Aborts (OnlyNode v) old aborted new
     → StaysSound image old sound new
 
--- an abort that makes room for a least task that asks, which is the heir or is spilled, keeps a view sound
+-- an abort that makes room for a least task, which is dispatched or spilled, keeps a view sound
 abbrev pub AbortForRoomIsSound : Type 0
 AbortForRoomIsSound =
     (image : ImageValue) (tile v first : ℕ) (task : Task) (old : View) (aborted : ℕ) (new : View)

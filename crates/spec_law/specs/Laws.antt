@@ -23,8 +23,8 @@ use Rattle.spec_state.specs.task_law.Tasks.{pending}
 abbrev pub LeastIsOne : Type 0
 LeastIsOne = (view : View) (a b : Spot) → IsLeastSpot view a → IsLeastSpot view b → a ≡ b
 
--- a task of a committed creator that may take the serial machine's next turn: it stands in the innermost bag that
--- holds a task, with a least timestamp there
+-- a task of a committed creator that may take the serial machine's next turn: it is in the innermost bag that contains
+-- a task, with a least timestamp there
 pub record MayTakeTurn (stack : List BagValue) (task : Task) : Type 0 where
   pub turn : ℕ
   pub index : ℕ
@@ -60,20 +60,20 @@ CascadeIsLater =
     → (id : ℕ) → Marked marks id → id ≢ first
     → (x : Task) × (task_at view id ≡ Some x) × (key_cmp task.key x.key ≡ Less)
 
--- what is taken back for an access of a task, the cascades of all tasks that conflict with it, never takes that task
+-- the cascades of all tasks that conflict with an access never contain the task that makes the access
 abbrev pub ConflictsSpareAsker : Type 0
 ConflictsSpareAsker =
     (image : ImageValue) (view : View) (id line : ℕ) (task : Task) (write : Bool) (marks : List Bool)
     → Sound image view → task_at view id ≡ Some task → IsCascade view (Conflicts view task line write) marks
     → Marked marks id → ⊥
 
--- with all uncommitted tasks taken back, memory is that of the serial machine after the journal
+-- memory with the stores of all uncommitted tasks rolled back is that of the serial machine after the journal
 abbrev pub AllUndoneIsSerial : Type 0
 AllUndoneIsSerial =
     (image : ImageValue) (view : View) (sound : Sound image view) (memory : List ℕ)
     → IsUndone view (λ id. true) memory → memory ≡ sound.serial.memory
 
--- what taking all uncommitted tasks back leaves has the serial machine's memory and output after the journal
+-- an abort of all uncommitted tasks leaves the serial machine's memory and output after the journal
 abbrev pub UndoAllIsSerial : Type 0
 UndoAllIsSerial =
     (image : ImageValue) (old new : View) (sound : Sound image old) → UndoesAll old new

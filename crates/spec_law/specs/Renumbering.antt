@@ -24,14 +24,15 @@ NumbersInUseAreFew =
     (image : ImageValue) (view : View) → Sound image view
     → (table : List ℕ) → IsNumberTable view table → length table ≤ MAX_NUMBERS_IN_USE
 
--- a renumbering keeps a view sound, against the same state of the serial machine and with the same heir
+-- a renumbering keeps a view sound, against the same state of the serial machine and with the same dispatched least
+-- task
 abbrev pub RenumberingStaysSound : Type 0
 RenumberingStaysSound =
     (image : ImageValue) (old new : View) (sound : Sound image old) → Renumbers old new
     → (now : Sound image new) × (now.serial ≡ sound.serial) × (now.heir ≡ sound.heir)
 
--- the views have the same least task and the same heir, each access conflicts with the same tasks, the same tasks
--- are taken back with each, and whatever is taken back leaves the same memory
+-- the views have the same least task, dispatched or not; each access conflicts with the same tasks; the same tasks are
+-- aborted with each; and a rollback of any set of tasks leaves the same memory
 pub record SaySame (table : List ℕ) (old new : View) : Type 0 where
   pub least : (spot : Spot) → IsLeastSpot old spot ↔ IsLeastSpot new spot
   pub heir : (heir : Option ℕ) → IsHeir old heir ↔ IsHeir new heir

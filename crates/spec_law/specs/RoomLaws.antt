@@ -38,7 +38,8 @@ abbrev pub asking_task : Asker → Option ℕ
 asking_task (Enqueuer id) = Some id
 asking_task Splitter = None
 
--- the victim, the last task but the asker where places break ties, is one of the latest that the laws of room allow
+-- the victim, which is the last task but the requester where places break ties, is one of the latest that the laws of
+-- room allow
 abbrev pub VictimIsVictim : Type 0
 VictimIsVictim =
     (view : View) (tile : ℕ) (asker : Asker) (id : ℕ) (task : Task)
@@ -51,7 +52,7 @@ AsksAsLeast view tile (Enqueuer id) low =
     (task : Task) × IsLeastTask view id task × (is_dispatched task ≡ true) × (low ≡ task.key)
 AsksAsLeast view tile Splitter low = (least : IsLeastSpilled view tile) × (low ≡ least.least.key)
 
--- the task is dispatched, is not the asker, and its key is above this one
+-- the task is dispatched, isn't the requester, and its key is above this one
 pub record MayBeTaken (view : View) (asker : Asker) (low : Key) (first : ℕ) : Type 0 where
   pub task : Task
   pub there : task_at view first ≡ Some task
@@ -59,8 +60,8 @@ pub record MayBeTaken (view : View) (asker : Asker) (low : Key) (first : ℕ) : 
   pub other : asker ≢ Enqueuer first
   pub above : key_cmp low task.key ≡ Less
 
--- in a sound view, where nothing in a tile's queue moves and the least task asks, what is taken back for the victim
--- is a later dispatched task
+-- in a sound view, where nothing in a tile's queue moves and the least task requests room, what is aborted for the
+-- victim is a later dispatched task
 abbrev pub VictimIsLater : Type 0
 VictimIsLater =
     (image : ImageValue) (view : View) (tile : ℕ) (asker : Asker) (low : Key) (v first : ℕ) (task : Task)

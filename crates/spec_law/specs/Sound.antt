@@ -1,5 +1,4 @@
--- When a view is sound: were all its uncommitted tasks taken back, the serial machine's state after its journal
--- would be left.
+-- When a view is sound: an abort of all its uncommitted tasks would leave the serial machine's state after its journal.
 use Rattle.std.specs.Prelude.{◌≡◌, ◌↔◌, ◌+◌, ◌^◌, ℕ, ◌<◌, ◌≤◌, [], length, map, All, Contains, Option, Some, IsSome}
 use Rattle.std.specs.Prelude.{is_some, unwrap_or, slice_get}
 use Rattle.fractal_vt.specs.Levels.{closed_level}

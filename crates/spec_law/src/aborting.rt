@@ -8,7 +8,7 @@ ghost use Rattle.spec_law.specs.AbortLaws.{AbortOfConflictsIsSound, AbortOfLater
 ghost use Rattle.spec_law.specs.AbortLaws.{CascadeHoldsPulled, CascadeSparesHeir, ConflictsSpareHeir};
 ghost use Rattle.spec_law.specs.AbortLaws.{MarkedAreAborted, MarkedAreIdle, MarkedLeaveMemory};
 
-/// A cascade holds, with each task, all that is taken back with it.
+/// A cascade contains, with each task, all that is aborted with it.
 pub fn cascade_holds_pulled()
     ensures { CascadeHoldsPulled }
 {}
@@ -18,13 +18,13 @@ pub fn marked_are_aborted()
     ensures { MarkedAreAborted }
 {}
 
-/// In the bags of pending tasks an abort takes the tasks back that it marks.
+/// In the bags of pending tasks an abort returns the tasks that it marks to their bags.
 pub fn marked_are_idle()
     ensures { MarkedAreIdle }
 {}
 
-/// For memory an abort takes back a set that holds, with each member, the later tasks that may have seen what it
-/// wrote.
+/// For memory an abort rolls back a set of tasks that contains, with each member, the later tasks that may have read or
+/// overwritten what it wrote.
 pub fn marked_leave_memory()
     ensures { MarkedLeaveMemory }
 {}
@@ -34,22 +34,23 @@ pub fn abort_keeps_sound_memory()
     ensures { AbortKeepsSoundMemory }
 {}
 
-/// An abort of a task other than the heir spares the heir.
+/// An abort of another task spares the dispatched least task.
 pub fn cascade_spares_heir()
     ensures { CascadeSparesHeir }
 {}
 
-/// An abort of all tasks that conflict with an access spares the heir.
+/// An abort of all tasks that conflict with an access spares the dispatched least task.
 pub fn conflicts_spare_heir()
     ensures { ConflictsSpareHeir }
 {}
 
-/// An abort that spares the heir keeps the order of all uncommitted tasks.
+/// An abort that spares the dispatched least task keeps the order of all uncommitted tasks.
 pub fn abort_keeps_sound_order()
     ensures { AbortKeepsSoundOrder }
 {}
 
-/// An abort that spares the heir keeps the group of tasks, against the same state of the serial machine.
+/// An abort that spares the dispatched least task keeps the group of tasks, against the same state of the serial
+/// machine.
 pub fn abort_keeps_sound_tasks()
     ensures { AbortKeepsSoundTasks }
 {}
@@ -59,17 +60,18 @@ pub fn abort_keeps_sound_sizes()
     ensures { AbortKeepsSoundSizes }
 {}
 
-/// An abort that spares the heir leaves it the heir, and makes none where there was none.
+/// An abort that spares the dispatched least task keeps it so, and where no least task is dispatched, none is
+/// afterwards.
 pub fn abort_keeps_heir_of_view()
     ensures { AbortKeepsHeirOfView }
 {}
 
-/// An abort that spares the heir keeps a view sound, against the same state of the serial machine.
+/// An abort that spares the dispatched least task keeps a view sound, against the same state of the serial machine.
 pub fn abort_keeps_sound()
     ensures { AbortKeepsSound }
 {}
 
-/// An abort of one task other than the heir keeps a view sound.
+/// An abort of a task other than the dispatched least one keeps a view sound.
 pub fn abort_of_one_is_sound()
     ensures { AbortOfOneIsSound }
 {}

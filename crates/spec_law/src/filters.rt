@@ -1,4 +1,4 @@
-//! What filters tell in a sound view. Each is the contract of a function that does nothing.
+//! What filters report in a sound view. Each law is the contract of a function that does nothing.
 
 ghost use Rattle.spec_law.specs.FilterLaws.{ExactFiltersTell, FiltersLeaveNoneOut, FiltersTell, ModuloPullsByBits};
 
@@ -7,19 +7,19 @@ pub fn filters_leave_none_out()
     ensures { FiltersLeaveNoneOut }
 {}
 
-/// A filter of each kind tells each line that its task's log has noted, as written where it has a store to it; what it
-/// tells as written it tells as touched; and one of a task that has done nothing tells nothing.
+/// A filter of each kind reports each line that its task's log has noted, as written where the log has a store to it. A
+/// line reported as written is also reported as touched, and the filter of a task that has done nothing reports none.
 pub fn filters_tell()
     ensures { FiltersTell }
 {}
 
-/// An exact filter tells those lines alone that its task's log has noted.
+/// An exact filter reports only the lines that its task's log has noted.
 pub fn exact_filters_tell()
     ensures { ExactFiltersTell }
 {}
 
-/// Where filters tell lines apart by their numbers modulo 1,024, a task is taken back with one that stored exactly
-/// where the touches of the first and the writes of the other have a bit in common.
+/// Where filters hash a line to its number modulo 1,024, a later task is aborted with one that stored exactly where the
+/// bits of the first one's touched lines and the other's written lines have one in common.
 pub fn modulo_pulls_by_bits()
     ensures { ModuloPullsByBits }
 {}

@@ -8,9 +8,8 @@ pub fn least_is_one()
     ensures { LeastIsOne }
 {}
 
-/// In a sound view the least task, where it is queued, is firm: its creator has committed. It stands in the
-/// innermost bag of the serial machine that holds a task, with a least timestamp there, and so may take the next
-/// turn.
+/// In a sound view the least task, where it is queued, is firm: its creator has committed. It is in the innermost bag
+/// of the serial machine that contains a task, with a least timestamp there, and so may take the next turn.
 pub fn least_is_next()
     ensures { LeastIsNext }
 {}
@@ -31,19 +30,18 @@ pub fn cascade_is_later()
     ensures { CascadeIsLater }
 {}
 
-/// In a sound view the cascades that are taken back for an access never take the task that makes it.
+/// In a sound view the cascades that are aborted for an access never contain the task that makes it.
 pub fn conflicts_spare_asker()
     ensures { ConflictsSpareAsker }
 {}
 
-/// In a sound view all uncommitted tasks taken back, the latest first, leave the serial machine's memory after the
+/// In a sound view, a rollback of all uncommitted tasks, the latest first, leaves the serial machine's memory after the
 /// journal.
 pub fn all_undone_is_serial()
     ensures { AllUndoneIsSerial }
 {}
 
-/// In a sound view what taking all uncommitted tasks back leaves has the serial machine's memory and output after the
-/// journal.
+/// In a sound view, an abort of all uncommitted tasks leaves the serial machine's memory and output after the journal.
 pub fn undo_all_is_serial()
     ensures { UndoAllIsSerial }
 {}

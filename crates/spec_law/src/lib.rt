@@ -1,9 +1,9 @@
 //! When a view of the speculative machine is sound, and that each change keeps it so.
 //!
-//! A view is sound where its journal is a run of the serial machine and all its uncommitted tasks, taken back,
-//! would leave that run's state: four groups of facts (`Sound`). The laws are the contracts of functions that do
-//! nothing and cost nothing. `pending_law` and the laws of events stand on them, and the crates above cite what
-//! `Proved` gives. It stands on the state's words and on the laws of order, memory, tasks and runs.
+//! A view is sound where its journal is a run of the serial machine and an abort of all its uncommitted tasks would
+//! leave that run's state: four groups of facts (`Sound`). The laws are the contracts of functions that do nothing and
+//! cost nothing. `pending_law` and the laws of events depend on them, and the crates above cite what `Proved` gives. It
+//! uses the state's definitions and the laws of order, memory, tasks and runs.
 #![tactic(auto)]
 
 mod aborting;

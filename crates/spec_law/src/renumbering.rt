@@ -14,13 +14,14 @@ pub fn numbers_in_use_are_few()
     ensures { NumbersInUseAreFew }
 {}
 
-/// A renumbering keeps a view sound, against the same state of the serial machine and with the same heir.
+/// A renumbering keeps a view sound, against the same state of the serial machine and with the same dispatched least
+/// task.
 pub fn renumbering_stays_sound()
     ensures { RenumberingStaysSound }
 {}
 
-/// A renumbered view has the same least task and heir, the same conflicts and cascades, and the same memory once
-/// tasks are taken back.
+/// A renumbered view has the same least task, dispatched or not, the same conflicts and cascades, and the same memory
+/// once tasks are aborted.
 pub fn renumbering_says_same()
     ensures { RenumberingSaysSame }
 {}

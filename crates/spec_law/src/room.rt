@@ -15,14 +15,14 @@ pub fn movable_is_movable()
     ensures { MovableIsMovable }
 {}
 
-/// The victim, of a queue's tasks but the asker the last one where places break ties, is one that the laws of room
-/// allow: none of these has a greater key.
+/// The victim, which is the last of a queue's tasks but the requester where places break ties, is one that the laws of
+/// room allow: none of these has a greater key.
 pub fn victim_is_victim()
     ensures { VictimIsVictim }
 {}
 
-/// In a sound view, where nothing in a tile's queue moves and the least task asks, what is taken back for the
-/// victim, itself where it is firm and else its creator, is dispatched, is not the least task, and is above it.
+/// In a sound view, where nothing in a tile's queue moves and the least task requests room, the task that is aborted
+/// for the victim (the victim where it is firm, else its creator) is dispatched, isn't the least task, and is above it.
 pub fn victim_is_later()
     ensures { VictimIsLater }
 {}

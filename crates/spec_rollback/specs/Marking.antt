@@ -18,7 +18,7 @@ abbrev pub has_line : Bool → Task → ℕ → Bool
 has_line true task = has_touched task
 has_line false task = has_written task
 
--- an access of the task conflicts with what stands under an id
+-- an access of the task conflicts with this other task; false where there is none
 abbrev pub conflicts : Task → ℕ → Bool → Option Task → Bool
 conflicts task line write None = false
 conflicts task line write (Some other) = is_dispatched other && has_line write other line && is_lt
@@ -67,7 +67,7 @@ ids_in tiles = map (λ queue. queue.ids) tiles.finished.now
 abbrev pub StandsIn : Dispatched → ℕ → Type 0
 StandsIn tiles = IsInTiles (held_in tiles) (ids_in tiles) (length tiles.cores.now)
 
--- what stands in these tiles are tasks
+-- every id in these tiles has a task
 abbrev pub StandTasksIn : Dispatched → List (Option Task) → Type 0
 StandTasksIn tiles tasks = (id : ℕ) → StandsIn tiles id → IsSome (slice_index_or tasks id None)
 
@@ -79,7 +79,7 @@ IsMarkedIfFound found marks id = (0 < found) × Marked marks id
 abbrev pub IsListed : ℕ → List Bool → List ℕ → Type 0
 IsListed found marks members = 0 < found → IsListOf marks members found
 
--- beside what was found before, those of these ids are found that pass the test, and listed behind it
+-- beside what was found before, those of these ids are found that pass the test, and are appended to the list
 pub record Finds (test : ℕ → Bool) (these : ℕ → Type 0) (found : ℕ) (old : List Bool) (before : List ℕ) (now : ℕ)
     (new : List Bool) (after : List ℕ) : Type 0 where
   pub exact : (id : ℕ) → IsMarkedIfFound now new id ↔ (IsMarkedIfFound found old id ⊎ (these id × (test id ≡ true)))

@@ -1,4 +1,4 @@
--- What is taken back with a task, as a test; and a list of the marked ids.
+-- What is aborted with a task, as a test; and a list of the marked ids.
 use Rattle.std.specs.Prelude.{◌≡◌, ◌↔◌, ℕ, ◌≤◌, ◌/◌, ◌==◌, ◌&&◌, ◌||◌, Bool, true, false, List, Contains, Option, None}
 use Rattle.std.specs.Prelude.{Some, count_by, is_some, length, slice_index_or, take}
 use Rattle.std.specs.List.{list_any}
@@ -21,17 +21,17 @@ abbrev pub is_creator : ℕ → Option ℕ → Bool
 is_creator id None = false
 is_creator id (Some creator) = creator == id
 
--- what stands here is a child of this task
+-- this is a child of the task `id`
 abbrev pub is_made : ℕ → Option Task → Bool
 is_made id None = false
 is_made id (Some task) = is_creator id (live_creator task.creator)
 
--- the filter of the task tells a line to which the log has a store, where a line has so many bytes
+-- the filter of the task reports a line to which the log has a store, where a line has `size` bytes
 abbrev pub tells_store : ℕ → List Access → Task → Bool
 tells_store size log reader = list_any (λ note. note.write && has_touched reader note.line) (notes_of size log)
 
--- both are dispatched, and the second is later and its filter tells a line to which the first one's log has a store,
--- where a line has so many bytes
+-- both are dispatched, and the second is later and its filter reports a line to which the first one's log has a store,
+-- where a line has `size` bytes
 abbrev pub reads_from : ℕ → Task → Task → Bool
 reads_from size writer reader =
     is_dispatched writer && is_dispatched reader && is_lt (key_cmp writer.key reader.key)
@@ -42,17 +42,17 @@ abbrev pub reads_from_some : ℕ → Option Task → Task → Bool
 reads_from_some size None reader = false
 reads_from_some size (Some writer) reader = reads_from size writer reader
 
--- a task is taken back with what has this id
+-- the second task is aborted with the first, which has this id
 abbrev pub pulls_task : ℕ → ℕ → Option Task → Option Task → Bool
 pulls_task size id first None = false
 pulls_task size id first (Some second) =
     is_creator id (live_creator second.creator) || reads_from_some size first second
 
--- of these tasks the second is taken back with the first, where a line has so many bytes
+-- of these tasks `b` is aborted with `a`, where a line has `size` bytes
 abbrev pub pull_in : ℕ → List (Option Task) → ℕ → ℕ → Bool
 pull_in size tasks a b = pulls_task size a (slice_index_or tasks a None) (slice_index_or tasks b None)
 
--- what stands under the second id is a child of the task of the first one
+-- of these tasks `b` is a child of `a`
 abbrev pub is_made_by : List (Option Task) → ℕ → ℕ → Bool
 is_made_by tasks a b = is_made a (slice_index_or tasks b None)
 

@@ -1,4 +1,4 @@
--- Marked tasks that are taken back one after another.
+-- Marked tasks that are aborted one after another.
 use Rattle.std.specs.Prelude.{◌≡◌, ◌⊎◌, ℕ, Bool, true, false, not, List, map, filter, Option, None, Some}
 use Rattle.std.specs.Prelude.{if◌then◌else◌}
 use Rattle.spec_state.specs.task_law.Room.{queue_after}
@@ -20,7 +20,7 @@ pub record TakesOne (marks : List Bool) (id : ℕ) (old new : View) : Type 0 whe
   pub taken : ((is_marked_creator marks (live_creator task.creator) ≡ true) × TaskLeaves id old new)
       ⊎ ((is_marked_creator marks (live_creator task.creator) ≡ false) × SetsBack id old new)
 
--- of the marked tasks these are taken back, and all else stays
+-- of the marked tasks these are aborted, and all else stays
 pub record TakesThese (marks : List Bool) (these : ℕ → Bool) (old new : View) : Type 0 where
   pub each : (id : ℕ) → task_at new
       id ≡ (if these id then taken_back old.version marks id (task_at old id) else task_at old id)

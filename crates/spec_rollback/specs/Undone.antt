@@ -10,15 +10,15 @@ use Rattle.undo_log.specs.Undo.{undone}
 use Rattle.spec_state.specs.declared.task.Task.{Task}
 use Rattle.spec_state.specs.Tasks.{is_dispatched}
 
--- the key of what stands under an id
+-- the key of the task of an id, if it has one
 abbrev pub key_in : List (Option Task) → ℕ → Option Key
 key_in tasks id = option_map (λ task. task.key) (slice_index_or tasks id None)
 
--- what stands under these ids by its keys, an id with no task before all others
+-- ids compared by the keys of their tasks, an id with no task before all others
 abbrev pub ids_cmp : List (Option Task) → ℕ → ℕ → Ordering
 ids_cmp tasks a b = option_cmp key_cmp (key_in tasks a) (key_in tasks b)
 
--- none of these is earlier than one behind it
+-- none of these is earlier than one after it
 abbrev pub Falls : List (Option Task) → List ℕ → Type 0
 Falls tasks ids = AllPairs (λ a b. is_lt (ids_cmp tasks a b) ≡ false) ids
 

@@ -19,7 +19,7 @@ use crate::undoing::undo_marked;
 use rv_core::Naming;
 use spec_state::{State, TaskId};
 
-/// Takes back the cascade of a task, and tells how many tasks that were. It takes no memory.
+/// Aborts the cascade of a task, and returns how many tasks it aborted. It allocates no memory.
 pub fn abort<N: Naming>(state: &mut State<N>, task: TaskId) -> u32
     requires live { IsSome (task_at state.old.view task.0) }
 
@@ -35,8 +35,8 @@ pub fn abort<N: Naming>(state: &mut State<N>, task: TaskId) -> u32
     abort_marked(state, 1)
 }
 
-/// Takes back the cascades of all tasks that conflict with an access of this task as one set, and
-/// tells how many tasks that were. Where none does, nothing changes. It takes no memory.
+/// Aborts the cascades of all tasks that conflict with an access of this task as one set, and returns how many tasks it
+/// aborted. Where none conflicts, nothing changes. It allocates no memory.
 pub fn abort_conflicts<N: Naming>(state: &mut State<N>, task: TaskId, line: u32, write: bool) -> u32
     requires live { IsSome (task_at state.old.view task.0) }
     ensures aborts { let old = state.old.view in
@@ -56,8 +56,8 @@ pub fn abort_conflicts<N: Naming>(state: &mut State<N>, task: TaskId, line: u32,
     }
 }
 
-/// Takes back the cascades of the marked tasks, which are the first `listed` members, and tells how many tasks that
-/// were.
+/// Aborts the cascades of the marked tasks, which are the first `listed` members, and returns how many tasks it
+/// aborted.
 fn abort_marked<N: Naming>(state: &mut State<N>, listed: usize) -> u32
     requires live { let old = state.old in
         (id : ℕ) → Marked old.scratch.marks id → IsSome (task_at old.view id) }

@@ -1,4 +1,4 @@
-//! What is taken back with a task, and with what that takes with it.
+//! What is aborted with a task, directly or through other tasks.
 
 ghost use Rattle.std.specs.Prelude.{◌≡◌, ◌<◌, ◌≤◌, ℕ, Some, IsSome, length, slice_get};
 ghost use Rattle.abort_cascade.specs.Cascade.{Marked, IsLeastClosed};
@@ -17,7 +17,7 @@ use rv_core::Naming;
 use spec_state::{Children, Creator, State, Task, line_of};
 use undo_log::Access;
 
-/// Of the tasks of a slab, which are taken back with one, where a line has `size` bytes.
+/// Of the tasks of a slab, those that are aborted with one, where a line has `size` bytes.
 #[derive(Drop)]
 struct Cascade<'a> {
     size: u32,
@@ -36,8 +36,7 @@ fn is_made_by(task: &Task, id: usize) -> bool
     }
 }
 
-/// Marks and lists the id where what stands under it is a child of the task `creator`, and tells how many are listed
-/// then.
+/// Marks and lists the id where its task is a child of the task `creator`, and returns how many are listed then.
 fn mark_child(
     tasks: &KeptSlab<Task>,
     creator: usize,
@@ -64,7 +63,8 @@ fn mark_child(
     }
 }
 
-/// The same for each of these ids.
+/// Marks and lists those of these ids whose tasks are children of the task `creator`, and returns how many are listed
+/// then.
 fn mark_noted(
     tasks: &KeptSlab<Task>,
     creator: usize,
@@ -87,7 +87,8 @@ fn mark_noted(
     many
 }
 
-/// The same for each id that has a mark.
+/// Marks and lists all children of the task `creator`, by a look at each id that has a mark, and returns how many are
+/// listed then.
 fn mark_made(
     tasks: &KeptSlab<Task>,
     creator: usize,
@@ -109,7 +110,7 @@ fn mark_made(
     many
 }
 
-/// Marks and lists the tasks with which this access of a task conflicts, where it is a store, and tells how many are
+/// Marks and lists the tasks with which this access of a task conflicts, where it is a store, and returns how many are
 /// listed then.
 fn mark_store(
     cascade: &Cascade<'_>,
@@ -148,7 +149,7 @@ fn access_at(log: &[Access], place: usize) -> Access
     log[place]
 }
 
-/// The same for each access of a log.
+/// Marks and lists the tasks with which a store of this log conflicts, and returns how many are listed then.
 fn mark_stores(
     cascade: &Cascade<'_>,
     writer: &Task,
@@ -175,7 +176,7 @@ fn mark_stores(
 }
 
 impl Cascade<'_> {
-    /// Marks and lists the children of a task, and tells how many are listed then.
+    /// Marks and lists the children of a task, and returns how many are listed then.
     fn mark_children(
         &self,
         creator: usize,
@@ -197,7 +198,8 @@ impl Cascade<'_> {
         }
     }
 
-    /// Marks and lists the tasks that may have seen a store of this one, and tells how many are listed then.
+    /// Marks and lists the tasks that may have read or overwritten a store of this one, and returns how many are listed
+    /// then.
     fn mark_readers(
         &self,
         writer: usize,
@@ -248,7 +250,7 @@ impl Spreader for Cascade<'_> {
 }
 
 /// Grows the marks to the cascade of the marked tasks, which are the first `listed` members, and puts all its members
-/// at the front of the list. It tells how many they are.
+/// at the front of the list. It returns their number.
 pub(crate) fn close_marks<N: Naming>(state: &mut State<N>, listed: usize) -> usize
     requires live { let old = state.old in
         (id : ℕ) → Marked old.scratch.marks id → IsSome (task_at old.view id) }

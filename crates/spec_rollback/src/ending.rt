@@ -1,4 +1,4 @@
-//! All tasks, taken back.
+//! An abort of all tasks.
 
 ghost use Rattle.std.specs.Prelude.{◌≡◌, ◌≢◌, ◌≤◌, ◌↔◌, ℕ, List, [], AllPairs, IsSome, is_some};
 ghost use Rattle.std.specs.Prelude.{false, length, map, replicate, slice_index_or, take};
@@ -30,7 +30,7 @@ fn mark_tasks(tasks: &KeptSlab<Task>, marks: &mut [bool])
     }
 }
 
-/// Marks all tasks, and puts them at the front of the members. It tells how many they are.
+/// Marks all tasks, and puts them at the front of the members. It returns their number.
 fn list_all<N: Naming>(state: &mut State<N>) -> usize
     ensures marks { let marks = state.new.scratch.marks in
         (id : ℕ) → Marked marks id ↔ IsSome (task_at state.old.view id) }
@@ -72,8 +72,8 @@ fn has_lists<N: Naming>(state: &State<N>)
     let _ = &state.settings;
 }
 
-/// Takes all uncommitted tasks back: every log is undone, the latest task first, and no task is
-/// left, queued, finished, on a core or spilled. It takes no memory.
+/// Aborts all uncommitted tasks: every log is undone, the latest task first, and no task is left, queued, finished, on
+/// a core or spilled. It allocates no memory.
 pub fn undo_all<N: Naming>(state: &mut State<N>)
     // The dispatched tasks of a sound state have an order by key.
     ensures { let old = state.old.view in

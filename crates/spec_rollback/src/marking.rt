@@ -1,4 +1,4 @@
-//! Marks of the tasks that are taken back first, and a list of them.
+//! Marks of the tasks that are the first of a cascade, and a list of them.
 
 ghost use Rattle.std.specs.Prelude.{◌≡◌, ◌<◌, ◌≤◌, ◌↔◌, ℕ, IsTrue, IsFalse, Some, IsSome, IfSome, length, true, false};
 ghost use Rattle.std.specs.Prelude.{Option, option_map, slice_index, take};
@@ -59,8 +59,8 @@ fn conflicts(access: &ConflictQuery<'_>, id: usize) -> bool
     }
 }
 
-/// Whether one look at its filter tells that a store, or else a load, of the line doesn't conflict with the task; false
-/// says nothing.
+/// Whether one look at the task's filter rules out that a store, or else a load, of the line conflicts with it; false
+/// leaves it open.
 fn rules_out(task: &Task, line: u32, write: bool) -> bool
     ensures { IsTrue result → has_line write task.now line ≡ false }
 {
@@ -102,7 +102,8 @@ impl Holder for usize {
     }
 }
 
-/// Whether one look tells that no store, or else load, of the line conflicts with what is held; false says nothing.
+/// Whether one look rules out that a store, or else a load, of the line conflicts with the held task; false leaves it
+/// open.
 fn passes_over(tasks: &KeptSlab<Task>, held: Option<usize>, line: u32, write: bool) -> bool
     requires { IfSome held (λ id. IsSome (get tasks.now id)) }
     ensures { IsTrue result → (task : Task) → (id : ℕ) → held ≡ Some id
@@ -150,8 +151,8 @@ fn mark_alone(id: usize, marks: &mut [bool], members: &mut [usize])
     members[0] = id;
 }
 
-/// Marks and lists an id more, where it isn't marked, and tells how many are listed then. Where none was, what the
-/// marks were doesn't matter.
+/// Marks and lists an id more, where it isn't marked, and returns how many are listed then. Where none was listed
+/// before, the old marks don't matter.
 pub(crate) fn add(id: usize, marks: &mut [bool], members: &mut [usize], found: usize) -> usize
     requires within { id < length marks.old }
     requires members { length members.old ≡ length marks.old }
@@ -192,7 +193,8 @@ fn mark_id(
     }
 }
 
-/// The same for what is held, if a task is.
+/// Marks and lists the held task, if there is one and the access conflicts with it, and returns how many are listed
+/// then.
 fn mark_held(
     access: &ConflictQuery<'_>,
     held: Option<usize>,
@@ -213,7 +215,7 @@ fn mark_held(
     }
 }
 
-/// The same for these places.
+/// Marks and lists the tasks of these holders with which the access conflicts, and returns how many are listed then.
 fn mark_holders<H: Holder>(
     access: &ConflictQuery<'_>,
     holders: &[H],
@@ -239,7 +241,8 @@ fn mark_holders<H: Holder>(
     many
 }
 
-/// The same for the cores of a tile and its commit queue.
+/// Marks and lists the tasks on a tile's cores and in its commit queue with which the access conflicts, and returns how
+/// many are listed then.
 fn mark_tile(
     access: &ConflictQuery<'_>,
     cores: &[Option<TaskId>],
@@ -262,7 +265,7 @@ fn mark_tile(
     mark_holders(access, ids, marks, members, many)
 }
 
-/// Marks and lists the dispatched tasks of all tiles with which the access conflicts, and tells how many are listed
+/// Marks and lists the dispatched tasks of all tiles with which the access conflicts, and returns how many are listed
 /// then.
 pub(crate) fn mark_tiles(
     access: &ConflictQuery<'_>,
@@ -304,8 +307,8 @@ fn sort_from(ids: &mut [usize], from: usize)
     ids[from..].sort_unstable();
 }
 
-/// Sorts the listed ids from one place up to another, the lowest first: so the order in which tasks are taken back
-/// doesn't hang on where they stand.
+/// Sorts the listed ids from one place up to another, the lowest first, so that the order in which tasks are aborted
+/// doesn't depend on their cores and queues.
 pub(crate) fn sort_listed(members: &mut [usize], from: usize, upto: usize)
     requires from { from ≤ upto }
     requires upto { upto ≤ length members.old }
@@ -316,7 +319,8 @@ pub(crate) fn sort_listed(members: &mut [usize], from: usize, upto: usize)
     sort_from(&mut members[..upto], from);
 }
 
-/// The same where none was listed before, the lowest id first.
+/// Marks and lists the dispatched tasks of all tiles with which the access conflicts, the lowest id first, where none
+/// was listed before. It returns how many are listed.
 fn mark_in_order(
     access: &ConflictQuery<'_>,
     tiles: &Dispatched<'_>,
@@ -353,8 +357,8 @@ pub(crate) fn mark_one<N: Naming>(state: &mut State<N>, task: TaskId)
     );
 }
 
-/// Marks and lists the tasks with which an access of this task conflicts, and tells how many they are. It looks at the
-/// dispatched tasks of all tiles, where there are others than this one.
+/// Marks and lists the tasks with which an access of this task conflicts, and returns how many they are. It looks at
+/// the dispatched tasks of all tiles, if any other task is dispatched.
 pub(crate) fn mark_conflicts<N: Naming>(
     state: &mut State<N>,
     task: TaskId,

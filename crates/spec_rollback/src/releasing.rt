@@ -52,8 +52,8 @@ pub(crate) fn member<N: Naming>(state: &State<N>, place: usize) -> usize
     state.members[place]
 }
 
-/// Takes the marked tasks back, which are the first `found` members: those whose creators are
-/// marked leave, and the others are idle again.
+/// Aborts the marked tasks, which are the first `found` members: those whose creators are marked leave, and the others
+/// are idle again.
 pub(crate) fn release_marked<N: Naming>(state: &mut State<N>, found: usize)
     requires listed { ListsMarked state.old.scratch found }
     requires once { AllPairs (λ a b. a ≢ b) (take found state.old.scratch.members) }

@@ -1,4 +1,4 @@
-//! What is told of the tasks that are taken back.
+//! The reports of the tasks that are aborted.
 
 ghost use Rattle.std.specs.Prelude.{◌≡◌, ◌<◌, ◌≤◌, ◌++◌, ◌∷◌, [], ℕ, IsSome, count_by, length, map, take};
 ghost use Rattle.abort_cascade.specs.Cascade.{Marked};
@@ -25,7 +25,7 @@ fn stores_among(accesses: &[Access]) -> usize
     stores
 }
 
-/// What is told of a marked task of this id.
+/// The report of a marked task of this id.
 fn told_of(task: &Task, id: usize, marks: &[bool]) -> TakenTask
     ensures { result ≡ told_of marks.now id task.now }
 {
@@ -40,7 +40,7 @@ fn told_of(task: &Task, id: usize, marks: &[bool]) -> TakenTask
     }
 }
 
-/// What is told of the marked task of this id, which is there.
+/// The report of the marked task of this id, which exists.
 fn told_at<N: Naming>(state: &State<N>, id: usize) -> TakenTask
     requires { IsSome (task_at state.now.view id) }
     ensures { result ≡ told_at state.now.view state.now.scratch.marks id }
@@ -48,7 +48,7 @@ fn told_at<N: Naming>(state: &State<N>, id: usize) -> TakenTask
     told_of(&state.tasks[id], id, state.marks.as_slice())
 }
 
-/// Forgets what was told of the event before.
+/// Forgets what was reported of the event before.
 pub(crate) fn forget<N: Naming>(state: &mut State<N>)
     ensures view { state.new.view ≡ state.old.view }
     ensures effect { state.new.effect ≡ nothing }
@@ -58,7 +58,7 @@ pub(crate) fn forget<N: Naming>(state: &mut State<N>)
     state.effect.clear();
 }
 
-/// Tells of one task more.
+/// Reports one task more.
 fn tell<N: Naming>(state: &mut State<N>, task: TakenTask)
     requires { length state.old.effect.back < 4096 }
     ensures view { state.new.view ≡ state.old.view }
@@ -70,7 +70,7 @@ fn tell<N: Naming>(state: &mut State<N>, task: TakenTask)
     state.effect.note_taken(task);
 }
 
-/// Tells of the marked tasks, which are the first `found` members, in their order.
+/// Reports the marked tasks, which are the first `found` members, in their order.
 pub(crate) fn tell_marked<N: Naming>(state: &mut State<N>, found: usize)
     requires listed { ListsMarked state.old.scratch found }
     requires few { found ≤ 4096 }

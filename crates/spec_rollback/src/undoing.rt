@@ -1,4 +1,4 @@
-//! The stores of tasks, taken back.
+//! The rollback of the stores of tasks.
 
 ghost use Rattle.std.specs.Prelude.{◌≡◌, ◌≢◌, ◌≤◌, ℕ, List, Some, AllPairs, length, take};
 ghost use Rattle.std.specs.List.Sorted.{IsPermutation};
@@ -18,7 +18,7 @@ use spec_state::{State, Task};
 use std::cmp::Ordering;
 use undo_log::{Memory, undo};
 
-/// What stands under two ids, by its keys. An id with no task comes before all others.
+/// Compares the tasks of two ids by their keys. An id with no task comes before all others.
 fn compare(tasks: &KeptSlab<Task>, a: usize, b: usize) -> Ordering
     ensures { result ≡ ids_cmp tasks.now.slots a b }
 {

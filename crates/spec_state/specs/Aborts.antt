@@ -19,7 +19,7 @@ pub record IsChildOf (view : View) (a b : ℕ) : Type 0 where
   pub there : task_at view b ≡ Some child
   pub made_by : live_creator child.creator ≡ Some a
 
--- the first task is dispatched, and the second is a later dispatched one whose filter tells that it touched a line to
+-- the first task is dispatched, and the second is a later dispatched one whose filter reports a line as touched to
 -- which the first one's log has a store
 pub record ReadsFrom (view : View) (a b : ℕ) : Type 0 where
   pub writer : Task
@@ -29,7 +29,7 @@ pub record ReadsFrom (view : View) (a b : ℕ) : Type 0 where
   pub later : IsLater view writer b reader
   pub meets : Meet (has_stored view.settings.line writer) (has_touched reader)
 
--- what is taken back with a task: its children, and the later tasks that may have seen what it wrote
+-- what is aborted with a task: its children, and the later tasks that may have read or overwritten what it wrote
 abbrev pub PullsInView : View → ℕ → ℕ → Type 0
 PullsInView view a b = IsChildOf view a b ⊎ ReadsFrom view a b
 
@@ -37,16 +37,16 @@ PullsInView view a b = IsChildOf view a b ⊎ ReadsFrom view a b
 abbrev pub is_marked : List Bool → ℕ → Bool
 is_marked marks id = slice_index_or marks id false
 
--- the marked tasks are the union of the cascades of these: the least set that holds them and, with each member, all
--- that is taken back with it
+-- the marked tasks are the union of the cascades of these tasks: the least set that contains them and, with each
+-- member, all that is aborted with it
 pub record IsCascade (view : View) (firsts : ℕ → Type 0) (marks : List Bool) : Type 0 where
   pub pull : ℕ → ℕ → Bool
   pub pulls : (a b : ℕ) → (pull a b ≡ true) ↔ PullsInView view a b
   pub size : length view.tasks ≤ length marks
   pub least : IsLeastClosed (length marks) pull firsts marks
 
--- this memory is what is left where the stores of a set of tasks are taken back: of the tasks in descending order
--- of their keys, and of each the last one first
+-- this memory results from rolling back the stores of a set of tasks: the tasks in descending order of their keys, and
+-- of each the last store first
 pub record IsUndone (view : View) (set : ℕ → Bool) (memory : List ℕ) : Type 0 where
   pub ids : List ℕ
   pub by_key : IsByKey (logged_tasks view) ids
@@ -70,8 +70,8 @@ abbrev pub freed_core : List Bool → Option ℕ → Option ℕ
 freed_core marks None = None
 freed_core marks (Some id) = if is_marked marks id then None else Some id
 
--- the cascades of these tasks are taken back, and so many tasks with them: memory is as they found it, a member leaves
--- its core or its commit queue, and one whose creator is a member its task queue; all else stays
+-- the cascades of these tasks are aborted, and their number is `aborted`: memory is as they found it, a member leaves
+-- its core or its commit queue, and one whose creator is a member leaves its task queue; all else stays
 pub record Aborts (firsts : ℕ → Type 0) (old : View) (aborted : ℕ) (new : View) : Type 0 where
   pub marks : List Bool
   pub cascade : IsCascade old firsts marks
@@ -90,8 +90,8 @@ pub record Aborts (firsts : ℕ → Type 0) (old : View) (aborted : ℕ) (new : 
         cores = new.cores;
       }
 
--- all uncommitted tasks are taken back: memory is as they found it, none is left, queued, finished, on a core or
--- spilled, and all else stays
+-- all uncommitted tasks are aborted: memory is as they found it, none is left, queued, finished, on a core or spilled,
+-- and all else stays
 pub record UndoesAll (old new : View) : Type 0 where
   pub none : (id : ℕ) → task_at new id ≡ None
   pub memory : IsUndone old (λ id. true) new.memory

@@ -11,7 +11,8 @@ pub record IsChildAt (id place : ℕ) (stands : Option Task) : Type 0 where
   pub there : stands ≡ Some child
   pub made_by : child.creator ≡ Live (record { 0 = id }) place
 
--- for each task the ids under which its children were put last, by their places; and whether each child stands there
+-- for each task the ids under which its children were put last, by their places; and whether each child still has its
+-- noted id
 pub record ChildrenValue : Type 0 where
   pub lists : List (List ℕ)
   pub complete : Bool
@@ -25,7 +26,7 @@ abbrev pub AreNoted : List (Option Task) → ChildrenValue → Type 0
 AreNoted tasks children = IsTrue children.complete → (k id place : ℕ)
     → IsChildAt id place (slice_index_or tasks k None) → slice_get (noted_of children id) place ≡ Some k
 
--- the same for all but what stands under this id
+-- where the notes are complete, each child is noted under its id, but perhaps the one that has this id
 abbrev pub AreNotedBut : ℕ → List (Option Task) → ChildrenValue → Type 0
 AreNotedBut last tasks children = IsTrue children.complete → (k id place : ℕ) → k ≢ last
     → IsChildAt id place (slice_index_or tasks k None) → slice_get (noted_of children id) place ≡ Some k

@@ -5,7 +5,7 @@ use Rattle.spec_state.specs.declared.task.TaskId.{TaskId}
 use Rattle.spec_state.specs.declared.effect.TakenTask.{TakenTask}
 use Rattle.spec_state.specs.declared.effect.SpilledTask.{SpilledTask}
 
--- the tasks that it took back, those that it spilled, and the one that came
+-- the tasks that the event aborted, those that it spilled, and the one that it created
 pub record EffectValue : Type 0 where
   pub back : List TakenTask
   pub spilled : List SpilledTask

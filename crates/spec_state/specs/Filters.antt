@@ -1,6 +1,6 @@
--- The lines that a task touched and wrote, by its filter. Here alone it is said which filter that is: the one that the
--- settings name. It tells lines apart by their numbers modulo 1,024, by eight hashes of them, or one from every other,
--- for which it asks the task's own log. Besides, the code alone knows it.
+-- The lines that a task touched and wrote, according to its filter. These definitions alone depend on the filter's
+-- kind, which the settings name: `Modulo` hashes a line to its number modulo 1,024, `Bloom` to eight bits, and `Exact`
+-- has no false positives, because it looks the line up in the task's own log. Of the rest, only the code depends on it.
 use Rattle.std.specs.Prelude.{ℕ, Bool, List}
 use Rattle.line_table.specs.Note.{wrote_in}
 use Rattle.line_table.specs.Lines.{IsLines, touched_by, wrote_by}

@@ -1,5 +1,5 @@
--- The first of the queued tasks, and the first of the spilled ones; how the least task stands; and the heir, firm
--- tasks and their names, as code finds them.
+-- The first of the queued tasks, and the first of the spilled ones; the state of the least task; and the dispatched
+-- least task (`IsHeir`), firm tasks and their names, as code finds them.
 use Rattle.std.specs.Prelude.{◌≡◌, ◌≢◌, ◌<◌, ◌+◌, ℕ, List, [], Option, Some, None, slice_get, slice_index_or}
 use Rattle.std.specs.declared.cmp.Ordering.TheVariants.{Greater}
 use Rattle.fractal_vt.specs.declared.key.Key.{Key}
@@ -45,7 +45,7 @@ IsStanding (where_.Trapped id) own task = (id ≡ own)
 IsStanding (where_.Finished id) own task = (id ≡ own) × (task.status ≡ status.Finished)
 IsStanding (where_.Spilled tile) own task = ⊥
 
--- the creator has committed, or is the heir
+-- the creator has committed, or is the dispatched least task
 abbrev pub IsFirmBy : Option ℕ → Creator → Type 0
 IsFirmBy heir (Committed turn index) = Unit {0}
 IsFirmBy heir (Live task index) = heir ≡ Some task.0

@@ -41,7 +41,7 @@ keyed_tasks view id = option_map keyed_task (task_at view id)
 abbrev pub all_spilled : View → List Spilled
 all_spilled view = flat_map (λ block. block) view.blocks
 
--- the creator of a spilled task, where it is uncommitted: it is the heir then, whose commit is the next one
+-- the creator of a spilled task: None where it has committed; else it is the dispatched least task, which commits next
 abbrev pub heir_unless : Bool → Option ℕ → Option ℕ
 heir_unless true heir = None
 heir_unless false heir = heir

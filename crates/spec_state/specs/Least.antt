@@ -21,12 +21,12 @@ pub data Spot : Type 0 where
   Queued : (tile place : ℕ) → Spot
   Spilled_at : (tile place : ℕ) → Spot
 
--- the task of this id stands at this place of the tile's task queue
+-- the task of this id is at this place of the tile's task queue
 pub record IsQueuedAt (view : View) (tile place id : ℕ) (task : Task) : Type 0 where
   pub queued : slice_get (queue_at view tile) place ≡ Some id
   pub there : task_at view id ≡ Some task
 
--- the task that stands there has this key
+-- the task at this spot has this key
 abbrev pub HasKey : View → Spot → Key → Type 0
 HasKey view (Queued tile place) key = (id : ℕ) × (task : Task) × IsQueuedAt view tile place id task × (key ≡ task.key)
 HasKey view (Spilled_at tile place) key = (s : Spilled) × (slice_get (block_at view tile) place ≡ Some s)
@@ -47,7 +47,7 @@ spot_cmp (Spilled_at tile place) (Spilled_at other_tile other_place) = place_cmp
 abbrev pub ranked_cmp : Key → Spot → Key → Spot → Ordering
 ranked_cmp key spot other_key other_spot = ordering_then (key_cmp key other_key) (spot_cmp spot other_spot)
 
--- the task that stands there is the least uncommitted one
+-- the task at this spot is the least uncommitted one
 pub record IsLeastSpot (view : View) (spot : Spot) : Type 0 where
   pub key : Key
   pub has : HasKey view spot key
@@ -83,27 +83,28 @@ IsLeast view (where_.Trapped id) = (task : Task) × (core cause : ℕ) × IsLeas
 IsLeast view (where_.Finished id) = (task : Task) × IsLeastTask view id.0 task × (task.status ≡ status.Finished)
 IsLeast view (where_.Spilled tile) = IsLeastSpilled view tile
 
--- the heir is the least task where that is dispatched: its commit is the next one, and its children's names are known
+-- the id of the least task where that is dispatched, else None: its commit is the next one, and its children's names
+-- are known
 abbrev pub IsHeir : View → Option ℕ → Type 0
 IsHeir view (Some id) = (task : Task) × IsLeastTask view id task × (is_dispatched task ≡ true)
 IsHeir view None = (id : ℕ) (task : Task) → IsLeastTask view id task → is_dispatched task ≡ true → ⊥
 
--- a firm task: its creator is committed, or is the heir (Jeffrey et al. 2015 spill such tasks alone)
+-- a firm task: its creator has committed, or is the dispatched least task (Jeffrey et al. 2015 spill such tasks alone)
 abbrev pub IsFirm : View → Task → Type 0
 IsFirm view task =
     ((turn index : ℕ) × (task.creator ≡ Committed turn index))
     ⊎ ((heir : ℕ) × (index : ℕ) × (task.creator ≡ Live (record { 0 = heir }) index) × IsHeir view (Some heir))
 
--- the name of a firm task by its creator: the creator's commit number, which is the next one where the creator is
--- the heir, and the place among its children
+-- the name of a firm task by its creator: the creator's commit number, which is the next one where the creator is the
+-- dispatched least task, and the place among its children
 abbrev pub HasName : View → Creator → Name → Type 0
 HasName view (Committed turn index) name = (turn ≤ length view.history)
     × (name ≡ record { creator = turn; index = index })
 HasName view (Live task index) name = IsHeir view (Some task.0)
     × (name ≡ record { creator = length view.history + 1; index = index })
 
--- of two tasks of a tile's task queue one comes before the other: its key is less, or ties and it stands at an
--- earlier place
+-- of two tasks of a tile's task queue the first precedes the second: its key is less, or the keys tie and its place is
+-- earlier
 abbrev pub Precedes : View → ℕ → ℕ → ℕ → Type 0
 Precedes view tile a b =
     (p q : ℕ) (x y : Task) → IsQueuedAt view tile p a x → IsQueuedAt view tile q b y

@@ -16,7 +16,7 @@ freed_of id (Some held) = if held == id then None else Some held
 abbrev pub IsHeldAs : ℕ → Status → List (Option ℕ) → Type 0
 IsHeldAs id status cores = (core : ℕ) → (slice_get cores core ≡ Some (Some id)) ↔ HasCore status core
 
--- a task leaves: it stands in no list and on no core any more, and all else stays
+-- a task leaves: it is in no list and on no core any more, and all else stays
 pub record TaskLeaves (id : ℕ) (old new : View) : Type 0 where
   pub changes : ChangesTask old new id None
   pub queues : new.queues ≡ map (ids_but id) old.queues
@@ -24,8 +24,8 @@ pub record TaskLeaves (id : ℕ) (old new : View) : Type 0 where
   pub cores : new.cores ≡ map (map (freed_of id)) old.cores
   pub frame : new ≡ record old { tasks = new.tasks; queues = new.queues; finished = new.finished; cores = new.cores }
 
--- a task is as it was before its dispatch, in its own place of its task queue: it stands in no commit queue and on no
--- core any more, and all else stays
+-- a task is as it was before its dispatch, at its own place of its task queue: it is in no commit queue and on no core
+-- any more, and all else stays
 pub record SetsBack (id : ℕ) (old new : View) : Type 0 where
   pub task : Task
   pub there : task_at old id ≡ Some task

@@ -39,8 +39,7 @@ abbrev pub renumbered_task : List ℕ → Task → Task
 renumbered_task table task = record task { key = renumbered_key table task.key }
 
 -- a renumbering: each tiebreaker, those of the path among them, becomes its place among the numbers in use, counted
--- from 0, and the next dispatch number is how many they are; one equation over the slots says that there are no
--- more of them
+-- from 0, and the next dispatch number is the count of these; one equation over the slots says that no slot is added
 pub record Renumbers (old new : View) : Type 0 where
   pub table : List ℕ
   pub is_table : IsNumberTable old table

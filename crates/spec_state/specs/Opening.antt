@@ -1,4 +1,4 @@
--- A view before the first task, and a task that comes to be.
+-- A view before the first task, and the creation of a task.
 use Rattle.std.specs.Prelude.{◌≡◌, ◌<◌, ℕ, List, [], Option, replicate, Some, None}
 use Rattle.guest_image.specs.ImageValue.{ImageValue}
 use Rattle.task_law.specs.serial_machine.Run.{opening_memory}
@@ -42,7 +42,7 @@ pub record DescIsOfImage (desc : Desc) : Type 0 where
   pub by_image : desc.name.creator ≡ 0
   pub kinds : desc.kinds < 2
 
--- a task stands under an id that held nothing, as the last one of its tile's task queue
+-- a task gets an id that no task had, as the last one of its tile's task queue
 pub record Adds (id : ℕ) (task : Task) (old new : View) : Type 0 where
   pub vacant : task_at old id ≡ None
   pub changes : ChangesTask old new id (Some task)

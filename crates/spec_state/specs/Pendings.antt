@@ -81,6 +81,6 @@ pending_spilled count d =
 abbrev pub spilled_pending : ℕ → List Spilled → List Pending
 spilled_pending count spilled = filter_map (λ s. pending_spilled count s.desc) spilled
 
--- the tasks that pend, the queued ones by id and behind them the spilled ones by tile
+-- the pending tasks: the queued ones by id, then the spilled ones by tile
 abbrev pub pendings_in : View → List Pending
 pendings_in view = filter_map pending_queued view.tasks ++ spilled_pending (length view.history) (all_spilled view)

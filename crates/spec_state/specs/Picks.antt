@@ -12,8 +12,8 @@ use Rattle.spec_state.specs.Tasks.{is_dispatched}
 use Rattle.spec_state.specs.Fronts.{IsFirmBy}
 use Rattle.spec_state.specs.Queries.{HasLine, IsDispatched}
 
--- of the tasks of this kind one whose key comes behind none in this order, and none exactly where there is no such
--- task
+-- a task of this kind whose key isn't greater than that of any other in this order; None exactly where no task is of
+-- this kind
 abbrev pub IsPick : (Key → Key → Ordering) → (ℕ → Task → Type 0) → Option TaskId → Type 0
 IsPick order kind None = (id : ℕ) (task : Task) → kind id task → ⊥
 IsPick order kind (Some id) =
@@ -64,6 +64,6 @@ abbrev pub IsIdlePick : View → List ℕ → ℕ → Option TaskId → Type 0
 IsIdlePick view ids count None = (p k : ℕ) (x : Task) → p < count → IsIdleAt view ids p k x → ⊥
 IsIdlePick view ids count (Some id) = IsFirstIdle view ids count id.0
 
--- the task is idle, and its creator has committed or is the heir
+-- the task is idle, and its creator has committed or is the dispatched least task
 abbrev pub IsIdleFirmBy : Option ℕ → Task → Type 0
 IsIdleFirmBy heir task = (task.status ≡ Idle) × IsFirmBy heir task.creator

@@ -9,7 +9,7 @@ use Rattle.spec_state.specs.Filters.{has_touched, has_written}
 use Rattle.spec_state.specs.Tasks.{is_dispatched}
 use Rattle.spec_state.specs.Least.{IsFirm, Precedes}
 
--- the id stands in the tile's task queue
+-- the tile's task queue contains the id
 abbrev pub IsQueued : View → ℕ → ℕ → Type 0
 IsQueued view tile id = Contains (queue_at view tile) id
 

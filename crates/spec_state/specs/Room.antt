@@ -108,12 +108,12 @@ pub record IsVictim (view : View) (tile : ℕ) (asker : Asker) (id : ℕ) (task 
   pub other : asker ≢ Enqueuer id
   pub last : (k : ℕ) → k ≢ id → asker ≢ Enqueuer k → IsQueued view tile k → Precedes view tile k id
 
--- what is taken back for a victim: itself where it is firm, and else its creator
+-- what is aborted for a victim: the victim itself where it is firm, and else its creator
 abbrev pub IsTakenFor : View → ℕ → Task → ℕ → Type 0
 IsTakenFor view v task first = (IsFirm view task × (first ≡ v))
     ⊎ ((IsFirm view task → ⊥) × (live_creator task.creator ≡ Some first))
 
--- how a tile's task queue gets room for who asks, and how many tasks are taken back for it
+-- how a tile's task queue gets room for the requester, and how many tasks are aborted for it
 pub data MakesRoom (tile : ℕ) (asker : Asker) (old : View) : ℕ → View → Type 0 where
   queue_has_room : QueueHasRoom old tile → MakesRoom tile asker old 0 old
   coalesces : (new : View) → IsFull old tile → Coalesces tile old new → MakesRoom tile asker old 0 new

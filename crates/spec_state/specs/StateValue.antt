@@ -13,7 +13,7 @@ pub record Spare : Type 0 where
   pub output : ℕ
   pub blocks : List ℕ
 
--- which ids are marked, and a list with ids at its front: both of the tasks that are taken back, while they are
+-- which ids are marked, and a list with ids at its front: the tasks that an abort is about, while it runs
 pub record Scratch : Type 0 where
   pub marks : List Bool
   pub members : List ℕ

@@ -35,8 +35,8 @@ pub record IsWellFormed (size commits : ℕ) (task : Task) : Type 0 where
   pub dispatched : is_dispatched task ≡ is_some (kept_core task.status task.core)
   pub turn : (turn index : ℕ) → task.creator ≡ Committed turn index → turn ≤ commits
 
--- each task stands in the queue of its tile, and in its commit queue or on its core as its status says, and nothing
--- else stands in these lists; each task is well formed; the data has its size
+-- each task is in the queue of its tile, and in its commit queue or on its core as its status says, and these lists
+-- contain nothing else; each task is well formed; the data has its size
 pub record IsStored (size : ℕ) (view : View) : Type 0 where
   pub queued_are : (tile id : ℕ) → IsQueued view tile id ↔ HasTask view tile id (λ status. Unit {0})
   pub finished_are : (tile id : ℕ)

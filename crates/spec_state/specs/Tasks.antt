@@ -205,7 +205,7 @@ sub_bit (Some Ordered) = 1
 sub_bit (Some Unordered) = 0
 sub_bit None = 0
 
--- the kinds of a child: those of its creator, with that of the subdomain behind them, or without the last one
+-- the kinds of a child: those of its creator, followed by that of the subdomain, or without the last one
 abbrev pub child_kinds : Task → Place → ℕ
 child_kinds task Same = task.kinds
 child_kinds task Sub = task.kinds + sub_bit task.sub * 2 ^ depth_of task

@@ -1,4 +1,4 @@
--- What is told of the tasks that an event takes back, and of those that it spills.
+-- The reports of the tasks that an event aborts, and of those that it spills.
 use Rattle.std.specs.Prelude.{◌≡◌, ◌≢◌, ◌↔◌, ℕ, Bool, false, List, AllPairs, Contains, Some, None, length, map}
 use Rattle.std.specs.Prelude.{count_by, is_some}
 use Rattle.std.specs.declared.option.Option.{Option}
@@ -38,7 +38,7 @@ told_in marks id (Some task) = told_of marks id task
 abbrev pub told_at : View → List Bool → ℕ → TakenTask
 told_at view marks id = told_in marks id (task_at view id)
 
--- exactly the marked tasks are told, each once, as they stood before
+-- exactly the marked tasks are reported, each once, as they were before
 pub record TellsBack (old : View) (marks : List Bool) (told : List TakenTask) : Type 0 where
   pub ids : List ℕ
   pub exact : (id : ℕ) → Contains ids id ↔ Marked marks id

@@ -63,7 +63,7 @@ loads view = map length view.queues
 abbrev pub queued_last : View → ℕ → ℕ → List (List ℕ)
 queued_last view tile id = slice_set view.queues tile (queue_at view tile ++ id ∷ [])
 
--- what stands under this id now, and all others stay
+-- this id has the task `now`, or none, and all other ids have what they had
 pub record ChangesTask (old new : View) (id : ℕ) (now : Option Task) : Type 0 where
   pub changed : task_at new id ≡ now
   pub others : (k : ℕ) → k ≢ id → task_at new k ≡ task_at old k

@@ -1,4 +1,4 @@
-//! A task that comes to be.
+//! The creation of a task.
 
 ghost use Rattle.std.specs.Prelude.{◌≡◌, ◌+◌, ◌<◌, [], ◌∷◌, ◌++◌, length, Contains, IsOk, IfOk, None, Some};
 ghost use Rattle.slab.specs.Slab.{get, slab_len, HasRoomFor, Updates};

@@ -48,7 +48,7 @@ impl Places {
         self.ids.as_slice().get(place).map(|id| *id as usize)
     }
 
-    /// Notes the id of the child at this place. It tells whether that could be noted: each place below it has been
+    /// Notes the id of the child at this place. It returns whether that could be noted: each place below it has been
     /// noted, and it is below `MAX_NOTED`.
     fn note(&mut self, place: usize, id: u32) -> bool
         ensures notes { IsTrue result → NotesAt place id self.old self.new }
@@ -81,7 +81,7 @@ impl Places {
     }
 }
 
-/// Whether the child at this place of the task of this id stands under the id `key`.
+/// Whether the task whose id is `key` is the child at this place of the task `id`.
 fn is_child_at(tasks: &KeptSlab<Task>, key: usize, id: usize, place: usize) -> bool
     ensures { IsTrue result ↔ IsChildAt id place (get tasks.now key) }
 {
@@ -97,9 +97,9 @@ fn is_child_at(tasks: &KeptSlab<Task>, key: usize, id: usize, place: usize) -> b
     }
 }
 
-/// Where the children of each task were put last, so that they are found without a search. The notes are complete as
-/// long as no two children of a task stand at one place, and each is put after those before it, as events put them;
-/// afterwards they serve no more.
+/// The ids under which the children of each task were put last, so that they are found without a search. The notes are
+/// complete as long as each child is put after those at earlier places and no two share a place, as events put them;
+/// once incomplete they are no longer used.
 #[derive(Drop)]
 pub struct Children {
     /// The children of each task that may be.
@@ -151,7 +151,7 @@ impl Children {
         }
     }
 
-    /// Notes that the child at this place of this creator stands under the id. It tells whether that could be noted.
+    /// Notes the id of the child at this place of this creator. It returns whether that could be noted.
     fn put(&mut self, id: usize, creator: usize, place: usize) -> bool
         ensures complete { self.new.complete ≡ self.old.complete }
         ensures notes { IsTrue result → Notes creator place id self.old self.new }
@@ -163,8 +163,8 @@ impl Children {
         }
     }
 
-    /// Notes the child at this place of this creator, which stands under the id, where all others are noted. The notes
-    /// stay complete exactly where it can be noted.
+    /// Notes the child with this id at this place of this creator, where all others are noted. The notes stay complete
+    /// exactly where it can be noted.
     fn note_child(&mut self, tasks: &KeptSlab<Task>, id: usize, creator: usize, place: usize)
         requires child { IsChildAt creator place (get tasks.now id) }
         requires others { AreNotedBut id tasks.now.slots self.old }
@@ -179,8 +179,8 @@ impl Children {
         }
     }
 
-    /// Notes what stands under the id, where all others are noted. The notes stay complete exactly where that is no
-    /// child, or can be noted.
+    /// Notes the task with this id, where all others are noted. The notes stay complete exactly where it isn't a child,
+    /// or can be noted.
     pub(crate) fn note(&mut self, tasks: &KeptSlab<Task>, id: usize)
         requires { AreNotedBut id tasks.now.slots self.old }
         ensures noted { AreNoted tasks.now.slots self.new }
@@ -199,9 +199,9 @@ impl Children {
         }
     }
 
-    /// The ids that are noted for the children of a task, by their places: each of its children stands under one of
-    /// them, and one of them may be another task's, or none's. None exactly where the notes aren't complete, or there
-    /// is none of this id.
+    /// The ids that are noted for the children of a task, by their places: each of its children has one of them, while
+    /// one of them may be another task's, or no task's. None exactly where the notes aren't complete, or no task ever
+    /// had this id.
     pub fn of(&self, id: usize) -> Option<&[u32]>
         ensures ids { IfSome result (λ ids. ids.now ≡ noted_of self.now id) }
         ensures complete { IsSome result ↔ (IsTrue self.now.complete × (id < length self.now.lists)) }

@@ -143,7 +143,7 @@ impl<N: Naming> State<N> {
     }
 
     /// Whether an access of the task to the line, a store if `write`, conflicts with the other task: false where
-    /// that is no task.
+    /// `other` isn't the id of a task.
     pub fn conflicts_with(&self, task: TaskId, line: u32, write: bool, other: TaskId) -> bool
         requires live { IsSome (task_at self.now.view task.0) }
         ensures { IfSome (task_at self.now.view task.0)

@@ -1,4 +1,4 @@
-//! What an event did beside its one change, for whoever tells it.
+//! What an event did beside its one change, for reports of it.
 
 ghost use Rattle.std.specs.Prelude.{◌≡◌, ◌<◌, ◌≤◌, ◌+◌, ◌++◌, ◌∷◌, [], IfOk, None, Some, length, vec_capacity};
 ghost use Rattle.spec_state.specs.Effects.{nothing};
@@ -9,10 +9,10 @@ use std::alloc::{AllocError, Global};
 use std::marker::Model;
 use task_desc::Name;
 
-/// How many tasks may be taken back at once, at most: as many as the largest machine has places in its task queues.
+/// The most tasks that one event may abort: as many as the largest machine has places in its task queues.
 pub const MAX_TAKEN: usize = 4096;
 
-/// A task that was taken back.
+/// A task that was aborted.
 #[derive(Clone, Copy, Debug, PartialEq, Eq)]
 pub struct TakenTask {
     /// Its id.
@@ -27,7 +27,7 @@ pub struct TakenTask {
     pub stores: usize,
     /// How many bytes it had emitted since then.
     pub bytes: usize,
-    /// Whether it is gone, since its creator was taken back too; else it is idle again.
+    /// Whether it is gone, because its creator was aborted too; else it is idle again.
     pub gone: bool,
 }
 
@@ -101,7 +101,7 @@ impl Effect {
         self.spilled.clear();
     }
 
-    /// Adds a task that is taken back, where fewer are there than can be.
+    /// Adds an aborted task, where the list has fewer than `MAX_TAKEN`.
     pub fn note_taken(&mut self, task: TakenTask)
         requires { length self.old.back < MAX_TAKEN }
         ensures { self.new ≡ record self.old { back = self.old.back ++ task ∷ [] } }
@@ -124,7 +124,7 @@ impl Effect {
         self.arrived = Some(id);
     }
 
-    /// The tasks that were taken back.
+    /// The tasks that were aborted.
     pub fn back(&self) -> &[TakenTask]
         ensures { result.now ≡ self.now.back }
     {

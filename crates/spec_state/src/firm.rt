@@ -10,7 +10,7 @@ use crate::task::{Creator, Task, TaskId, Where};
 use rv_core::Naming;
 use task_desc::Name;
 
-/// Whether the task's creator has committed, or is the heir.
+/// Whether the task's creator has committed, or is the dispatched least task.
 pub(crate) fn is_firm(task: &Task, heir: Option<TaskId>) -> bool
     ensures { IsTrue result ↔ IsFirmBy (option_map (λ id. id.0) heir) task.now.creator }
 {
@@ -20,7 +20,7 @@ pub(crate) fn is_firm(task: &Task, heir: Option<TaskId>) -> bool
     }
 }
 
-/// The least task that this tells of, where that is dispatched.
+/// The id of this least task where it is dispatched, else None.
 fn dispatched_of(least: Option<Where>) -> Option<TaskId>
     ensures { option_map (λ id. id.0) result ≡ dispatched_in least }
 {
@@ -56,7 +56,7 @@ impl<N: Naming> State<N> {
         dispatched_of(self.least())
     }
 
-    /// Whether the task is firm: its creator has committed, or is the heir.
+    /// Whether the task is firm: its creator has committed, or is the dispatched least task.
     pub fn firm(&self, task: TaskId) -> bool
         requires live { IsSome (task_at self.now.view task.0) }
         ensures { IfSome (task_at self.now.view task.0) (λ t. IsTrue result ↔ IsFirm self.now.view t) }

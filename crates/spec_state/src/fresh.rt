@@ -1,4 +1,4 @@
-//! A task that comes to be, before it has a place.
+//! A new task, before it has a place.
 
 ghost use Rattle.std.specs.Prelude.{◌≡◌};
 ghost use Rattle.spec_state.specs.declared.task.Status.TheVariants.{Idle};
@@ -32,7 +32,7 @@ pub struct Fresh {
     pub ts: u32,
     /// Who made it.
     pub creator: Creator,
-    /// The tile in whose task queue it comes to stand.
+    /// The tile whose task queue it joins.
     pub tile: u32,
 }
 
@@ -53,7 +53,7 @@ impl Model for Fresh {
 }
 
 impl Fresh {
-    /// The tile in whose task queue it comes to stand. It is idle there.
+    /// The tile whose task queue it joins. It is idle there.
     pub(crate) fn tile(&self) -> u32
         ensures tile { result ≡ self.now.tile }
         ensures idle { self.now.status ≡ Idle }

@@ -12,13 +12,13 @@ use crate::task::{Status, Task, TaskId};
 use rv_core::Naming;
 use tile_queues::{CommitQueue, TaskQueue};
 
-/// Takes an id that is there out of a task queue.
+/// Takes an id out of a task queue that contains it.
 fn leave_queue(queue: &mut TaskQueue, id: usize)
     requires there { Contains queue.old.ids id }
     ensures taken { queue.new ≡ record queue.old { ids = ids_but id queue.old.ids } }
     ensures one { length queue.new.ids + 1 ≡ length queue.old.ids }
 {
-    // No id stands there twice, so one place is free afterwards.
+    // The queue contains no id twice, so one place is free afterwards.
     let _distinct = queue.ids();
     queue.take(id);
 }

@@ -1,12 +1,12 @@
-//! The state of the speculative machine: its settings, its tasks and its lists, and what it tells of itself.
+//! The state of the speculative machine: its settings, its tasks and lists, and queries of them.
 //!
-//! State and tasks stand as code keeps them: the tasks in a slab, four lists by tile beside it. As definitions
-//! stand here what contracts see of a state (`View`), the words that its readers promise, and what each change does
-//! to it, for the crates that change it. A task is found by its id with no search, and nothing is copied to look at
-//! one. When a view is sound is said in the crate of its laws, so that what changes a state stands on definitions
-//! alone. It stands on the parts of the machine: keys, index, queues, blocks, filters and logs. The crates that
-//! change it call it (`spec_access`, `spec_dispatch`, `spec_rollback`, `spec_commit`), those of events, and the book,
-//! which makes and ends it; the host takes settings and what pends from it, and `watch_text` and `watch_play` read it.
+//! State and tasks are kept in a form that is fast to change: the tasks in a slab, with four lists by tile. The
+//! definitions say what contracts see of a state (`View`), what its readers promise, and what each change does to it,
+//! for the crates that change it. A task is found by its id without a search, and nothing is copied to look at one. The
+//! crate of its laws says when a view is sound, so that what changes a state depends on definitions alone. It uses the
+//! parts of the machine: keys, index, queues, blocks, filters and logs. It is called by the crates that change it
+//! (`spec_access`, `spec_dispatch`, `spec_rollback`, `spec_commit`), those of events, and the book, which makes and
+//! ends it; the host gets settings and pending tasks from it, and `watch_text` and `watch_play` read it.
 #![tactic(auto)]
 
 mod adding;

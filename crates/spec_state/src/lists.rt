@@ -35,7 +35,7 @@ impl<N: Naming> State<N> {
         self.cores[tile as usize].as_slice()
     }
 
-    /// The task of this id; None exactly where it is no task's.
+    /// The task of this id; None exactly where no task has it.
     pub fn find(&self, id: TaskId) -> Option<&Task>
         ensures { option_copied result ≡ task_at self.now.view id.0 }
     {

@@ -1,4 +1,4 @@
-//! What a state tells of itself. No call takes memory.
+//! Queries of a state. No call allocates memory.
 
 ghost use Rattle.std.specs.Prelude.{◌≡◌, ◌+◌, ◌<◌, ◌≤◌, length, map, All, Some, IsSome, IfSome, option_map};
 ghost use Rattle.std.specs.Prelude.{option_copied, slice_get};
@@ -118,7 +118,7 @@ impl<N: Naming> State<N> {
         &self.task(task).key
     }
 
-    /// The core that the task has come to since its dispatch; None exactly where it is idle.
+    /// The core's registers as the task has left them since its dispatch; None exactly where it is idle.
     pub fn core_of(&self, task: TaskId) -> Option<&Core>
         requires live { IsSome (task_at self.now.view task.0) }
         ensures { IfSome (task_at self.now.view task.0) (λ t. option_copied result ≡ kept_core t.status t.core) }

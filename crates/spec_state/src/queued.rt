@@ -35,7 +35,7 @@ fn is_idle_before(task: &Task, other: &Task) -> bool
     is_idle(task) && cmp(&task.key, &other.key).is_lt()
 }
 
-/// Whether the task waits for a core, and its creator has committed or is the heir.
+/// Whether the task waits for a core, and its creator has committed or is the dispatched least task.
 fn is_idle_firm(task: &Task, heir: Option<TaskId>) -> bool
     ensures { IsTrue result ↔ IsIdleFirmBy (option_map (λ id. id.0) heir) task.now }
 {
@@ -113,7 +113,8 @@ impl<N: Naming> State<N> {
         }
     }
 
-    /// Whether a task of a tile is idle and firm. It costs what `heir` does, and a look at each task of the queue.
+    /// Whether a task of a tile is idle and firm. It costs as much as finding the least task, and a look at each task
+    /// of the queue.
     pub fn has_firm(&self, tile: u32) -> bool
         requires { tile < self.now.view.settings.tiles }
         ensures { IsTrue result

@@ -29,7 +29,7 @@ pub struct Settings {
     pub budget: u32,
     /// How many commits a placer serves before the next one takes over: 1 to 1,000,000.
     pub phase: u32,
-    /// How each task's filter tells lines apart.
+    /// The kind of each task's filter: how it maps lines to bits.
     pub filter: FilterKind,
 }
 

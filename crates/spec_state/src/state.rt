@@ -56,7 +56,7 @@ pub struct State<N: Naming> {
     pub blocks: Blocks,
     /// The queued tasks of all tiles, in the order of their keys.
     pub index: Index,
-    /// The number of its arrival in its queue, for each id; that of an id that is no task's says nothing.
+    /// The number of its arrival in its queue, for each id; that of an id which no task has means nothing.
     pub arrivals: Vec<u64>,
     /// The next arrival number.
     pub next_arrival: u64,

@@ -44,14 +44,14 @@ pub enum Status {
         /// The core, among those of its tile.
         core: u32,
     },
-    /// It came to a trap, and keeps its core.
+    /// It trapped, and keeps its core.
     Trapped {
         /// The core, among those of its tile.
         core: u32,
         /// The cause of the trap: 1 to 17.
         cause: u8,
     },
-    /// It came to its end call, and waits in the commit queue.
+    /// It made its end call, and waits in the commit queue.
     Finished,
 }
 

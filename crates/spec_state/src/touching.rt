@@ -63,8 +63,8 @@ impl Task {
         }
     }
 
-    /// Whether one look at its filter tells that it didn't touch the line: it does where the bits don't say that it may
-    /// have, but never of the kind `Bloom`, which wants eight looks.
+    /// Whether one look at its filter rules out that it touched the line: true where the bits don't say that it may
+    /// have, but always false for the kind `Bloom`, which needs eight looks.
     #[tactic(auto, using(crate::proofs::Touched::never_told))]
     pub fn never_touched(&self, line: u32) -> bool
         ensures answer { let lines = self.now.lines in
@@ -74,8 +74,8 @@ impl Task {
         self.lines.never_touched(line)
     }
 
-    /// Whether one look at its filter tells that it didn't write the line: it does where the bits don't say that it may
-    /// have, but never of the kind `Bloom`, which wants eight looks.
+    /// Whether one look at its filter rules out that it wrote the line: true where the bits don't say that it may have,
+    /// but always false for the kind `Bloom`, which needs eight looks.
     #[tactic(auto, using(crate::proofs::Touched::never_told))]
     pub fn never_written(&self, line: u32) -> bool
         ensures answer { let lines = self.now.lines in
