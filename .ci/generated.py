@@ -12,6 +12,7 @@ from measured_page import measured_text
 from mutants import mutants_text
 from played_page import played_text
 from reading_page import page_text
+from traps_page import traps_text
 from worked_page import worked_text
 
 from yotarimu.common.files import read_written
@@ -48,7 +49,7 @@ GENERATED: dict[str, Callable[[], str]] = {
     "docs/maintain/CRATES.md": crates_text,
     "docs/machine/PLAYED.md": played_text, "docs/guide/COMMANDS.md": commands_text,
     "docs/maintain/MEASURED.md": measured_text,
-    "examples/hello/BYTES.md": bytes_text,
+    "docs/guest/TRAPS.md": traps_text, "examples/hello/BYTES.md": bytes_text,
     **{f"examples/schedules/{name}/WORKED.md": worked_text(name) for name in ("domains_by_hand", "rounds_by_hand")},
     "docs/machine/conflict.svg": schedule_picture, "docs/machine/conflict_strip.svg": conflict_strip,
     "docs/machine/parallelism.svg": parallelism_charts,
