@@ -7,10 +7,11 @@ ghost use Rattle.abort_cascade.specs.Growth.{Spreads, IsListOf};
 use crate::pulls::Looks;
 use crate::{Pulls, Spreader};
 
-/// Grows the marks to exactly the least set that holds them and with each node all that it pulls, and tells its size.
+/// Grows the marks to exactly the least set that contains them and with each node all that it pulls, and returns its
+/// size.
 ///
-/// Its nodes then stand at the front of `members`, each once, in the order in which they were found. `pulls` is
-/// called at most once for each of them and each node.
+/// Its nodes are then at the front of `members`, each once, in the order in which they were found. `pulls` is called at
+/// most once for each of them and each node.
 pub fn close<P: Pulls>(relation: &P, marks: &mut [bool], members: &mut [usize]) -> usize
     requires marks { length marks.old ≡ P.count relation.now }
     requires members { length members.old ≡ P.count relation.now }
@@ -54,7 +55,7 @@ pub fn closed_sets()
     ensures least { ClosesToLeast }
 {}
 
-/// Puts the marked nodes at the front of the members, the lowest first, and tells how many they are.
+/// Puts the marked nodes at the front of the members, the lowest first, and returns how many they are.
 pub fn list_marked(marks: &[bool], members: &mut [usize]) -> usize
     requires { length members.old ≡ length marks.now }
     ensures { IsListOf marks.now members.new result }
@@ -70,7 +71,7 @@ pub fn list_marked(marks: &[bool], members: &mut [usize]) -> usize
 }
 
 /// Marks what the node pulls, by a look at each node. The `found` members that are listed stay, and each new one joins
-/// them; it tells how many there are then.
+/// them; it returns how many are listed then.
 pub(crate) fn spread_by_looks<P: Pulls>(
     relation: &P,
     node: usize,

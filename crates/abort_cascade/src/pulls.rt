@@ -33,11 +33,11 @@ pub trait Spreader {
     /// Whether a set that holds the first node has to hold the second too.
     ghost pull: { Self → ℕ → ℕ → Bool };
 
-    /// What it goes by to find them.
+    /// What it knows to find them.
     ghost knows: { Self → Type 0 };
 
-    /// Marks what the node pulls. The `found` members that are listed stay, and each new one joins them; it tells how
-    /// many there are then.
+    /// Marks what the node pulls. The `found` members that are listed stay, and each new one joins them; it returns how
+    /// many are listed then.
     fn spread(&self, node: usize, marks: &mut [bool], members: &mut [usize], found: usize) -> usize
         requires knows { knows self.now }
         requires marks { length marks.old ≡ count self.now }

@@ -52,7 +52,7 @@ fn kind_of(word: &str) -> Option<RelationKind> {
     }
 }
 
-/// Closes the set of the node that leads to all so many times, and tells its size; with no round it tells 0.
+/// Closes the set of the node that leads to all, `rounds` times, and returns its size; without a round it returns 0.
 fn size_of(shape: &Relation, rounds: u32, marks: &mut [bool], members: &mut [usize]) -> usize
     requires marks { length marks.old ≡ shape.now.nodes }
     requires members { length members.old ≡ shape.now.nodes }

@@ -42,7 +42,7 @@ static TILES: [u32; 3] = [1, 4, 16];
 const MOST_ROUNDS: u32 = 10_000;
 
 fn main(rt: HostRuntime) -> io::Result<()> {
-    // A small walk, since the gate runs it twice.
+    // A small walk, since CI runs it twice.
     let image = make(rt.alloc(), Load::Walk, 7, 250)?;
     println!(rt; "placer,tiles,rounds,acts,commits,taken back,by loads and stores,stalls")?;
     for word in env::args(&rt)? {
@@ -97,7 +97,7 @@ fn print_counts(rt: &HostRuntime, name: &str, tiles: u32, row: &Row) -> io::Resu
     println!(rt; "{name},{tiles},{rounds},{acts},{commits},{taken_back},{by_access},{stalls}")
 }
 
-/// What a row tells of a run.
+/// What a row prints of a run.
 #[derive(Clone, Copy)]
 struct Row {
     counts: Counts,
@@ -121,8 +121,8 @@ fn row_of_play<N: Naming, P: Placer>(
     Ok(played(image, book, settings.tiles, settings.cores))
 }
 
-/// Plays rounds on a book, and tells of them. It closes the book, since a drop of one whose placer is any type costs
-/// the prover half a minute.
+/// Plays rounds on a book, and reports them. It closes the book, since a drop of one whose placer is any type costs the
+/// prover half a minute.
 fn played<N: Naming, P: Placer>(
     image: &Image,
     book: Book<N, P, LineProfile>,
@@ -141,7 +141,7 @@ fn played<N: Naming, P: Placer>(
     }
 }
 
-/// How many tasks a load or a store took back, by the tap's two numbers: of the first line and of all others.
+/// How many tasks a load or a store aborted, by the tap's two numbers: of the first line and of all others.
 fn by_access<N: Naming, P: Placer>(book: &Book<N, P, LineProfile>) -> u64 {
     let first = book.tap_at(0, 0).unwrap_or(0);
     first.saturating_add(book.tap_at(0, 1).unwrap_or(0))
@@ -165,7 +165,7 @@ const NO_COUNTS: Counts = Counts {
     taken_back: 0,
 };
 
-/// Counts what came of an event.
+/// Counts the outcome of an event.
 fn count_answer(counts: &mut Counts, applied: &Applied) {
     count(&mut counts.acts);
     counts.taken_back = counts.taken_back.saturating_add(u64::from(applied.aborted));
@@ -275,8 +275,8 @@ impl<N: Naming, P: Placer> Play<N, P> {
         }
     }
 
-    /// Asks for an event, if its tile and core are there and the run isn't over, and counts what comes of it.
-    /// Each time it looks anew, so that no loop has to keep that the settings stay.
+    /// Asks for an event, if the machine has its tile and core and the run isn't over, and counts its outcome. Each
+    /// time it looks anew, so that no loop has to keep that the settings stay.
     fn ask(&mut self, event: Event<N>) {
         if is_there(self.book.settings(), &event) && self.book.end().is_none() {
             let applied = self.book.apply(event);

@@ -1,4 +1,4 @@
--- The command as `clap` is told of it: ten options, and places for three further words.
+-- The command in the form that `clap` takes: ten options, and places for three further arguments.
 use Rattle.std.specs.Prelude.{ℕ, ◌≡◌, Some, true, List, codes}
 use Rattle.std.specs.declared.option.Option.{Option}
 use Rattle.clap.specs.Words.{App, Rule, Text, first_value, new_app, new_rule, with_rule}

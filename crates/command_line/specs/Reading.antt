@@ -17,7 +17,7 @@ pub data ArgumentWord : Type 0 where
 abbrev pub is_equals : ℕ → Bool
 is_equals byte = byte == 61
 
--- the word behind two dashes: the name stands before the first `=`, and the text behind it
+-- the argument after two dashes: the name is before the first `=`, and the text after it
 abbrev pub word_with_name : List ℕ → ArgumentWord
 word_with_name [] = Stray
 word_with_name (x ∷ xs) =
@@ -80,7 +80,7 @@ abbrev pub after_plain : List Given → (left : List (List ℕ)) → List ℕ
 after_plain given [] word next = None
 after_plain given (name ∷ left) word next = next (with_text given name word) left
 
--- what comes of a word where no name waits for its text
+-- the result of an argument where no name waits for its text
 abbrev pub after_word : List Given → (left : List (List ℕ)) → List ℕ → ArgumentWord
     → (List Given → List (List ℕ) → Option (List ℕ) → Option (List Given)) → Option (List Given)
 after_word given left word (Whole name text) next =

@@ -44,8 +44,7 @@ setting_value s (Some text) = number_in s.allows text
 abbrev pub setting_number : Setting → Texts → Option ℕ
 setting_number s text = setting_value s (text s.name)
 
--- all settings; none where the text of an option is no value of it. Filters tell lines apart by their numbers modulo
--- 1,024
+-- all settings; none where the text of an option isn't one of its values. Filters are of the kind Modulo
 unfoldable pub settings_by : Texts → Option Settings
 settings_by text =
     setting_number table.tiles text >>= λ tiles. setting_number table.cores text >>= λ cores.

@@ -13,7 +13,7 @@ pub enum Command {
     Save,
     /// Make the events of a script.
     Steps,
-    /// Make the events of a script, and tell what the taps saw.
+    /// Make the events of a script, and print what the taps saw.
     Trace,
     /// Check a report of a run.
     Check,

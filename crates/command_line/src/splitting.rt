@@ -17,7 +17,7 @@ pub(crate) fn split<'a>(alloc: Global, words: &'a [&'a str]) -> Result<ArgMatche
     ensures ok { IfOk result (λ m. IsSplit (map (λ w. w.now) words.entry.now) (found_of m)) }
     ensures usage { result ≡ Err Refusal.Usage → given_in (map (λ w. w.now) words.entry.now) ≡ None }
 {
-    // `clap` would take what stands behind `--` for further words.
+    // `clap` would take what follows `--` for further arguments.
     if has_stray(words) {
         return Err(Refusal::Usage);
     }

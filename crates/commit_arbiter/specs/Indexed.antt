@@ -54,7 +54,7 @@ one_closed tb = cond (is_some tb) 1 0
 abbrev pub closed_in : List Candidate → ℕ
 closed_in candidates = sum_by (λ e. one_closed e.key.tb) candidates
 
--- whatever candidate of this id was there, it stands in order with this tiebreaker now
+-- a candidate of this id, where there was one, is in order with this tiebreaker now
 abbrev pub IsTied : ℕ → Option ℕ → List Candidate → List Candidate → Type 0
 IsTied id tb old new =
     (e : Candidate) → Contains old e → e.id ≡ id

@@ -10,7 +10,7 @@ pub record SlotsValue : Type 0 where
   pub capacity : ℕ
   pub candidates : List Candidate
 
--- what stands in a slot that was never used
+-- the contents of a slot that was never used
 abbrev pub blank_candidate : Candidate
 blank_candidate = record { key = record { domain = []; ts = 0; tb = None }; tile = 0; arrival = 0; id = 0 }
 

@@ -35,7 +35,7 @@ pub(crate) fn candidate_order(a: &Candidate, b: &Candidate) -> Ordering
     }
 }
 
-/// What stands in a slot that was never used.
+/// The contents of a slot that was never used.
 pub(crate) fn blank_candidate() -> Candidate
     ensures { result ≡ blank_candidate }
 {

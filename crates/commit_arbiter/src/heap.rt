@@ -9,8 +9,8 @@ ghost use Rattle.commit_arbiter.specs.Heap.{SiftsUpOnce, SiftsDownOnce};
 use crate::candidate::candidate_order;
 use crate::slots::Slots;
 
-/// Exchanges a candidate with its parent where it is less, and tells whether it did. What stands at its place then is
-/// noted.
+/// Exchanges a candidate with its parent where it is less, and returns whether it did. The candidate at its old place
+/// is noted.
 fn sift_up_once(slots: &mut Slots, at: usize) -> bool
     requires below { 0 < at }
     requires within { at < length slots.old.candidates }
@@ -63,7 +63,7 @@ fn least_child(slots: &Slots, at: usize) -> usize
     }
 }
 
-/// Exchanges a candidate with its least child, and tells which it was. The child's new place is noted.
+/// Exchanges a candidate with its least child, and returns which it was. The child's new place is noted.
 fn sift_down_once(slots: &mut Slots, at: usize) -> usize
     requires parent { at < length slots.old.candidates / 2 }
     requires heap { IsHeapApart upto (candidate_at slots.old.candidates) (length slots.old.candidates) at }

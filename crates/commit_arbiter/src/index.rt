@@ -86,7 +86,7 @@ impl Index {
         }
     }
 
-    /// Closes the open tiebreaker of a task that is there: its key becomes less. No memory.
+    /// Closes the open tiebreaker of a task in the index: its key becomes less. It allocates no memory.
     pub fn close(&mut self, id: usize, tb: u64)
         requires { IsOpenIn id self.old.candidates }
         ensures capacity { self.new.capacity ≡ self.old.capacity }
@@ -103,7 +103,7 @@ impl Index {
         }
     }
 
-    /// Opens the tiebreaker of a task that is there: its key becomes greater, or stays. No memory.
+    /// Opens the tiebreaker of a task in the index: its key becomes greater, or stays. It allocates no memory.
     pub fn open(&mut self, id: usize)
         requires { HasId id self.old.candidates }
         ensures capacity { self.new.capacity ≡ self.old.capacity }
@@ -201,7 +201,7 @@ fn place_of(slots: &Slots, id: usize) -> Option<usize>
     scanned_place(slots, id)
 }
 
-/// The place of the candidate with an id, where the note of it tells it.
+/// The place of the candidate with an id, where it was noted.
 #[tactic(auto, using(crate::proofs::Places::place_here))]
 fn noted_place(slots: &Slots, id: usize) -> Option<usize>
     ensures { IfSome result (IsPlaceOfId id slots.now.candidates) }

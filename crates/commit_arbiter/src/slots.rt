@@ -145,7 +145,7 @@ impl Slots {
         self.order.swap(a, b);
     }
 
-    /// Notes the place of the candidate that stands there.
+    /// Notes the place of the candidate at this place.
     pub(crate) fn note(&mut self, place: usize)
         requires { place < length self.old.candidates }
         ensures { self.new ≡ self.old }

@@ -54,7 +54,7 @@ pub record PlaysAnAct (image : ImageValue) (input : Input) (o : Outcome) : Type 
   pub played : PlaysToEnd input image said end o
   pub some : 0 < length played.script
 
--- a call that plays a script and ends well, of which the program tells this, and which was given the same as itself
+-- a call that plays a script and ends well, whose outcome this is, and which was given the same as itself
 pub record EndsWellOnce (image : ImageValue) (call : Call) (o : Outcome) : Type 0 where
   pub asks : AskForScript call.input.words
   pub same : AreGivenSame call call

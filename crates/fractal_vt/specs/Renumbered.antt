@@ -8,7 +8,7 @@ use Rattle.fractal_vt.specs.Levels.{Open, closed_level}
 use Rattle.fractal_vt.specs.Keys.{levels, key_cmp}
 use Rattle.fractal_vt.specs.Paths.{Begins}
 
--- how many numbers of the table are below this one: its place, where it stands in a strictly rising table
+-- how many numbers of the table are below this one: its place, where a strictly rising table contains it
 abbrev pub place_in : List ℕ → ℕ → ℕ
 place_in table number = length (filter (λ other. nat_lt other number) table)
 
@@ -32,15 +32,15 @@ renumbered_key table key = record {
   tb = option_map (place_in table) key.tb;
 }
 
--- the level is open, or its tiebreaker stands in the table
+-- the level is open, or the table contains its tiebreaker
 abbrev pub IsHeld : List ℕ → Open → Type 0
 IsHeld table level = IfSome level.tb (Contains table)
 
--- the tiebreakers of a domain or a path stand in the table
+-- the table contains the tiebreakers of a domain or a path
 abbrev pub HoldsDomain : List ℕ → List Level → Type 0
 HoldsDomain table domain = All (IsHeld table) (map closed_level domain)
 
--- the tiebreakers of a key stand in the table, but for an open one
+-- the table contains the tiebreakers of a key, but for an open one
 abbrev pub HoldsKey : List ℕ → Key → Type 0
 HoldsKey table key = All (IsHeld table) (levels key)
 

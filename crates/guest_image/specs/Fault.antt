@@ -1,10 +1,10 @@
--- How a fault of an image is told: its number, and an offset in the bytes.
+-- How a fault of an image is reported: its number, and an offset in the bytes.
 use Rattle.std.specs.Prelude.{ℕ}
 use Rattle.guest_image.specs.declared.fault.ImageFault.{ImageFault}
 use Rattle.guest_image.specs.declared.fault.ImageFault.TheVariants.{Short, Magic, Version, RootKind, Limit, Window}
 use Rattle.guest_image.specs.declared.fault.ImageFault.TheVariants.{NoTask, Memory}
 
--- the faults are numbered from 1 in the order of the variants; want of memory is no fault of the bytes
+-- the faults are numbered from 1 in the order of the variants; want of memory isn't a fault of the bytes
 abbrev pub fault_number : ImageFault → ℕ
 fault_number (Short need have) = 1
 fault_number Magic = 2

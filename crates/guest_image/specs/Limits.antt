@@ -36,11 +36,11 @@ AreInLimits image =
     AreWithinLimits (length image.text) (length image.initial) image.data_size image.window_offset image.window_words
     (length image.tasks)
 
--- a length as a fault tells it, in a number of 4 bytes
+-- a length as a fault reports it, in a number of 4 bytes
 abbrev pub fault_length : ℕ → ℕ
 fault_length n = min n 4294967295
 
--- the value, where there is no fault
+-- the value, where no fault is found
 abbrev pub unless_fault : Result (Unit {0}) ImageFault → ImageValue → Result ImageValue ImageFault
 unless_fault (Ok _) value = Ok value
 unless_fault (Err e) value = Err e

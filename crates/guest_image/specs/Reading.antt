@@ -44,11 +44,11 @@ HeaderFits bytes =
     × AreWithinLimits (word_at bytes 8) (word_at bytes 12) (word_at bytes 16) (word_at bytes 20) (word_at bytes 24)
     (word_at bytes 28)
 
--- how long the image is that the header tells
+-- the length of the image that the header describes, in bytes
 unfoldable pub whole_length : List ℕ → ℕ
 whole_length bytes = 32 + 4 * word_at bytes 8 + word_at bytes 12 + 20 * word_at bytes 28
 
--- the kind of the root domain that a number tells
+-- the kind of the root domain that a number stands for
 abbrev pub root_kind : ℕ → Kind
 root_kind n = if n == 0 then Unordered else Ordered
 
@@ -65,7 +65,7 @@ value_in_bytes bytes = record {
   tasks = tasks_from bytes (32 + 4 * word_at bytes 8 + word_at bytes 12) (word_at bytes 28);
 }
 
--- the image, where the header has no fault and the bytes are at least as many as it tells
+-- the image, where the header has no fault and the bytes are at least as many as it says
 abbrev pub after_header : List ℕ → Result (Unit {0}) ImageFault → Result (ImageValue × ℕ) ImageFault
 after_header bytes (Err e) = Err e
 after_header bytes (Ok _) =

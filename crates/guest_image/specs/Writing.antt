@@ -8,7 +8,7 @@ use Rattle.guest_image.specs.Numbers.{word_bytes, half_bytes}
 use Rattle.guest_image.specs.ImageValue.{ImageValue, IsImage}
 use Rattle.guest_image.specs.Reading.{image_of}
 
--- the number that tells the kind of the root domain
+-- the number that stands for the kind of the root domain
 abbrev pub kind_number : Kind → ℕ
 kind_number Unordered = 0
 kind_number Ordered = 1

@@ -1,4 +1,4 @@
-//! Why bytes are no image.
+//! Why bytes aren't an image.
 
 ghost use Rattle.std.specs.Prelude.{◌≡◌};
 ghost use Rattle.guest_image.specs.declared.fault.ImageFault.TheVariants.{Memory};
@@ -6,7 +6,7 @@ ghost use Rattle.guest_image.specs.declared.fault.ImageFault.TheVariants.{Memory
 use std::alloc::{AllocError, AllocFailed};
 use thiserror::Error;
 
-/// Why bytes are no image, or values make none.
+/// Why bytes aren't an image, or values don't make one.
 #[derive(Clone, Copy, Debug, PartialEq, Eq, Error)]
 pub enum ImageFault {
     /// There are fewer bytes than the header has, or than the whole image has.
@@ -23,13 +23,13 @@ pub enum ImageFault {
     /// The version is none that is known.
     #[error("version {found} is not known")]
     Version {
-        /// The version that stands there.
+        /// The version that was found.
         found: u16,
     },
     /// The kind of the root domain is neither 0 nor 1.
     #[error("{found} is no kind of a domain")]
     RootKind {
-        /// The number that stands there.
+        /// The number that was found.
         found: u16,
     },
     /// A number of the header is above its limit.
@@ -37,13 +37,13 @@ pub enum ImageFault {
     Limit {
         /// The offset of the field in the header: 8, 12, 16, 24 or 28.
         field: u32,
-        /// The number that stands there.
+        /// The number that was found.
         value: u32,
     },
     /// The window does not lie in the data, or does not begin at a multiple of 4.
     #[error("the window does not lie in the data")]
     Window,
-    /// There is no initial task.
+    /// The image has no initial task.
     #[error("there is no initial task")]
     NoTask,
     /// Out of memory.

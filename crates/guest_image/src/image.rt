@@ -79,9 +79,9 @@ impl Image {
 
     /// An image of version 1 of the given values, or the first of the limits that they exceed, in the order in which
     /// the limits of a header are tried. `kind` is that of the root domain; `data_size` and `window_offset` are in
-    /// bytes. A list longer than 4,294,967,295 is told as that number. Takes no memory.
+    /// bytes. A list longer than 4,294,967,295 is reported as that number. It allocates no memory.
     ///
-    /// Its answer is said twice: by the table of faults, and when it is Ok.
+    /// The contract states its result twice: by the table of faults, and when it is Ok.
     #[tactic(auto, unfolding(crate::specs::Limits::image_made))]
     pub fn new(
         kind: Kind,
@@ -155,7 +155,7 @@ impl Image {
         self.version
     }
 
-    /// The same image in version 2. Takes no memory.
+    /// This image in version 2. It allocates no memory.
     pub fn upgrade(self) -> Image
         ensures { result ≡ in_version 2 self }
     {
@@ -206,7 +206,7 @@ impl Image {
         &self.tasks
     }
 
-    /// The word of the text at an address; None where the address is no multiple of 4 or lies outside the text.
+    /// The word of the text at an address; None where the address isn't a multiple of 4 or lies outside the text.
     pub fn fetch(&self, addr: u32) -> Option<u32>
         ensures { result ≡ fetched_word self.now.text addr }
     {

@@ -14,7 +14,7 @@ const MAX_WINDOW_WORDS: u32 = 4096;
 /// How many initial tasks an image has at most.
 pub const MAX_TASKS: u32 = 65_536;
 
-/// The fault of a number that is above its limit, told by the offset of its field in the header.
+/// The fault of a number that is above its limit, with the offset of its field in the header.
 fn above(field: u32, value: u32) -> Result<(), ImageFault>
     ensures { result ≡ Err (ImageFault.Limit field value) }
 {

@@ -97,7 +97,7 @@ fn tasks(alloc: Global, bytes: &[u8], at: usize, count: usize) -> Result<Vec<Ima
         .collect(alloc)
 }
 
-/// The kind of the root domain that the header tells.
+/// The kind of the root domain, by the header.
 fn kind_of(bytes: &[u8]) -> Kind
     requires { 8 ≤ length bytes.now }
     ensures { result ≡ root_kind (half_at bytes.now 6) }
@@ -109,7 +109,7 @@ fn kind_of(bytes: &[u8]) -> Kind
     }
 }
 
-/// How long the image is that the header tells.
+/// The length of the image that the header describes, in bytes.
 #[tactic(auto, unfolding(crate::specs::Reading::whole_length))]
 fn length_of(bytes: &[u8]) -> usize
     requires { 32 ≤ length bytes.now }

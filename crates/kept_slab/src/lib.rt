@@ -1,9 +1,9 @@
 //! A slab of large values, none of which moves: one that leaves keeps its place in memory for the next one that comes.
 //!
-//! Contracts see it as a slab. The memory of all values that may be is taken when it is made, so that to put a value
-//! in and to take one out moves an address, and what a value has grown (a list's memory, say) serves the next one.
-//! It stands on the kit's `slab`. The state of the machine keeps its tasks in one, and what changes it goes through
-//! them.
+//! Contracts see it as a slab. The memory of the largest number of values is allocated when it is made, so that to put
+//! a value in and to take one out moves an address, and what a value has grown (a list's memory, say) serves the next
+//! one. It uses `slab` of the toolchain library. The state of the machine keeps its tasks in one, and what changes it
+//! goes through them.
 #![tactic(auto)]
 
 ghost use Rattle.std.specs.Prelude.{◌≡◌, ◌+◌, ◌<◌, ◌≤◌, ◌↔◌, [], length, IsTrue, IfOk, None, Some, option_copied};
@@ -17,7 +17,7 @@ use std::alloc::{AllocError, Global};
 use std::marker::Model;
 use std::ops::{Index, IndexMut};
 
-/// A value that can stand in a place before anything was put there.
+/// A value that can be in a place before anything was put there.
 pub trait Blank: Sized {
     /// Any value. It takes no memory.
     fn blank(alloc: Global) -> Self;
@@ -159,8 +159,8 @@ impl<T> KeptSlab<T> {
         }
     }
 
-    /// Puts some value under the next key, which has a free place, and tells the key: a spare one, as it was left. It
-    /// takes no memory.
+    /// Puts some value under the next key, which has a free place, and returns the key: a spare value, as it was left.
+    /// It allocates no memory.
     pub fn insert_spare(&mut self) -> usize
         requires { HasRoomFor self.old 1 }
         ensures key { result ≡ self.old.vacant_key }

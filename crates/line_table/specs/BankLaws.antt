@@ -149,7 +149,7 @@ module _ (half : ℕ → ℕ) (signature : Signature) (notes : List Note) (line 
       each_rises (wrote_of signature) (touched_of signature) (half line)
       (λ place. wrote_touched signature (banks_of half notes) place is)
 
--- where the bit of no line is set, no banks tell a line
+-- where the bit of no line is set, no banks report a line
 pub none_in_banks : (test : ℕ → Bool) (half : ℕ) → ((place : ℕ) → test place ≡ false) → each_bank test half ≡ false
 none_in_banks test half none =
     ap (λ b. b && test (256 + half / 256 % 256) && test (512 + half / 65536 % 256)

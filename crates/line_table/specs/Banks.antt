@@ -4,7 +4,7 @@ use Rattle.line_table.specs.declared.signature.Signature.{Signature}
 use Rattle.line_table.specs.Note.{Note}
 use Rattle.line_table.specs.Signature.{touched_of, wrote_of}
 
--- one bit in each bank: the place that a byte of the half tells, the lowest byte in the first bank
+-- one bit in each bank: the place that a byte of the half gives, the lowest byte in the first bank
 abbrev pub places : ℕ → List ℕ
 places half =
     (half % 256) ∷ (256 + half / 256 % 256) ∷ (512 + half / 65536 % 256) ∷ (768 + half / 16777216 % 256) ∷ []

@@ -72,13 +72,13 @@ is_ruled_out Modulo bits = not bits
 is_ruled_out Bloom bits = false
 is_ruled_out Exact bits = not bits
 
--- an exact filter asks the notes too; the others go by their bits
+-- an exact filter asks the notes too; the others use their bits alone
 abbrev pub asks_too : FilterKind → Bool → Bool → Bool
 asks_too Modulo bits noted = bits
 asks_too Bloom bits noted = bits
 asks_too Exact bits noted = bits && noted
 
--- the line is told by a filter that has these lines, where the notes are these
+-- the line is reported by a filter that has these lines, where the notes are these
 abbrev pub told_by : (Signature → ℕ → Bool) → (List Note → ℕ → Bool) → Lines → List Note → ℕ → Bool
 told_by row noted lines notes line = asks_too lines.kind (has_bits row lines.kind lines line) (noted notes line)
 

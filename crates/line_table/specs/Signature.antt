@@ -1,4 +1,4 @@
--- Lines that are told apart by their number modulo 1,024 alone, and the notes that they stand for.
+-- Lines that are hashed to their number modulo 1,024, and the notes that they stand for.
 use Rattle.std.specs.Prelude.{◌≡◌, ◌&&◌, ℕ, Bool, List}
 use Rattle.std.specs.List.{list_any, range_with_len}
 use Rattle.line_table.specs.declared.signature.Signature.{Signature}

@@ -1,4 +1,4 @@
--- The laws of a filter, for one that tells lines apart by their number modulo 1,024 alone.
+-- The laws of a filter that hashes a line to its number modulo 1,024.
 use Rattle.std.specs.Prelude.{◌≡◌, ◌==◌, ◌&&◌, ◌||◌, ◌↔◌, ℕ, ◌/◌, ◌%◌, zero, suc, Bool, true, false, List, [], ◌∷◌}
 use Rattle.std.specs.Prelude.{Contains, replicate, refl}
 use Rattle.std.specs.List.{list_any}
@@ -59,7 +59,7 @@ cleared_touched signature line is = is.touched_is line
 pub cleared_wrote : (signature : Signature) (line : ℕ) → IsSignature signature [] → wrote_of signature line ≡ false
 cleared_wrote signature line is = is.wrote_is line
 
--- the same notes stand in both lists, in whatever order and however often
+-- both lists contain the same notes, in whatever order and however often
 abbrev pub SameNotes : List Note → List Note → Type 0
 SameNotes xs ys = (note : Note) → Contains xs note ↔ Contains ys note
 

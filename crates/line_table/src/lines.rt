@@ -15,7 +15,7 @@ use std::alloc::AllocError;
 /// How many numbers of lines there are.
 const LINES: u64 = 4_294_967_296;
 
-/// How a filter tells lines apart.
+/// The kind of a filter: how it maps lines to bits.
 #[derive(Clone, Copy, Debug, PartialEq, Eq)]
 pub enum FilterKind {
     /// By their numbers modulo 1,024.
@@ -132,8 +132,8 @@ impl Lines {
         }
     }
 
-    /// Whether one look at the bits tells that the line was not noted: it does where `may_touch` is false, but never of
-    /// the kind `Bloom`, which wants eight looks.
+    /// Whether one look at the bits rules out that the line was noted: true where `may_touch` is false, but always
+    /// false for the kind `Bloom`, which needs eight looks.
     pub fn never_touched(&self, line: u32) -> bool
         ensures { result ≡ is_ruled_out self.now.kind (may_touch self.now.kind self.now line) }
     {
@@ -144,8 +144,8 @@ impl Lines {
         }
     }
 
-    /// Whether one look at the bits tells that the line was not noted with a write: it does where `may_write` is false,
-    /// but never of the kind `Bloom`, which wants eight looks.
+    /// Whether one look at the bits rules out that the line was noted with a write: true where `may_write` is false,
+    /// but always false for the kind `Bloom`, which needs eight looks.
     pub fn never_wrote(&self, line: u32) -> bool
         ensures { result ≡ is_ruled_out self.now.kind (may_write self.now.kind self.now line) }
     {

@@ -6,13 +6,13 @@ ghost use Rattle.line_table.specs.Row.{is_set, same_bit, no_bits, ShareBit};
 /// How many bits a row has.
 pub const BITS: usize = 1_024;
 
-/// How many bits stand in one word.
+/// How many bits one word has.
 const WORD_BITS: usize = 64;
 
 /// How many words hold a row.
 const WORDS: usize = BITS / WORD_BITS;
 
-/// A set of lines that tells lines apart by their number modulo `BITS` alone.
+/// A set of lines, each of which is hashed to its number modulo `BITS`.
 #[derive(Clone, Copy)]
 pub struct BitRow {
     words: [u64; WORDS],

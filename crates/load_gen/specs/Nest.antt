@@ -19,7 +19,7 @@ nest_task seed place = record {
   args = (seed % 1000 + place) ∷ cell place ∷ cell (place + 3) ∷ [];
 }
 
--- the image: the additions as text, eight cells of zeros, which are the window, and as many tasks as the size tells
+-- the image: the additions as text, eight cells of zeros, which are the window, and `size` tasks
 abbrev pub nest_image : ℕ → ℕ → ImageValue
 nest_image seed size = record {
   version = 1;

@@ -13,12 +13,11 @@ use std::alloc::{AllocError, Global};
 /// What an image makes its machine do.
 #[derive(Clone, Copy, Debug, PartialEq, Eq)]
 pub enum Load {
-    /// A breadth-first walk in an ordered root through a graph of as many nodes as the size tells. Each node has
-    /// edges to its children in a binary heap, and one to a node that is not after it. A whole run has two commits
-    /// for each node.
+    /// A breadth-first walk in an ordered root through a graph of `size` nodes. Each node has edges to its children in
+    /// a binary heap, and one to a node that is not after it. A whole run has two commits for each node.
     Walk,
-    /// As many tasks in an unordered root as the size tells, each of which adds an amount to two of eight cells by
-    /// two tasks of a domain of its own. A whole run has three commits for each initial task.
+    /// `size` tasks in an unordered root, each of which adds an amount to two of eight cells by two tasks of a domain
+    /// of its own. A whole run has three commits for each initial task.
     Nest,
 }
 

@@ -33,7 +33,7 @@ fn nested_words() -> [u32; 23]
         addi(13, 7, 0),
         addi(11, 0, 1),
         ecall(),
-        // The same adds it to the first cell, at timestamp 0.
+        // Another task in the subdomain adds it to the first cell, at timestamp 0.
         addi(13, 6, 0),
         addi(11, 0, 0),
         ecall(),
@@ -49,7 +49,7 @@ fn nested_words() -> [u32; 23]
     ]
 }
 
-/// The same words, told as they are.
+/// The words of the nested additions, with the contract that they are the definition's.
 #[tactic(auto, using(crate::proofs::Words::nest_words_are))]
 fn nest_words() -> [u32; 23]
     ensures { result ≡ nest_words_lem }

@@ -60,7 +60,7 @@ fn breadth_first_words() -> [u32; 24]
     ]
 }
 
-/// The same words, told as they are.
+/// The words of the breadth-first walk, with the contract that they are the definition's.
 #[tactic(auto, using(crate::proofs::Words::walk_words_are))]
 fn walk_words() -> [u32; 24]
     ensures { result ≡ walk_words_lem }

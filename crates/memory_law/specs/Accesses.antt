@@ -1,4 +1,4 @@
--- What accesses do to memory, one after another, and when they fit what stands there.
+-- What accesses do to memory, one after another, and when they fit its contents.
 use Rattle.std.specs.Prelude.{◌≡◌, ℕ, ◌+◌, ◌^◌, ◌<◌, ◌≤◌, ◌⊎◌, List, [], ◌∷◌, length, Option, Some, None}
 use Rattle.undo_log.specs.declared.access.Access.{Access}
 use Rattle.undo_log.specs.Number.{number_at, after_write}
@@ -17,7 +17,7 @@ abbrev pub after_accesses : List ℕ → List Access → List ℕ
 after_accesses bytes [] = bytes
 after_accesses bytes (access ∷ log) = after_accesses (after_access bytes access) log
 
--- the access lies within the bytes, and its old value is what stands there
+-- the access lies within the bytes, and its old value is the one that they have
 pub record FindsOldValue (bytes : List ℕ) (access : Access) : Type 0 where
   pub within : access.offset + access.width ≤ length bytes
   pub old_is : access.old ≡ number_at bytes access.offset access.width

@@ -43,7 +43,7 @@ HoldsLaterTouchers set tasks task at =
     (k : ℕ) (other : Logged) → tasks k ≡ Some other → other.dispatched ≡ true → Earlier task other
     → other.touched at ≡ true → set k ≡ true
 
--- with each member the set holds each later dispatched task whose filter tells that it touched a line to which the
+-- with each member the set contains each later dispatched task whose filter reports a line as touched to which the
 -- member's log has a store
 abbrev pub HoldsLater : ℕ → (ℕ → Bool) → (ℕ → Option Logged) → Type 0
 HoldsLater line set tasks =

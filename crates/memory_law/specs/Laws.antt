@@ -34,14 +34,14 @@ StoreKeepsChain =
     → NoLaterTouched old was (access.offset / line)
     → IsChained line old serial memory → IsChained line new serial (after_write memory access.offset access.width value)
 
--- a closed set of tasks that is taken back, the latest first, leaves the chain of the others
+-- an abort of a closed set of tasks, the latest first, leaves the chain of the others
 abbrev pub AbortKeepsChain : Type 0
 AbortKeepsChain =
     (line : ℕ) (set : ℕ → Bool) (old new : ℕ → Option Logged) (ids serial memory : List ℕ)
     → IsLineSize line → HoldsLater line set old → TakesBackInLogs set old new → IsByKey old ids
     → IsChained line old serial memory → IsChained line new serial (undone_set set old ids memory)
 
--- where the later tasks that conflict with an access are taken back, none is left that conflicts with it
+-- where the later tasks that conflict with an access are aborted, none is left that conflicts with it
 abbrev pub NoConflictIsLeft : Type 0
 NoConflictIsLeft =
     (set : ℕ → Bool) (old new : ℕ → Option Logged) (task : Logged) (at : ℕ)
@@ -63,7 +63,7 @@ CommitKeepsChain =
     → CommitsInLogs old new id task → IsChained line old serial memory
     → Replays serial task.log × IsChained line new (after_accesses serial task.log) memory
 
--- all tasks taken back, the latest first, leave the serial memory
+-- a rollback of all tasks, the latest first, leaves the serial memory
 abbrev pub AllLogsUndoneIsSerial : Type 0
 AllLogsUndoneIsSerial =
     (line : ℕ) (tasks : ℕ → Option Logged) (ids serial memory : List ℕ)
@@ -87,7 +87,7 @@ IdleTasksKeepChain =
     (line : ℕ) (old new : ℕ → Option Logged) (serial memory : List ℕ)
     → KeepsDispatched old new → IsChained line old serial memory → IsChained line new serial memory
 
--- a set is taken back by taking back its latest member, and then the others
+-- a set is rolled back by rolling back its latest member, and then the others
 abbrev pub LatestFirst : Type 0
 LatestFirst =
     (set : ℕ → Bool) (tasks : ℕ → Option Logged) (id : ℕ) (task : Logged) (ids memory : List ℕ)

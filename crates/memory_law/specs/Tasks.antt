@@ -48,7 +48,7 @@ abbrev pub logs : (ℕ → Option Logged) → List ℕ → List Access
 logs tasks [] = []
 logs tasks (id ∷ ids) = log_of (tasks id) ++ logs tasks ids
 
--- the element stands in the list
+-- the list contains the element
 abbrev pub In : {X : Type 0} → X → List X → Type 0
 In x [] = ⊥
 In x (y ∷ ys) = (x ≡ y) ⊎ In x ys
@@ -72,7 +72,7 @@ pub record IsByKey (tasks : ℕ → Option Logged) (ids : List ℕ) : Type 0 whe
   pub ascends : Ascends tasks ids
   pub complete : (id : ℕ) (task : Logged) → tasks id ≡ Some task → task.dispatched ≡ true → In id ids
 
--- the memory after the logs of the set's members among these are taken back, the last one first, each from its last
+-- the memory after a rollback of the logs of the set's members among these, the last one first, each from its last
 -- access on
 abbrev pub undone_set : (ℕ → Bool) → (ℕ → Option Logged) → List ℕ → List ℕ → List ℕ
 undone_set set tasks [] memory = memory

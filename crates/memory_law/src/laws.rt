@@ -29,14 +29,13 @@ pub fn store_keeps_chain()
     ensures { StoreKeepsChain }
 {}
 
-/// Law: a set that holds, with each member, each later task whose filter tells a line to which the member's log has a
-/// store is taken back, the latest first, and the other tasks chain to the memory that is left.
+/// Law: where a set contains, with each member, each later task whose filter reports a line to which the member's log
+/// has a store, and it is aborted, the latest first, the other tasks chain to the memory that is left.
 pub fn abort_keeps_chain()
     ensures { AbortKeepsChain }
 {}
 
-/// Law: where the later dispatched tasks that conflict with an access are taken back, none is left that conflicts
-/// with it.
+/// Law: where the later dispatched tasks that conflict with an access are aborted, none is left that conflicts with it.
 pub fn no_conflict_is_left()
     ensures { NoConflictIsLeft }
 {}
@@ -52,7 +51,7 @@ pub fn commit_keeps_chain()
     ensures { CommitKeepsChain }
 {}
 
-/// Law: all tasks taken back, the latest first, leave the serial memory.
+/// Law: a rollback of all tasks, the latest first, leaves the serial memory.
 pub fn all_logs_undone_is_serial()
     ensures { AllLogsUndoneIsSerial }
 {}
@@ -67,7 +66,7 @@ pub fn idle_tasks_keep_chain()
     ensures { IdleTasksKeepChain }
 {}
 
-/// Law: a set is taken back by taking back its latest member, and then the others.
+/// Law: a set is rolled back by rolling back its latest member, and then the others.
 pub fn latest_first()
     ensures { LatestFirst }
 {}

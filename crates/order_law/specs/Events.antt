@@ -7,7 +7,7 @@ use Rattle.fractal_vt.specs.Levels.{Open, levels_cmp}
 use Rattle.fractal_vt.specs.declared.vt.TheConstants.{MAX_LEVELS}
 use Rattle.order_law.specs.Tasks.{Keyed, levels_of, HasNumber, IsTimely, IsSame, IsSub, IsSuper}
 
--- what stands under this id now, and all others stay
+-- this id has the task `now`, or none, and all other ids have what they had
 pub record Changes (old new : ℕ → Option Keyed) (id : ℕ) (now : Option Keyed) : Type 0 where
   pub changed : new id ≡ now
   pub others : (k : ℕ) → k ≢ id → new k ≡ old k
@@ -81,8 +81,8 @@ pub record CommitsInKeys (old new : ℕ → Option Keyed) (id : ℕ) : Type 0 wh
   pub others : (k : ℕ) (x : Keyed) → k ≢ id → old k ≡ Some x → x.creator ≢ Some id → new k ≡ Some x
   pub none : (k : ℕ) → old k ≡ None → new k ≡ None
 
--- the tasks of the queues by id, all below the bound, and behind them the spilled ones of all blocks in any order; a
--- child of the heir has that for its creator there, and any other spilled task has none
+-- the tasks of the queues by id, all below the bound, followed by the spilled ones of all blocks in any order; there a
+-- child of the dispatched least task has that for its creator, and any other spilled task has none
 abbrev pub beside : ℕ → (ℕ → Option Keyed) → List Keyed → ℕ → Option Keyed
 beside bound queued spilled k = if nat_lt k bound then queued k else slice_get spilled (k - bound)
 

@@ -1,4 +1,5 @@
--- The laws: what keeps the order of the tasks, the least task and the heir, and what a cascade lies above.
+-- The laws: what keeps the order of the tasks, the least task and the dispatched least task, and what a cascade lies
+-- above.
 use Rattle.std.specs.Prelude.{◌≡◌, ◌≢◌, ◌⊎◌, ◌<◌, ℕ, ◌+◌, Bool, false, List, [], length, map, Option, Some}
 use Rattle.std.specs.declared.cmp.Ordering.TheVariants.{Less}
 use Rattle.fractal_vt.specs.Levels.{Open, levels_cmp}
@@ -92,26 +93,26 @@ DispatchMakesHeir =
     → IsLeastInKeys old dispatch.id dispatch.task
     → IsHeirInKeys new dispatch.id (with_dispatch_number dispatch.task next)
 
--- a dispatch of another task leaves the heir the heir
+-- a dispatch of another task keeps the dispatched least task
 abbrev pub DispatchKeepsHeir : Type 0
 DispatchKeepsHeir =
     (old new : ℕ → Option Keyed) (path : List Open) (next heir : ℕ) (task : Keyed)
     → DispatchesInKeys old new next → IsOrdered old path next → IsHeirInKeys old heir task → IsHeirInKeys new heir task
 
--- a new child leaves the heir the heir
+-- a new child keeps the dispatched least task
 abbrev pub EnqueueKeepsHeir : Type 0
 EnqueueKeepsHeir =
     (old new : ℕ → Option Keyed) (path : List Open) (next heir : ℕ) (task : Keyed)
     → EnqueuesInKeys old new → IsOrdered old path next → IsHeirInKeys old heir task → IsHeirInKeys new heir task
 
--- an abort of a set without the heir leaves it the heir
+-- an abort of a set without the dispatched least task keeps it so
 abbrev pub AbortKeepsHeir : Type 0
 AbortKeepsHeir =
     (set : ℕ → Bool) (old new : ℕ → Option Keyed) (path : List Open) (next heir : ℕ) (task : Keyed)
     → AbortsInKeys set old new → set heir ≡ false → IsOrdered old path next → IsHeirInKeys old heir task
     → IsHeirInKeys new heir task
 
--- a coalescing and a split leave the heir the heir
+-- a coalescing and a split keep the dispatched least task
 abbrev pub SpillKeepsHeir : Type 0
 SpillKeepsHeir =
     (bound : ℕ) (old new : ℕ → Option Keyed) (before after : List Keyed) (path : List Open) (next heir : ℕ)

@@ -37,8 +37,8 @@ pub record HasCreator (tasks : ℕ → Option Keyed) (creator : ℕ) (child : Ke
   pub below : levels_cmp (levels_of task) (levels_of child) ≡ Less
   pub kin : Kin task child
 
--- the key is no deeper than a key may be (the laws hold of any bound), and each of its timestamps is
--- one that its domain has
+-- the key is at most as deep as a key may be (the laws hold of any bound), and each of its timestamps is one that its
+-- domain has
 abbrev pub IsShaped : Keyed → Type 0
 IsShaped task = (length task.domain < MAX_LEVELS) × AllZip IsTimely task.kinds task.domain
     × IsTimely task.ordered task.last

@@ -22,7 +22,7 @@ pub fn enqueue_keeps_order()
     ensures { EnqueueKeepsOrder }
 {}
 
-/// Law: an abort, which takes tasks back to idle and discards others, keeps the order of the tasks.
+/// Law: an abort, which makes tasks idle again and discards others, keeps the order of the tasks.
 pub fn abort_keeps_order()
     ensures { AbortKeepsOrder }
 {}
@@ -69,22 +69,22 @@ pub fn dispatch_makes_heir()
     ensures { DispatchMakesHeir }
 {}
 
-/// Law: a dispatch of another task leaves the heir below all others.
+/// Law: a dispatch of another task leaves the dispatched least task below all others.
 pub fn dispatch_keeps_heir()
     ensures { DispatchKeepsHeir }
 {}
 
-/// Law: a new child leaves the heir below all others.
+/// Law: a new child leaves the dispatched least task below all others.
 pub fn enqueue_keeps_heir()
     ensures { EnqueueKeepsHeir }
 {}
 
-/// Law: an abort that does not take the heir leaves it below all others.
+/// Law: an abort that spares the dispatched least task leaves it below all others.
 pub fn abort_keeps_heir()
     ensures { AbortKeepsHeir }
 {}
 
-/// Law: a coalescing and a split leave the heir below all others.
+/// Law: a coalescing and a split leave the dispatched least task below all others.
 pub fn spill_keeps_heir()
     ensures { SpillKeepsHeir }
 {}
@@ -99,7 +99,7 @@ pub fn cascade_lies_above()
     ensures { CascadeLiesAbove }
 {}
 
-/// Law: a cascade whose first tasks lie above a task, as above the heir or the asker, does not take it.
+/// Law: a cascade whose first tasks lie above a task, such as the dispatched least task or the requester, spares it.
 pub fn cascade_spares_lower()
     ensures { CascadeSparesLower }
 {}

@@ -19,7 +19,7 @@ pub(crate) const EMITTING: [u32; 5] = [
 /// A task that begins at the first word of the text.
 pub(crate) const TASK: [u32; 5] = [0x0001_0000, 0, 0, 0, 0];
 
-/// Puts words behind what stands there, each with its lowest byte first.
+/// Appends words, each with its lowest byte first.
 fn put_words(bytes: &mut Vec<u8>, words: &[u32]) -> Result<(), AllocError> {
     for word in words {
         bytes.extend_from_slice(&word.to_le_bytes())?;

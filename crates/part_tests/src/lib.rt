@@ -1,6 +1,6 @@
 //! Tests of public calls of the crates from memory up to the report and the words of a command line.
 //!
-//! They stand in a crate of their own, since a crate with tests is proved twice. It has no code but tests.
+//! They have a crate of their own, because a crate with tests is proved twice. It has no code but tests.
 #![tactic(auto)]
 
 #[cfg(test)]

@@ -121,9 +121,9 @@ fn noted_lines(kind: FilterKind) -> Lines {
     lines
 }
 
-/// Lines, and whether a Bloom filter of those tells them as touched and as written. The first two were noted. Of 2,201
-/// all banks have the hash, of each line behind it all but the first bank, all but the second, and so on; the last has
-/// a greater number. Worked out by another program.
+/// Lines, and whether a Bloom filter of the first two reports them as touched and as written. Line 2,201 has its bits
+/// in all banks; each line after it in all but the first bank, in all but the second, and so on; the last has a greater
+/// number. Worked out by another program.
 static BLOOM: [(u32, bool, bool); 12] = [
     (14, true, true),
     (7, true, false),

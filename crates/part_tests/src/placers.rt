@@ -42,7 +42,7 @@ fn counting_placer(alloc: Global) -> Result<(Arc<AtomicU64>, Box<LastTile>), All
     Ok((placed, Box::new(alloc, placer)?))
 }
 
-/// Places a task by the first of the placers, and tells it.
+/// Places a task by the first of the placers, and reports it to that placer.
 fn place<P: Placer>(placers: &mut [P], hint: u32, loads: &[u32]) -> u32
     requires { IsTileCount (length loads.now) }
 {

@@ -36,7 +36,7 @@ static EMITTING: [u32; 18] = [
     0, // task
 ];
 
-/// The same, with 8 bytes of data that are the window.
+/// The task of `EMITTING`, with 8 bytes of data that are the window.
 static WINDOWED: [u32; 18] = [
     0x4341_5246,
     0x0001_0001,
@@ -93,7 +93,7 @@ static NESTING: [u32; 31] = [
     0, // task
 ];
 
-/// What is told of a text.
+/// The result of reading a text.
 #[derive(Clone, Copy, PartialEq)]
 enum Told {
     /// It is the report of a run.
@@ -108,7 +108,7 @@ enum Told {
     Memory,
 }
 
-/// A text, and what is told of it.
+/// A text, and the result of reading it.
 type Row = (&'static str, Told);
 
 /// Reports of the task that emits.

@@ -1,4 +1,4 @@
-//! What stands at a stop, under the rules of calls.
+//! What a task asks for at a stop, under the rules of calls.
 
 use guest_image::{DATA_START, Kind};
 use rv_core::{Core, Stop};
@@ -20,7 +20,7 @@ const CTX: Ctx = Ctx {
     bytes: 0,
 };
 
-/// The same task of an image in version 2.
+/// The task of `CTX` in an image of version 2.
 const IN_VERSION_2: Ctx = Ctx { version: 2, ..CTX };
 
 /// A core at a call with these values of x17, x10 and x11.

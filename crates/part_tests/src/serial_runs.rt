@@ -26,7 +26,7 @@ fn a_task_waits_for_its_turn(rt: HostRuntime) -> Result<(), Fail> {
     Ok(())
 }
 
-/// The task that may take the next turn takes it, and is told by the journal.
+/// The task that may take the next turn takes it, and is added to the journal.
 fn take_turn(image: &Image, serial: &mut Serial, journal: &mut Journal) -> Result<(), AllocError> {
     if let Some(name) = serial.next() {
         if serial.count() < MAX_COMMITS {
@@ -100,7 +100,7 @@ const FINDS_ZERO: [u32; 7] = [
     0x0000_0073,
 ];
 
-/// A task that enqueues as many children as its first argument tells, each of which ends at once.
+/// A task that enqueues as many children as its first argument says, each of which ends at once.
 const CREATOR: [u32; 10] = [
     0x0005_0493,
     0x0001_0537,

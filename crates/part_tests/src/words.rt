@@ -70,7 +70,7 @@ const GREATEST: Command = Command::Load {
     size: 100_000,
 };
 
-/// The words of a line, told apart by spaces.
+/// The words of a line, separated by spaces.
 fn words_of(alloc: Global, line: &str) -> Result<Vec<&str>, AllocError> {
     let mut words = Vec::new(alloc);
     for word in line.split(' ').filter(|word| !word.is_empty()) {

@@ -5,7 +5,7 @@ ghost use Rattle.place_policy.specs.Policy.{Policy, IsTileCount, after_placing};
 
 /// Picks tiles for new tasks. No call takes memory.
 pub trait Placer: Drop {
-    /// The state of the placer, and the two functions that tell what it does.
+    /// The state of the placer, and the two functions that define what it does.
     ghost policy: { Self → Policy };
 
     /// The tile for a task with this hint, where tile `k` has `loads[k]` tasks; there are 1 to 16 tiles. It changes

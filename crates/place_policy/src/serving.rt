@@ -20,7 +20,8 @@ pub fn serving_pick<P: Placer>(placers: &[P], hint: u32, loads: &[u32]) -> u32
     }
 }
 
-/// Tells the first of the placers that a task was placed in this tile; the others are not told. Takes no memory.
+/// Reports to the first of the placers that a task was placed in this tile; the others don't see it. It allocates no
+/// memory.
 #[tactic(auto, using(crate::proofs::Fronts::first_placed_front))]
 pub fn serving_placed<P: Placer>(placers: &mut [P], tile: u32)
     ensures { map P.policy placers.new ≡ first_placed (map P.policy placers.old) tile }

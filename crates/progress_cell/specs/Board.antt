@@ -7,7 +7,7 @@ use Rattle.progress_cell.specs.declared.reading.Reading.{Reading}
 use Rattle.progress_cell.specs.declared.view.PassView.{PassView}
 use Rattle.progress_cell.specs.declared.view.PassView.TheVariants.{Writes, Reads}
 
--- the board that a writer belongs to, and the readings that it told
+-- the board that a writer belongs to, and the readings that it wrote
 pub record WriterValue : Type 0 where
   pub board : TableId
   pub told : List Reading
@@ -17,7 +17,7 @@ pub record ReaderValue : Type 0 where
   pub board : TableId
   pub seen : List Reading
 
--- this view is a writer's, and this is the last reading that it told
+-- this view is a writer's, and this is the last reading that it wrote
 pub record IsWriter (v : PassView) (last : Reading) : Type 0 where
   pub writes : v ≡ Writes (readings_of v) (joined_of v)
   pub last_told : last ≡ last_of (readings_of v)

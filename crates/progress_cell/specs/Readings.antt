@@ -21,11 +21,11 @@ last_of [] = opening_reading
 last_of (reading ∷ []) = reading
 last_of (reading ∷ next ∷ rest) = last_of (next ∷ rest)
 
--- this reading stands at this place of a list
+-- a list has this reading at this place
 abbrev pub IsAtPlace : List Reading → ℕ → Reading → Type 0
 IsAtPlace readings place reading = slice_get readings place ≡ Some reading
 
--- each reading of `seen` stands in `told`, at places that never fall
+-- `told` contains each reading of `seen`, at places that never fall
 pub record StandsIn (seen told : List Reading) : Type 0 where
   pub places : List ℕ
   pub never_fall : AllPairs (λ place later. place ≤ later) places

@@ -11,7 +11,7 @@ use Rattle.progress_cell.specs.declared.view.PassView.TheVariants.{Writes, Reads
 abbrev pub reading_of : List ℕ → Reading
 reading_of words = record { commits = slice_index words 0; output = slice_index words 1 }
 
--- the readings that a pass told or saw
+-- the readings that a pass wrote or saw
 abbrev pub readings_of : PassView → List Reading
 readings_of (Writes told joined) = told
 readings_of (Reads seen) = seen
@@ -23,14 +23,14 @@ joined_of (Writes told joined) = joined
 joined_of (Reads seen) = []
 joined_of Spent = []
 
--- the writer's pass, the readings that it told and the lists that it took in
+-- the writer's pass, the readings that it wrote and the lists that it took in
 pub record Telling : Type 0 where
   pub writer : ℕ
   pub told : List Reading
   pub joined : List (List Reading)
 
--- the words are the last reading of `told`, which never falls, and the first of them has 32 bits; each list that the
--- writer took in stands in `told`
+-- the words are the last reading of `told`, which never falls, and the first of them has 32 bits; `told` contains each
+-- list that the writer took in
 pub record IsTold (telling : Telling) (words : List ℕ) : Type 0 where
   pub some : 0 < length telling.told
   pub last : reading_of words ≡ last_of telling.told
@@ -38,8 +38,8 @@ pub record IsTold (telling : Telling) (words : List ℕ) : Type 0 where
   pub never_falls : NeverFalls telling.told
   pub joined_stand : All (λ seen. StandsIn seen telling.told) telling.joined
 
--- what a pass may know: the writer's, and no other, knows what was told and taken in; what a reader saw stands in
--- `told`, and its last reading isn't above the words; of a spent pass nothing is asked
+-- what a pass may know: the writer's, and no other, knows what was written and taken in; `told` contains what a reader
+-- saw, and its last reading isn't above the words; of a spent pass nothing is asked
 abbrev pub PassFits : Telling → List ℕ → ℕ → PassView → Type 0
 PassFits telling words pass (Writes told joined) =
     (pass ≡ telling.writer) × (told ≡ telling.told) × (joined ≡ telling.joined)
@@ -50,7 +50,7 @@ PassFits telling words pass Spent = Unit {0}
 abbrev pub AllFit : Telling → List ℕ → List PassView → Type 0
 AllFit telling words views = (pass : ℕ) (v : PassView) → get_elem? views pass ≡ some v → PassFits telling words pass v
 
--- the rule: something was told that the words and all that is known fit
+-- the rule: there is a history of readings that the words and all that is known fit
 pub record RuleHolds (words : List ℕ) (views : List PassView) : Type 0 where
   pub telling : Telling
   pub told : IsTold telling words

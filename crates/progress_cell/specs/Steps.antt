@@ -17,7 +17,7 @@ PassSees v before after w =
     × IsAtMost (last_of (readings_of v)) (reading_of after)
     × (slice_index after 0 < 2 ^ 32)
 
--- a load by the writer's pass: its view stays, and each list that it took in stands in `told`
+-- a load by the writer's pass: its view stays, and `told` contains each list that it took in
 abbrev pub PassConfirms : PassView → List ℕ → List ℕ → PassView → Type 0
 PassConfirms v before after w = (w ≡ v) × All (λ seen. StandsIn seen (readings_of v)) (joined_of v)
 

@@ -11,7 +11,7 @@ use std::alloc::{AllocError, Global};
 use std::marker::Model;
 use std::sync::Wait;
 
-/// Two words that hold the last reading that was told. Threads share it by reference, or in an `Arc`.
+/// Two words that hold the last reading that was written. Threads share it by reference, or in an `Arc`.
 ///
 /// Contracts see which board it is: a writer belongs to the board that it was made with, and a reader to that of the
 /// writer or the reader that it came from. Each call takes only what belongs to its board.
@@ -28,8 +28,8 @@ impl Model for Board {
     ghost view = { λ board. board.cell.table.shared.table_id };
 }
 
-/// The right to tell readings on one board, which has one writer. Contracts see all readings that it told (`told`):
-/// a list that no memory is spent on. It may go to another thread.
+/// The right to write readings on one board, which has one writer. Contracts see all readings that it wrote (`told`): a
+/// list that needs no memory. It may go to another thread.
 #[derive(Drop)]
 pub struct Writer {
     pass: Pass<[u64; 2], PassView>,
@@ -49,7 +49,7 @@ impl Model for Writer {
 }
 
 impl Writer {
-    /// The last reading that was told; for a new writer no commits and no output. Looks at no word of the board.
+    /// The last reading that was written; for a new writer no commits and no output. Looks at no word of the board.
     pub fn last(&self) -> Reading
         ensures { result ≡ last_of self.now.told }
     {
@@ -58,7 +58,7 @@ impl Writer {
 }
 
 /// The right to read one board. Contracts see all readings that it saw (`seen`), of which the first is one that its
-/// writer had told when it was made: a list that no memory is spent on. It may go to another thread.
+/// writer had written when it was made: a list that needs no memory. It may go to another thread.
 #[derive(Drop)]
 pub struct Reader {
     pass: Pass<[u64; 2], PassView>,
@@ -77,8 +77,8 @@ impl Model for Reader {
 }
 
 impl Board {
-    /// A board with its writer, which has told that nothing is committed and nothing emitted. It takes all its memory
-    /// here, and an error is want of that and nothing else.
+    /// A board with its writer, whose first reading is that nothing is committed and nothing emitted. It allocates all
+    /// its memory here, and an error is want of that and nothing else.
     pub fn new(alloc: Global) -> Result<(Board, Writer), AllocError>
         ensures belongs { IfOk result (λ made. made.1.board ≡ made.0) }
         ensures told { IfOk result (λ made. made.1.told ≡ opening_reading ∷ []) }
@@ -91,7 +91,7 @@ impl Board {
         Ok((Board { cell }, Writer { pass, last }))
     }
 
-    /// Tells a reading, neither number of which may be below that of the last one. Costs 7 atomic operations on the
+    /// Writes a reading, neither number of which may be below that of the last one. Costs 7 atomic operations on the
     /// words, and waits while a reader that was overtaken holds them.
     pub fn publish<R: Wait>(&self, rt: &R, writer: &mut Writer, reading: Reading)
         requires belongs { writer.old.board ≡ self.now }
@@ -103,7 +103,7 @@ impl Board {
         writer.last = reading;
     }
 
-    /// A new reader, which has seen the last reading that was told. Costs one atomic operation, and never waits.
+    /// A new reader, which has seen the last reading that was written. Costs one atomic operation, and never waits.
     pub fn reader(&self, writer: &mut Writer) -> Reader
         requires belongs { writer.old.board ≡ self.now }
         ensures belongs { result.board ≡ self.now }
@@ -115,8 +115,8 @@ impl Board {
         }
     }
 
-    /// The reading that is told at some time in the call. Neither number is below that of the last one that this
-    /// reader saw. Costs 4 atomic operations; where a reading is told meanwhile, it waits for the words and then holds
+    /// The reading on the board at some time in the call. Neither number is below that of the last one that this reader
+    /// saw. Costs 4 atomic operations; where a reading is written meanwhile, it waits for the words and then holds
     /// them.
     pub fn read<R: Wait>(&self, rt: &R, reader: &mut Reader) -> Reading
         requires belongs { reader.old.board ≡ self.now }
@@ -142,8 +142,8 @@ impl Board {
         }
     }
 
-    /// Takes a reader in, and says that whatever it saw was told, in this order: each reading that it saw stands in
-    /// `told`, at places that never fall. Costs 6 atomic operations, and waits as `read` does.
+    /// Takes a reader in, and ensures that whatever it saw was written, in this order: `told` contains each reading
+    /// that it saw, at places that never fall. Costs 6 atomic operations, and waits as `read` does.
     pub fn join<R: Wait>(&self, rt: &R, writer: &mut Writer, reader: Reader)
         requires writer_belongs { writer.old.board ≡ self.now }
         requires reader_belongs { reader.board ≡ self.now }
@@ -154,7 +154,7 @@ impl Board {
         let Reader { mut pass } = reader;
         let whole = self.cell.split_pass::<Leave>(&mut pass);
         self.cell.join_pass::<TakeIn>(&mut writer.pass, whole);
-        // A load tells what the rule says of the lists that the writer took in.
+        // A load returns what the rule says of the lists that the writer took in.
         self.cell.load_as::<Confirm, R>(rt, &mut writer.pass);
     }
 }

@@ -21,7 +21,7 @@ impl Protocol<[u64; 2], PassView> for Rises {
     ghost first = { Writes (opening_reading ∷ []) [] };
 }
 
-/// A store by the writer's pass: it tells a reading.
+/// A store by the writer's pass: it writes a reading.
 pub(crate) struct Store;
 
 impl Outcome<[u64; 2], PassView> for Store {
@@ -35,7 +35,7 @@ impl Outcome<[u64; 2], PassView> for See {
     ghost then = { PassSees };
 }
 
-/// A load by the writer's pass: it confirms that what it took in was told.
+/// A load by the writer's pass: it confirms that what it took in was written.
 pub(crate) struct Confirm;
 
 impl Outcome<[u64; 2], PassView> for Confirm {

@@ -22,7 +22,7 @@ pub record IsReplayed (image : ImageValue) (commits budget : ℕ) (journal : Lis
   pub run : IsRun image budget journal after
   pub within : length journal ≤ commits
 
--- the task of an entry takes its turn, and the entry tells another depth or timestamp
+-- the task of an entry takes its turn, and the entry has another depth or timestamp
 pub record DiffersFromTurn (image : ImageValue) (budget : ℕ) (s : SerialState) (entry : Entry) : Type 0 where
   pub after : SerialState
   pub found : Entry
@@ -30,7 +30,7 @@ pub record DiffersFromTurn (image : ImageValue) (budget : ℕ) (s : SerialState)
   pub other : found ≢ entry
 
 -- why the entry at a place of the journal doesn't go on with the run that led to this state: the limit is reached, the
--- entry tells its turn otherwise, or the serial machine refuses the turn so
+-- entry differs from its turn, or the serial machine refuses the turn so
 abbrev pub IsNoTurn : ImageValue → ℕ → ℕ → ℕ → SerialState → Entry → Option TurnFault → Type 0
 IsNoTurn image commits budget place s entry None =
     (place ≡ commits) ⊎ ((place < commits) × DiffersFromTurn image budget s entry)
@@ -108,13 +108,13 @@ IsVerdict image commits budget report (verdicts.Illegal line why) =
     ⊎ IsWrongEnd image commits budget report line why
 IsVerdict image commits budget report verdicts.Memory = Unit {0}
 
--- the line that a verdict tells, if it tells one
+-- the line that a verdict names, if it names one
 abbrev pub line_of_verdict : Verdict → Option ℕ
 line_of_verdict verdicts.Yes = None
 line_of_verdict (verdicts.Illegal line why) = Some line
 line_of_verdict verdicts.Memory = None
 
--- two verdicts on one report, want of memory aside, tell the same line, or both none
+-- two verdicts on one report, neither of them Memory, name the same line, or both none
 abbrev pub AgreeOnTheLine : Type 0
 AgreeOnTheLine = (image : ImageValue) (commits budget : ℕ) (report : Report) (v w : Verdict)
     → v ≢ verdicts.Memory → w ≢ verdicts.Memory

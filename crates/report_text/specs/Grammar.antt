@@ -40,7 +40,7 @@ window_in line =
     hex_word p.0 >>= λ addr. hex_word p.1 >>= λ value.
     Some (record { addr = addr; value = value })
 
--- what stands behind `end trap `: `<cause> <pc> <creator>.<index>`
+-- the trap that ends a run, from the text after `end trap `: `<cause> <pc> <creator>.<index>`
 unfoldable pub trap_in : List ℕ → Option End
 trap_in rest =
     field 32 rest >>= λ a. cut 32 a.1 >>= λ p. hex_word p.0 >>= λ pc. field 46 p.1 >>= λ b. number b.1 >>= λ index.
@@ -54,7 +54,7 @@ end_in line =
     else if bytes_eq line (codes "end open") then Some ends.Unfinished
     else behind (codes "end trap ") line >>= trap_in
 
--- whether there is no line
+-- whether there are zero lines
 abbrev pub is_nothing : List (List ℕ) → Bool
 is_nothing [] = true
 is_nothing (l ∷ ls) = false
@@ -65,13 +65,13 @@ abbrev pub onto_window : List WindowWord → Result (List WindowWord × End) ℕ
 onto_window front (Ok r) = Ok (front ++ r.0, r.1)
 onto_window front (Err line) = Err line
 
--- line k is a word of the window, with what the lines behind it say, or it is outside
+-- line k is a word of the window, with what the lines after it say, or it is outside
 abbrev pub after_window_word : ℕ → Option WindowWord → Result (List WindowWord × End) ℕ
     → Result (List WindowWord × End) ℕ
 after_window_word k None rest = Err k
 after_window_word k (Some w) rest = onto_window (w ∷ []) rest
 
--- line k is the end, behind which nothing stands, or else what the rest says
+-- line k is the end, after which no line may follow, or else what the rest says
 abbrev pub after_end : ℕ → List (List ℕ) → Option End → Result (List WindowWord × End) ℕ
     → Result (List WindowWord × End) ℕ
 after_end k ls None rest = rest
@@ -92,18 +92,18 @@ abbrev pub onto_journal : List Entry → Result Report ℕ → Result Report ℕ
 onto_journal front (Ok r) = Ok (record r { journal = front ++ r.journal })
 onto_journal front (Err line) = Err line
 
--- line n + 1 is the n-th entry, with what the lines behind it say, or it is outside
+-- line n + 1 is the n-th entry, with what the lines after it say, or it is outside
 abbrev pub after_entry : ℕ → Option Entry → Result Report ℕ → Result Report ℕ
 after_entry n None rest = Err (n + 1)
 after_entry n (Some e) rest = onto_journal (e ∷ []) rest
 
--- the line has the output, with what the lines behind it say, or else what the rest says
+-- the line has the output, with what the lines after it say, or else what the rest says
 abbrev pub after_output : Option (List ℕ) → Result (List WindowWord × End) ℕ → Result Report ℕ
     → Result Report ℕ
 after_output None window rest = rest
 after_output (Some output) window rest = with_output output window
 
--- the entries from the n-th on, which stands in line n + 1, and all behind them, or the first line outside
+-- the entries from the n-th on, which is line n + 1, and all after them, or the first line outside
 abbrev pub entries_at : ℕ → List (List ℕ) → Result Report ℕ
 entries_at n [] = Err (n + 1)
 entries_at n (l ∷ ls) =

@@ -1,4 +1,4 @@
--- What the replay of a journal finds, and how the run behind it may end.
+-- What the replay of a journal finds, and how the run may end after it.
 use Rattle.std.specs.Prelude.{ℕ, ◌≡◌, Bool, List, length, MatchBool}
 use Rattle.guest_image.specs.ImageValue.{ImageValue}
 use Rattle.run_journal.specs.declared.journal.Entry.{Entry}

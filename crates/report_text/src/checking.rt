@@ -15,9 +15,8 @@ use guest_image::Image;
 use run_law::serial_machine::{End, Entry, Serial, TurnFault};
 use std::alloc::Global;
 
-/// Whether a report is that of a run of the image with these limits: `commits` is 1 to 1,000,000 and
-/// `budget` 1 to 65,536. Illegal tells the first line that isn't the run's. A report that is accepted meets the laws
-/// of runs.
+/// Whether a report is that of a run of the image with these limits: `commits` is 1 to 1,000,000 and `budget` 1 to
+/// 65,536. `Illegal` names the first line that isn't the run's. A report that is accepted meets the laws of runs.
 pub fn check(alloc: Global, image: &Image, commits: u32, budget: u32, report: &Report) -> Verdict
     requires commits { (1 ≤ commits) × (commits ≤ MAX_COMMITS) }
     requires budget { (1 ≤ budget) × (budget ≤ MAX_BUDGET) }
@@ -158,7 +157,7 @@ fn wrong_word(image: &Image, memory: &[u8], window: &[WindowWord]) -> Option<u32
     }
 }
 
-// Whether this word stands at the place.
+// Whether the window has this word at the place.
 fn is_word_at(window: &[WindowWord], place: u32, word: WindowWord) -> bool
     ensures { MatchBool result (slice_get window.now place ≡ Some word) (slice_get window.now place ≢ Some word) }
 {

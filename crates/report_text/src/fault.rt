@@ -1,4 +1,4 @@
-//! Why a text is no report.
+//! Why a text isn't a report.
 
 use thiserror::Error;
 

@@ -12,8 +12,8 @@ use run_law::serial_machine::{Bytes, End, Journal};
 use std::alloc::Global;
 use text_lines::next_line;
 
-/// The report that a text is. `Line` tells the first line outside the grammar; a line that is
-/// missing is told by the number that it should have.
+/// The report that a text is. `Line` names the first line outside the grammar; a line that is missing has the number
+/// that it should have.
 pub fn read_journal(alloc: Global, text: &[u8]) -> Result<Report, JournalFault>
     requires { length text.now < 4294967295 }
     ensures { GivesRead result (report_of text.now) }

@@ -2,8 +2,8 @@
 
 use run_law::serial_machine::{Bytes, End, Items, Journal};
 
-/// A word of the window. In a report of a run the address is a multiple of 4 in the data, and the word stands there at
-/// the end; a report that was read may say anything.
+/// A word of the window. In a report of a run the address is a multiple of 4 in the data, and the data has the word
+/// there at the end; a report that was read may say anything.
 #[derive(Clone, Copy, Debug, PartialEq, Eq)]
 pub struct WindowWord {
     /// The address of the word in the guest.

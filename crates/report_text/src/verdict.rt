@@ -11,8 +11,8 @@ pub enum Verdict {
     Illegal {
         /// The number of the line, from 1 on.
         line: u32,
-        /// Why the serial machine refuses the turn, where the line is an entry up to the commit limit
-        /// that is no legal turn. One cause that holds: of two smaller timestamps either may be told.
+        /// Why the serial machine refuses the turn, where the line is an entry up to the commit limit that isn't a
+        /// legal turn. One of the causes that hold: of two smaller timestamps it may name either.
         why: Option<TurnFault>,
     },
     /// Out of memory.
@@ -35,7 +35,7 @@ pub enum Examined {
     Memory,
 }
 
-/// Why the entries of a report are no run.
+/// Why the entries of a report aren't a run.
 #[derive(Clone, Copy, Debug, PartialEq, Eq)]
 pub(crate) enum NoRun {
     Line { line: u32, why: Option<TurnFault> },

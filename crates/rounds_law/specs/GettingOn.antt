@@ -1,4 +1,4 @@
--- That a course in rounds gets on.
+-- That rounds in lockstep make progress.
 use Rattle.std.specs.Prelude.{◌+◌, ◌*◌, ◌≤◌, ℕ, List, length}
 use Rattle.guest_image.specs.ImageValue.{ImageValue}
 use Rattle.watch_counts.specs.event_def.Book.{BookView}

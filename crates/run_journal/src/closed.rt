@@ -2,7 +2,7 @@
 
 use crate::journal::{Bytes, Journal};
 
-/// What a book of events leaves once it is closed and its uncommitted tasks are taken back.
+/// What a book of events leaves once it is closed and its uncommitted tasks are aborted.
 #[derive(Drop)]
 pub struct Closed {
     /// The committed tasks, in the order of their commits.

@@ -1,4 +1,4 @@
--- Plain instructions, and what stands at a core. The image, how many bytes its data has, and the task budget are given.
+-- Plain instructions, and what a core does next. The image, how many bytes its data has, and the task budget are given.
 use Rattle.std.specs.Option.{option_or}
 use Rattle.std.specs.Prelude.{ℕ, ◌+◌, ◌-◌, ◌%◌, ◌==◌, not, nat_lt, List, slice_index, replicate, Option, Some, None}
 use Rattle.std.specs.Prelude.{◌≡◌}
@@ -76,7 +76,7 @@ store_next version size core width addr value =
     else if is_within DATA_START size addr (store_width width) then Stops (stop.Store width addr value)
     else traps core 7
 
--- what comes of what an instruction does (trap 3: target misaligned, 4 and 6: access misaligned, 8: break)
+-- the result of what an instruction does (trap 3: target misaligned, 4 and 6: access misaligned, 8: break)
 abbrev pub effect_next : ImageValue → ℕ → Core → Effect → Next
 effect_next image size core (does.Plain pc rd value) = Goes (core_after core pc rd value)
 effect_next image size core (does.Load width rd addr) =
@@ -89,12 +89,12 @@ effect_next image size core does.Call = Stops stop.Call
 effect_next image size core does.Break = traps core 8
 effect_next image size core does.Misaligned = traps core 3
 
--- what comes of an instruction (trap 2: the word is none)
+-- the result of an instruction (trap 2: the word isn't an instruction)
 abbrev pub instr_next : ImageValue → ℕ → Core → Option Instr → Next
 instr_next image size core None = traps core 2
 instr_next image size core (Some instr) = effect_next image size core (acts_on core.pc core.regs instr)
 
--- what comes of a word (trap 1: the pc is misaligned or outside the text)
+-- the result of a word (trap 1: the pc is misaligned or outside the text)
 abbrev pub word_next : ImageValue → ℕ → Core → Option ℕ → Next
 word_next image size core None = traps core 1
 word_next image size core (Some word) = instr_next image size core (instr_of_word word)

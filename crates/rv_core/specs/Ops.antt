@@ -26,7 +26,7 @@ use Rattle.rv_core.specs.declared.state.Core.{Core}
 use Rattle.rv_core.specs.declared.state.Stop.{Stop}
 use Rattle.rv_core.specs.declared.state.Stop.TheVariants as stop
 
--- what an operation is, with immediates as words and offsets in words of the text; Other is told by its word alone
+-- what an operation is, with immediates as words and offsets in words of the text; Other needs its word
 pub data Shape : Type 0 where
   Put : (rd value : ℕ) → Shape
   Jump : (rd words : ℕ) → Shape
@@ -88,7 +88,7 @@ shape (op.AndOwn rd rs2) = Two reg_op.And rd rd rs2
 shape (op.Beqz rs1 words) = Branch cond.Eq rs1 0 words
 shape (op.Bnez rs1 words) = Branch cond.Ne rs1 0 words
 
--- an offset in bytes as one in words: Other where it is no multiple of 4
+-- an offset in bytes as one in words: Other where it isn't a multiple of 4
 abbrev pub in_words : ℕ → (ℕ → Shape) → Shape
 in_words offset make = if offset % 4 == 0 then make (shift_signed (offset % 2 ^ 32) 2) else Other
 
@@ -142,7 +142,7 @@ cursor index regs = record { index = index; regs = regs }
 abbrev pub cursor_after_put : Cursor → ℕ → ℕ → Cursor
 cursor_after_put from rd value = cursor (plus from.index 1) (set_word from.regs rd value)
 
--- to an address, with a register written: none where it is no multiple of 4
+-- to an address, with a register written: None where it isn't a multiple of 4
 abbrev pub jump_to : Cursor → ℕ → ℕ → Option Cursor
 jump_to from rd target =
     if target % 4 == 0
@@ -262,7 +262,7 @@ op_next version shape from =
     option_or (option_map (λ to. record from { cursor = to }) (shape_next shape from.cursor))
     (stack_next version shape from)
 
--- the operation that stands at a point leads to another one
+-- the operation at a point leads to another point
 abbrev pub OpLeads : ℕ → List Op → Point → Point → Type 0
 OpLeads version ops from to =
     (op : Op) × (slice_get ops from.cursor.index ≡ Some op) × (op_next version (shape op) from ≡ Some to)

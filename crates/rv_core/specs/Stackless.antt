@@ -15,7 +15,8 @@ abbrev pub next_with_stack : List ℕ → Next → Next
 next_with_stack stack (Goes core) = Goes (with_stack stack core)
 next_with_stack stack (Stops found) = Stops found
 
--- no address of a task of version 1 reaches a stack: whatever bytes stand there, the same comes next, and they stay
+-- no address of a task of version 1 reaches a stack: whatever bytes a stack has, the next result is the same, and they
+-- stay
 abbrev pub NoAddressReachesAStack : Type 0
 NoAddressReachesAStack = (image : ImageValue) (size budget : ℕ) (core : Core) (stack : List ℕ) → image.version ≡ 1
     → next_at image size budget (with_stack stack core) ≡ next_with_stack stack (next_at image size budget core)

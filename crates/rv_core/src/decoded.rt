@@ -61,8 +61,8 @@ impl<N: Naming> Decoded<N> {
         }
     }
 
-    /// Does the operations that stand at a core and touch registers and stack alone, at most so many: how many they
-    /// were.
+    /// Does the operations from a core on that need registers and stack alone, at most `limit` of them, and returns how
+    /// many it did.
     fn run_ops(&self, version: u16, core: &mut Core, limit: u32) -> u32
         requires version { version ≡ N.image.version }
         requires used { core.old.used + limit < 2 ^ 32 }
@@ -88,7 +88,8 @@ impl<N: Naming> Decoded<N> {
         steps
     }
 
-    /// What a run stops at here, where a decoded word tells it: a call, or an access to the data that doesn't trap.
+    /// What a run stops at here, where a decoded word determines it: a call, or an access to the data that doesn't
+    /// trap.
     fn stop_at(&self, data_size: u32, core: &Core) -> Option<Stop>
         ensures { IfSome result (λ found. (budget : ℕ) → core.now.used < budget
             → next_at N.image data_size budget core.now ≡ Stops found) }
@@ -190,7 +191,7 @@ fn act_whole(op: &Op, version: u16, index: u32, regs: &mut Regs, stack: &mut [u8
     }
 }
 
-/// Executes the plain instruction that stands at a core, or tells what stands there.
+/// Executes the instruction at a core if it is plain, or returns what is there.
 fn execute_here<N: Naming>(
     decoded: &Decoded<N>,
     image: &Image,

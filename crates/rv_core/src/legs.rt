@@ -157,7 +157,7 @@ fn store(
     }
 }
 
-/// Executes what an instruction does if that is plain, or tells what it is.
+/// Executes what an instruction does if that is plain, or returns what it is.
 fn obey(
     image: &Image,
     data_size: u32,
@@ -195,8 +195,8 @@ fn obey(
     }
 }
 
-/// Executes the plain instruction that stands at a core, or tells what stands there and leaves the core as it is.
-/// Inlined with `decode_at` and `effect`, so that no instruction or effect is built in memory.
+/// Executes the instruction at a core if it is plain, or returns what is there and leaves the core as it is. Inlined
+/// with `decode_at` and `effect`, so that no instruction or effect is built in memory.
 #[tactic(auto, unfolding(crate::specs::Legs::next_at))]
 pub(crate) fn execute<const CALLER: usize>(
     image: &Image,
@@ -222,7 +222,7 @@ pub(crate) fn execute<const CALLER: usize>(
     obey(image, data_size, head, stack, effect)
 }
 
-/// Runs plain instructions from a core on, whose stack stands beside it.
+/// Runs plain instructions from a core on, whose stack is kept beside it.
 #[tactic(auto, using(crate::proofs::Runs::plain_facts))]
 fn run_head(
     image: &Image,
@@ -247,8 +247,8 @@ fn run_head(
     (quantum, Stop::Quantum)
 }
 
-/// Runs plain instructions from a core on, in place, at most `quantum` of them, and tells how many there were and what
-/// it stopped at.
+/// Runs plain instructions from a core on, in place, at most `quantum` of them, and returns how many it ran and what it
+/// stopped at.
 pub(crate) fn run_in_place(
     image: &Image,
     data_size: u32,

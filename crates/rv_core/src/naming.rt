@@ -130,8 +130,8 @@ impl<N: Naming> Leg<N> {
         core.put(&self.to);
     }
 
-    /// Puts the core after the load at which it ends in the place of another, as
-    /// [`after_load`](crate::after_load) tells it.
+    /// Replaces a core by the one after the load at which the leg ends, as [`after_load`](crate::after_load) returns
+    /// it.
     pub fn put_after_load(&self, core: &mut NotedCore, width: LoadWidth, rd: Reg, raw: u32)
         requires { self.now.to.used < 2 ^ 32 - 1 }
         ensures { core.new ≡ after_load_of self.now.to width rd raw }
@@ -139,8 +139,8 @@ impl<N: Naming> Leg<N> {
         core.put_after_load(&self.to, width, rd, raw);
     }
 
-    /// Puts the core after the instruction at which it ends, which writes no register, in the place of another, as
-    /// [`after_other`](crate::after_other) tells it.
+    /// Replaces a core by the one after the instruction at which the leg ends, which writes no register, as
+    /// [`after_other`](crate::after_other) returns it.
     pub fn put_after_other(&self, core: &mut NotedCore)
         requires { self.now.to.used < 2 ^ 32 - 1 }
         ensures { core.new ≡ after_other_of self.now.to }

@@ -63,7 +63,7 @@ impl NotedCore {
         }
     }
 
-    /// The same core once more.
+    /// A copy of this core.
     pub(crate) fn copy(&self) -> NotedCore
         ensures { result ≡ self.now }
     {
@@ -120,7 +120,7 @@ impl NotedCore {
         self.core.used = 0;
     }
 
-    /// Puts the core after a load in this place, as [`after_load`](crate::after_load) tells it.
+    /// Replaces this core by the one after a load, as [`after_load`](crate::after_load) returns it.
     pub(crate) fn put_after_load(&mut self, from: &NotedCore, width: LoadWidth, rd: Reg, raw: u32)
         requires { from.now.used < 2 ^ 32 - 1 }
         ensures { self.new ≡ after_load_of from.now width rd raw }
@@ -131,8 +131,8 @@ impl NotedCore {
         self.core.used += 1;
     }
 
-    /// Puts the core after an instruction that writes no register in this place, as
-    /// [`after_other`](crate::after_other) tells it.
+    /// Replaces this core by the one after an instruction that writes no register, as
+    /// [`after_other`](crate::after_other) returns it.
     pub(crate) fn put_after_other(&mut self, from: &NotedCore)
         requires { from.now.used < 2 ^ 32 - 1 }
         ensures { self.new ≡ after_other_of from.now }
@@ -167,7 +167,8 @@ impl NotedCore {
         done
     }
 
-    /// The same on decoded text.
+    /// Runs plain instructions from this core on, in place, at most `quantum` of them, on decoded text. It returns how
+    /// many it ran and what it stopped at.
     pub(crate) fn run_decoded<N: Naming>(
         &mut self,
         decoded: &Decoded<N>,

@@ -21,7 +21,7 @@ use undo_log::{number_in, write_in};
 /// An instruction with one tag. Immediates are words, and offsets of jumps and branches count words of the text.
 #[derive(Clone, Copy)]
 pub enum Op {
-    /// What its word alone tells.
+    /// An operation that needs its word.
     Slow,
     /// FENCE, and what would write `x0` and does nothing else.
     Fence,
@@ -248,7 +248,7 @@ fn imm_op(op: ImmOp, rd: Target, rs1: Reg, imm: u32) -> Op
     }
 }
 
-/// The same to the register that it reads.
+/// The operation of an immediate that writes the register that it reads.
 fn own_imm_op(op: ImmOp, rd: Target, imm: u32) -> Op
     ensures { shape result ≡ Shape.Imm (with_register op) rd rd imm }
 {
@@ -279,7 +279,7 @@ fn reg_op(op: RegOp, rd: Target, rs1: Reg, rs2: Reg) -> Op
     }
 }
 
-/// The same to the register that it reads first.
+/// The operation of two registers that writes the one that it reads first.
 fn own_reg_op(op: RegOp, rd: Target, rs2: Reg) -> Op
     ensures { shape result ≡ Shape.Two op rd rd rs2 }
 {
@@ -306,7 +306,7 @@ fn branch_op(cond: Cond, rs1: Reg, rs2: Reg, words: u32) -> Op
     }
 }
 
-/// The same, by two registers of which the second may be `x0`.
+/// The operation of a branch by two registers, of which the second may be `x0`.
 fn branch_on(cond: Cond, rs1: Reg, rs2: Reg, words: u32) -> Op
     ensures { shape result ≡ Shape.Branch cond rs1 rs2 words }
 {

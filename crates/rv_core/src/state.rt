@@ -16,7 +16,7 @@ pub struct Core {
     pub regs: Regs,
     /// How many instructions the task has executed.
     pub used: u32,
-    /// The bytes of its stack, which stands at `STACK_START` in version 2. In version 1 no address reaches it.
+    /// The bytes of its stack, which is at `STACK_START` in version 2. In version 1 no address reaches it.
     pub stack: [u8; 1024],
 }
 

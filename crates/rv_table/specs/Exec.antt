@@ -75,7 +75,7 @@ with_register imm_op.Sll = reg_op.Sll
 with_register imm_op.Srl = reg_op.Srl
 with_register imm_op.Sra = reg_op.Sra
 
--- a jump, with the register that it writes: misaligned where the target is no multiple of 4 (section 2.5)
+-- a jump, with the register that it writes: misaligned where the target isn't a multiple of 4 (section 2.5)
 abbrev pub jump : ℕ → ℕ → ℕ → Effect
 jump rd value target = if target % 4 == 0 then does.Plain target rd value else does.Misaligned
 

@@ -92,7 +92,7 @@ fn go_on(pc: u32, rd: Reg, value: u32) -> Effect
     }
 }
 
-/// To a target, with a register written; misaligned, with none written, where the target is no multiple of 4.
+/// A jump to a target, with a register written; misaligned, with none written, where the target isn't a multiple of 4.
 fn jump_to(rd: Reg, value: u32, target: u32) -> Effect
     ensures { result ≡ jump rd value target }
 {

@@ -289,8 +289,8 @@ pub fn decode(word: u32) -> Option<Instr>
     decode_at::<0>(word)
 }
 
-/// The same as `decode`, of which each `CALLER` gets machine code of its own: LLVM joins a function of this size to
-/// the code around a call only where there is no other call of it.
+/// The instruction that a word stands for, as `decode` returns it. Each `CALLER` gets machine code of its own: LLVM
+/// inlines a function of this size only where it has a single call.
 pub fn decode_at<const CALLER: usize>(word: u32) -> Option<Instr>
     ensures { result ≡ instr_of_word word }
 {

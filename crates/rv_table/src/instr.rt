@@ -191,7 +191,7 @@ pub enum Instr {
     Ebreak,
 }
 
-/// What an instruction does, as far as the pc and the registers alone tell it.
+/// What an instruction does, as far as the pc and the registers alone determine it.
 #[derive(Clone, Copy, Debug, PartialEq, Eq)]
 pub enum Effect {
     /// It goes to `pc` and writes `value` to `rd`; `rd` and `value` are 0 where it writes no register.
@@ -225,6 +225,6 @@ pub enum Effect {
     Call,
     /// It is a breakpoint.
     Break,
-    /// It is a jump or a taken branch to a target that is no multiple of 4, and writes no register.
+    /// It is a jump or a taken branch to a target that isn't a multiple of 4, and writes no register.
     Misaligned,
 }

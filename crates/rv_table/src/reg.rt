@@ -42,7 +42,7 @@ impl Reg {
         self.number
     }
 
-    /// The same register, where it can be written: all but `x0`.
+    /// This register as one that can be written: None exactly for `x0`.
     pub fn target(self) -> Option<Target>
         ensures { result ≡ (if self == 0 then None else Some self) }
     {
@@ -73,7 +73,7 @@ impl Model for Target {
 }
 
 impl Target {
-    /// The same register, to read.
+    /// This register as one to read.
     pub fn reg(self) -> Reg
         ensures { result ≡ self }
     {

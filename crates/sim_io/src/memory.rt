@@ -12,7 +12,7 @@ use crate::streams::{Failed, Sink, Source};
 use std::alloc::{AllocError, Global};
 use std::marker::Model;
 
-/// A source over bytes in memory, which gives a piece at a time and fails at the calls that it is told.
+/// A source over bytes in memory, which gives a piece at a time and fails at given calls.
 #[derive(Drop)]
 pub struct MemSource {
     bytes: Vec<u8>,
@@ -118,8 +118,8 @@ impl Source for CleanSource {
     }
 }
 
-/// A sink into memory, which takes a piece at a time and fails at the calls that it is told and where it is full,
-/// also at a write of no bytes.
+/// A sink into memory, which takes a piece at a time and fails at given calls and where it is full, also at a write of
+/// no bytes.
 #[derive(Drop)]
 pub struct MemSink {
     bytes: Vec<u8>,

@@ -1,4 +1,4 @@
-//! A source over standard input and a sink over standard output. They tell no bytes.
+//! A source over standard input and a sink over standard output. Contracts don't see their bytes.
 
 ghost use Rattle.std.specs.Prelude.{◌≡◌, ◌<◌, IfOk, None, length, if◌then◌else◌, is_ok};
 ghost use Rattle.std.specs.Io.{ReadsAtMost, WritesAtMost};
@@ -92,7 +92,7 @@ impl<'a, R: Print> Sink for StdSink<'a, R> {
     {
         match self.rt.write_some(piece) {
             Ok(count) if count > 0 || piece.is_empty() => Ok(count),
-            // A stream that takes nothing of a piece with bytes would never come to its end.
+            // A stream that takes nothing of a piece with bytes would never end.
             Ok(_) | Err(_) => {
                 self.faults = self.faults.saturating_add(1);
                 Err(Failed)

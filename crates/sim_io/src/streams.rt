@@ -12,7 +12,7 @@ pub struct Failed;
 
 /// Where bytes come from.
 pub trait Source {
-    /// The bytes that are left, where they are told, and how often it failed, which never falls.
+    /// The bytes that are left, where they are known, and how often it failed, which never falls.
     ghost state: { Self → SourceState };
 
     /// Gives the first bytes that are left. `Ok(0)` on a buffer that isn't empty is the end of the input.
@@ -24,7 +24,7 @@ pub trait Source {
 
 /// Where bytes go.
 pub trait Sink {
-    /// The bytes that were taken, where they are told, and how often it failed, which never falls.
+    /// The bytes that were taken, where they are known, and how often it failed, which never falls.
     ghost state: { Self → SinkState };
 
     /// Takes the first bytes of the piece, and at least one where it has any.

@@ -10,7 +10,7 @@ abbrev pub after_pushes : List Spilled → List Spilled → List Spilled
 after_pushes tasks [] = tasks
 after_pushes tasks (task ∷ more) = after_pushes (after_push tasks task) more
 
--- what is pushed into an empty block stands there, each task once, none after one with a greater key
+-- an empty block has what is pushed into it, each task once, none after one with a greater key
 abbrev pub PushesStandInOrder : Type 0
 PushesStandInOrder = (tasks : List Spilled)
     → IsPermutation tasks (after_pushes [] tasks) × IsInOrder by_key (after_pushes [] tasks)

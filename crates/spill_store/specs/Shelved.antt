@@ -3,7 +3,7 @@ use Rattle.std.specs.Prelude.{◌≡◌, ℕ, ◌+◌, ◌<◌, ◌≤◌, ◌^�
 use Rattle.std.specs.List.{IsDistinct}
 use Rattle.spill_store.specs.SpilledTasks.{Spilled}
 
--- what stands at a place past the end
+-- the contents of a place past the end
 abbrev pub blank_spilled : Spilled
 blank_spilled = record {
   desc = record {

@@ -36,7 +36,7 @@ open_key task = record { domain = task.domain; ts = task.desc.ts; tb = None }
 abbrev pub by_key : Spilled → Spilled → Ordering
 by_key = on open_key key_cmp
 
--- the tasks after a push: the new one stands behind all whose keys are not greater
+-- the tasks after a push: the new one is after all whose keys are not greater
 abbrev pub after_push : List Spilled → Spilled → List Spilled
 after_push tasks task = after_insert by_key task tasks
 

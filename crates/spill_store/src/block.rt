@@ -19,9 +19,9 @@ use task_desc::Desc;
 
 /// The spilled tasks of one tile by their open keys, those of one key in the order in which they were pushed.
 ///
-/// Each stays at its place; a ring has the numbers of these places, the least task's at its front. To take
-/// that moves nothing, and a push, which finds its place by comparisons in the logarithm of the length, moves the
-/// numbers before it or those behind it, whichever are fewer.
+/// Each stays at its place; a ring has the numbers of these places, the least task's at its front. To take the least
+/// task moves nothing, and a push, which finds its place by comparisons in the logarithm of the length, moves the
+/// numbers before it or those after it, whichever are fewer.
 #[derive(Drop)]
 pub struct Block {
     shelf: Shelf,

@@ -8,7 +8,7 @@ pub fn block_gives_back()
     ensures { ComesBackLeastFirst }
 {}
 
-/// Law: what is pushed into an empty block stands there, each task once, the least key first.
+/// Law: an empty block has what is pushed into it, each task once, the least key first.
 pub fn pushes_stand_in_order()
     ensures { PushesStandInOrder }
 {}

@@ -23,7 +23,7 @@ record_bytes desc =
     ++ word_bytes desc.hint ++ word_bytes desc.name.creator ++ word_bytes desc.name.index
     ++ half_bytes desc.depth ++ half_bytes desc.kinds ++ replicate 28 0
 
--- the numbers that stand in the fields of a record
+-- the numbers in the fields of a record
 unfoldable pub fields_of : List ℕ → Desc
 fields_of bytes =
     record {

@@ -47,7 +47,7 @@ fn put_half(bytes: &mut [u8; RECORD_BYTES], at: usize, half: u16)
     LittleEndian::write_u16(&mut bytes[at..], half);
 }
 
-/// The record of a descriptor: its fields in their places, little-endian, and zeros behind them.
+/// The record of a descriptor: its fields in their places, little-endian, followed by zeros.
 pub fn put_desc(desc: &Desc) -> [u8; RECORD_BYTES]
     requires { IsDesc desc.now }
     ensures value { result ≡ record_bytes desc.now }
@@ -105,7 +105,7 @@ fn is_zero(bytes: &[u8]) -> bool
     bytes.iter().all(|byte| *byte == 0)
 }
 
-/// The descriptor whose fields stand in the bytes of a record.
+/// The descriptor whose fields these bytes of a record have.
 #[tactic(auto, unfolding(crate::specs::Record::fields_of))]
 fn fields(bytes: &[u8; RECORD_BYTES]) -> Desc
     requires { half_at bytes.now 32 ≤ MAX_DEPTH }

@@ -11,7 +11,7 @@ use Rattle.run_law.specs.serial_machine.Turn.{MayTurn, stack_after}
 use Rattle.task_law.specs.Tasks.{BagTask, Committed, Live, In, IsFree, SpilledBagTask, IsSpilled, pending}
 use Rattle.task_law.specs.Sound.{AreSound}
 
--- the task stands in a bag of this depth
+-- a bag of this depth contains the task
 abbrev pub Stands : List BagValue → ℕ → PendingTask → Type 0
 Stands [] depth p = ⊥
 Stands (bag ∷ outer) depth p = ((bag.depth ≡ depth) × In p bag.tasks) ⊎ Stands outer depth p

@@ -59,8 +59,7 @@ ChildDomains own ts sub Sub child =
     (kind : Kind) × (sub ≡ Some kind) × (child ≡ record { kind = kind; floor = ts } ∷ own)
 ChildDomains own ts sub Super child = (d : Domain) × (own ≡ d ∷ child)
 
--- from one stack to the next, the domains of tasks that are no deeper than this stay, and those of the children are
--- there
+-- from one stack to the next, the domains of tasks of at most this depth stay, and the stack has those of the children
 pub record KeepsDomains (depth ts : ℕ) (own : List Domain) (sub : Option Kind) (spawns : List Spawn)
     (old new : List BagValue) : Type 0 where
   pub others : (domains : List Domain) → length domains ≤ depth → FitsBags domains old → FitsBags domains new

@@ -1,5 +1,4 @@
--- How tasks and families come to be: a placement, by which a task does, a dispatch, by which a family begins, and an
--- enqueue, by which it grows.
+-- How tasks and families grow: a placement adds a task, a dispatch begins a family, and an enqueue adds a child to it.
 use Rattle.std.specs.Prelude.{◌≡◌, ◌≢◌, ◌⊎◌, ◌↔◌, ℕ, ◌≤◌, Bool, true, false, List, [], ◌∷◌, ◌++◌, length, Option}
 use Rattle.std.specs.Prelude.{Some, None}
 use Rattle.task_desc.specs.declared.desc.Spawn.{Spawn}
@@ -84,7 +83,7 @@ PlacementKeepsTasks =
     ⊎ ((depth ≡ task.depth) × (p ≡ pending turn index task.body task.ts))))
     × (AreSound count least runs old spilled → AreSound count least runs new spilled)
 
--- where there is no task, names are apart, families whole and spilled tasks firm
+-- where no task exists, names are apart, families whole and spilled tasks firm
 abbrev pub NoTasksAreSound : Type 0
 NoTasksAreSound =
     (count least : ℕ) (runs : Bool) (tasks : ℕ → Option BagTask) → ((id : ℕ) → tasks id ≡ None)

@@ -45,14 +45,14 @@ module _ (image : ImageValue) (budget size : ℕ) (ctx : Ctx) where
         → CoreAsks task (Store access.offset access.width value) → access.new ≡ Some value
         → LoggedRun start (log ++ access ∷ []) (task_at_next task)
 
-  -- the task's run with this log came to its end call, which leaves this
+  -- the task's run with this log made its end call, which leaves this
   pub record FinishesWithLog (task : PendingTask) (log : List Access) (after : TaskState) : Type 0 where
     pub before : TaskState
     pub run : LoggedRun (task_at_start image.version task.entry ctx.ts task.args []) log before
     pub ends : CoreAsks before End
     pub leaves : after ≡ task_at_next before
 
-  -- the task's run with this log came to this trap
+  -- the task's run with this log trapped so
   pub record TrapsWithLog (task : PendingTask) (log : List Access) (cause pc : ℕ) : Type 0 where
     pub before : TaskState
     pub run : LoggedRun (task_at_start image.version task.entry ctx.ts task.args []) log before

@@ -9,7 +9,7 @@ use Rattle.task_law.specs.Sound.{AreSound, SameFree}
 abbrev pub idle_bag_task : BagTask → BagTask
 idle_bag_task task = record task { dispatched = false; spawns = [] }
 
--- a set is taken back: a member whose creator is a member leaves, and each other member is idle again
+-- a set is aborted: a member whose creator is a member leaves, and each other member is idle again
 pub record TakesBackInBags (set : ℕ → Bool) (old new : ℕ → Option BagTask) : Type 0 where
   pub others : (k : ℕ) → set k ≡ false → new k ≡ old k
   pub gone : (k : ℕ) (x : BagTask) (creator index : ℕ) → set k ≡ true → old k ≡ Some x

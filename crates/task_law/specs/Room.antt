@@ -13,7 +13,7 @@ pub record RoomTask : Type 0 where
   pub dispatched : Bool
   pub creator : Option ℕ
 
--- a firm task: its creator is committed, or is the heir, which is the least task where that is dispatched
+-- a firm task: its creator is committed, or is the dispatched least task
 abbrev pub IsFirmInQueue : Option ℕ → RoomTask → Type 0
 IsFirmInQueue heir task = (task.creator ≡ None) ⊎ ((l : ℕ) × (task.creator ≡ Some l) × (heir ≡ Some l))
 
@@ -39,8 +39,8 @@ abbrev pub IsFirst : Option ℕ → ℕ → RoomTask → ℕ → Type 0
 IsFirst heir v task first = (IsFirmInQueue heir task × (first ≡ v))
     ⊎ ((IsFirmInQueue heir task → ⊥) × (task.creator ≡ Some first))
 
--- the rule that a queue of this capacity comes to: a place is free; or an idle firm task moves; or the asker,
--- which is not the least task, stalls; or a victim is aborted for it
+-- the rule that applies to a queue of this capacity: a place is free; or an idle firm task moves; or the requester,
+-- which isn't the least task, stalls; or a victim is aborted for it
 pub data Rule (tasks : ℕ → Option RoomTask) (heir : Option ℕ) (queue : List ℕ) (capacity : ℕ) (asker : Option ℕ)
     (is_least : Bool) : Type 0 where
   Free : length queue < capacity → Rule tasks heir queue capacity asker is_least
@@ -75,14 +75,14 @@ CreatorsAreDispatched tasks =
     (k c : ℕ) (x : RoomTask) → tasks k ≡ Some x → x.creator ≡ Some c
     → (y : RoomTask) × (tasks c ≡ Some y) × (y.dispatched ≡ true)
 
--- the asker is the least task: queued, and then it is the heir, or spilled, and then there is none; its levels are
--- these, and each other dispatched task is above them, by `dispatched_are_above_least`
+-- the requester is the least task: queued, and then it is the dispatched least task, or spilled, and then `heir` is
+-- None; its levels are these, and each other dispatched task is above them, by `dispatched_are_above_least`
 pub record AsksAsLeastInQueue (tasks : ℕ → Option RoomTask) (heir asker : Option ℕ) (low : List Open) : Type 0 where
   pub is_heir : asker ≡ heir
   pub others_above : (k : ℕ) (x : RoomTask) → tasks k ≡ Some x → asker ≢ Some k → x.dispatched ≡ true
       → levels_cmp low x.levels ≡ Less
 
--- a task that may be aborted for the least one: it is dispatched, is not the asker, and is above it
+-- a task that may be aborted for the least one: it is dispatched, isn't the requester, and is above it
 pub record MayAbort (tasks : ℕ → Option RoomTask) (asker : Option ℕ) (low : List Open) (first : ℕ) : Type 0 where
   pub task : RoomTask
   pub there : tasks first ≡ Some task
@@ -103,8 +103,7 @@ VictimIsLegal =
 abbrev pub HoldsChildren : (ℕ → Bool) → (ℕ → Option RoomTask) → Type 0
 HoldsChildren set tasks = (k c : ℕ) (x : RoomTask) → tasks k ≡ Some x → x.creator ≡ Some c → set c ≡ true → set k ≡ true
 
--- a set is taken back: a member whose creator is a member leaves, and each other member is idle again, with these
--- levels
+-- a set is aborted: a member whose creator is a member leaves, and each other member is idle again, with these levels
 pub record TakesBackInQueue (set : ℕ → Bool) (reopened : RoomTask → List Open)
     (old new : ℕ → Option RoomTask) : Type 0 where
   pub others : (k : ℕ) → set k ≡ false → new k ≡ old k
@@ -121,8 +120,8 @@ abbrev pub queue_after : (ℕ → Option RoomTask) → List ℕ → List ℕ
 queue_after new [] = []
 queue_after new (k ∷ ks) = kept_by (is_some (new k)) k (queue_after new ks)
 
--- after the cascade of a victim, or of its creator, the queue is shorter, or the victim stands in it, idle and firm,
--- and moves
+-- after an abort of the cascade of a victim, or of its creator, the queue is shorter, or still contains the victim,
+-- which is idle and firm, and moves
 abbrev pub VictimMakesRoom : Type 0
 VictimMakesRoom =
     (tasks new : ℕ → Option RoomTask) (heir : Option ℕ) (queue : List ℕ) (asker : Option ℕ) (low : List Open)
@@ -133,7 +132,7 @@ VictimMakesRoom =
     → TakesBackInQueue set reopened tasks new
     → (length (queue_after new queue) < length queue) ⊎ IsMovableInQueue new heir (queue_after new queue) v
 
--- each is no greater than those behind it
+-- each is at most as great as those after it
 abbrev pub IsRising : (ℕ → Option RoomTask) → List ℕ → Type 0
 IsRising tasks [] = Unit {0}
 IsRising tasks (k ∷ ks) =

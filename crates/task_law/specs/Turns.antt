@@ -13,8 +13,8 @@ use Rattle.task_law.specs.Domains.{Domain, FitsBags, context_of_domains}
 use Rattle.memory_law.specs.Accesses.{after_accesses, Replays}
 use Rattle.task_law.specs.Logged.{FinishesWithLog, TrapsWithLog}
 
--- a finished least task: its run by its log, from its own context, came to its end call, and the log replays on the
--- serial memory
+-- a finished least task: its run by its log, from its own context, made its end call, and the log replays on the serial
+-- memory
 pub record IsReadyToCommit (image : ImageValue) (budget : ℕ) (s : SerialState) (task : BagTask) (turn index : ℕ)
     (own : Domain)
     (outer : List Domain) (log : List Access) (after : TaskState) : Type 0 where

@@ -4,7 +4,7 @@ ghost use Rattle.task_law.specs.Grows.{DispatchKeepsTasks, EnqueueKeepsTasks, No
 ghost use Rattle.task_law.specs.Sound.{IdleLeastIsAny};
 ghost use Rattle.task_law.specs.Moves.{AbortKeepsTasks, CoalesceKeepsTasks, SplitKeepsTasks};
 
-/// Where there is no task, names are apart, families whole and spilled tasks firm.
+/// Where no task exists, names are apart, families whole and spilled tasks firm.
 pub fn no_tasks_are_sound()
     ensures { NoTasksAreSound }
 {}

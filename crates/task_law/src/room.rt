@@ -2,13 +2,13 @@
 
 ghost use Rattle.task_law.specs.Room.{CoalesceShortensQueue, SomeRuleApplies, VictimIsLegal, VictimMakesRoom};
 
-/// At each queue whose capacity is two or more some rule applies: a place is free, or an idle firm task moves,
-/// or the asker stalls, or, where it is the least task, there is a victim.
+/// At each queue whose capacity is two or more some rule applies: a place is free, or an idle firm task moves, or the
+/// requester stalls, or, where it is the least task, a victim is aborted.
 pub fn some_rule_applies()
     ensures { SomeRuleApplies }
 {}
 
-/// What is aborted for a victim, itself where it is firm and else its creator, is dispatched, is not the asker, and
+/// What is aborted for a victim (the victim where it is firm, else its creator) is dispatched, isn't the requester, and
 /// is above it.
 pub fn victim_is_legal()
     ensures { VictimIsLegal }
@@ -20,7 +20,7 @@ pub fn victim_makes_room()
     ensures { VictimMakesRoom }
 {}
 
-/// Where an idle firm task stands in a queue, a coalescing makes that queue shorter.
+/// Where a queue contains an idle firm task, a coalescing makes it shorter.
 pub fn coalesce_shortens_queue()
     ensures { CoalesceShortensQueue }
 {}

@@ -18,7 +18,7 @@ use Rattle.task_request.specs.declared.request.Request.TheVariants.{Trap}
 abbrev pub register_at : Core → ℕ → ℕ
 register_at core number = slice_index core.regs number
 
--- the child that an enqueue describes: entry address, timestamp, three arguments and hint stand in x10 to x15
+-- the child that an enqueue describes: entry address, timestamp, three arguments and hint are in x10 to x15
 abbrev pub spawn_at : Core → Place → Spawn
 spawn_at core place = record {
   place = place;
@@ -28,7 +28,7 @@ spawn_at core place = record {
   hint = register_at core 15;
 }
 
--- the request that a rule allows, or the trap that it tells
+-- the request that a rule allows, or its trap
 abbrev pub unless_trap : {A : Type 0} → (A → Request) → Result A ℕ → Request
 unless_trap request (Ok value) = request value
 unless_trap request (Err cause) = Trap cause
@@ -39,7 +39,7 @@ enqueue_at ctx core place =
     let spawn = spawn_at core place in
     unless_trap (λ ts. Enqueue (record spawn { ts = ts })) (allowed_spawn ctx spawn)
 
--- a subdomain, of the kind that x10 tells
+-- a subdomain, of the kind in x10
 abbrev pub sub_at : Ctx → Core → Request
 sub_at ctx core = unless_trap MakeSub (sub_allowed ctx (register_at core 10))
 

@@ -134,8 +134,7 @@ fn call(ctx: &Ctx, core: &Core) -> Request
 /// What a task asks for at the core where its leg stopped, under what its calls depend on now: the kind of its
 /// subdomain, and how many children and bytes it has made, among them.
 ///
-/// A load or a store has its offset in the data. A leg stops at none below the data; there the offset would be told
-/// as 0.
+/// A load or a store has its offset in the data. A leg stops at none below the data; there the offset would be 0.
 pub fn request_of(ctx: &Ctx, core: &Core, stop: &Stop) -> Request
     ensures request { result ≡ request_at ctx.now core.now stop.now }
     ensures data { (size : ℕ) → StopIsInData size stop.now → IsInData size result }

@@ -24,12 +24,12 @@ abbrev pub lines_of : List ℕ → List (List ℕ)
 lines_of [] = []
 lines_of (x ∷ xs) = if x == 10 then [] ∷ lines_of xs else onto x (lines_of xs)
 
--- the bytes before the first `mark`, and those behind it
+-- the bytes before the first `mark`, and those after it
 abbrev pub cut : ℕ → List ℕ → Option (List ℕ × List ℕ)
 cut mark [] = None
 cut mark (x ∷ xs) = if x == mark then Some ([], xs) else option_map (λ p. (x ∷ p.0, p.1)) (cut mark xs)
 
--- what stands behind a front
+-- the rest of a line after a prefix
 unfoldable pub behind : List ℕ → List ℕ → Option (List ℕ)
 behind front line =
     if nat_le (length front) (length line) && bytes_eq (take (length front) line) front

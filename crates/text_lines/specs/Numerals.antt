@@ -15,7 +15,7 @@ is_plain ds = list_all is_ascii_digit ds && (nat_lt 0 (length ds) && (not (slice
 abbrev pub number : List ℕ → Option ℕ
 number ds = if is_plain ds && nat_lt (digits_value 10 ds) (2 ^ 32) then Some (digits_value 10 ds) else None
 
--- the number before the first `mark`, and what stands behind it
+-- the number before the first `mark`, and the rest after it
 abbrev pub field : ℕ → List ℕ → Option (ℕ × List ℕ)
 field mark line = cut mark line >>= λ p. number p.0 >>= λ n. Some (n, p.1)
 

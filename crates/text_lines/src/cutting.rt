@@ -1,4 +1,4 @@
-//! The next line of a text, what stands in a line before and behind a mark, and what stands behind a front.
+//! The next line of a text, the parts of a line before and after a mark, and its rest after a prefix.
 
 ghost use Rattle.std.specs.Prelude.{◌≡◌, ◌≢◌, ℕ, ◌<◌, ◌≤◌, ◌∷◌, [], length, option_map, slice_index, IfSome};
 ghost use Rattle.std.specs.Prelude.{MatchOption};
@@ -20,7 +20,7 @@ pub fn next_line(text: &[u8]) -> Option<(&[u8], &[u8])>
     }
 }
 
-/// The bytes before the first `mark`, and those behind it.
+/// The bytes before the first `mark`, and those after it; None exactly where they don't have it.
 #[tactic(auto, using(crate::proofs::Cuts::cut_at, crate::proofs::Cuts::cut_none))]
 pub fn cut(bytes: &[u8], mark: u8) -> Option<(&[u8], &[u8])>
     ensures { option_map (λ p. (p.0.now, p.1.now)) result ≡ cut mark bytes.now }
@@ -48,7 +48,7 @@ fn place_of(bytes: &[u8], mark: u8) -> usize
     bytes.len()
 }
 
-/// What stands behind a front.
+/// The rest of a line after a prefix; None exactly where the line doesn't begin with it.
 #[tactic(auto, unfolding(crate::specs::Lines::behind))]
 pub fn behind<'a>(line: &'a [u8], front: &[u8]) -> Option<&'a [u8]>
     ensures { option_map (λ r. r.now) result ≡ behind front.now line.now }

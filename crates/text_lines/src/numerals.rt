@@ -50,7 +50,7 @@ pub fn are_digits(bytes: &[u8]) -> bool
     bytes.iter().all(|byte| byte.is_ascii_digit())
 }
 
-/// The number before the first `mark`, and what stands behind it.
+/// The number before the first `mark`, and the rest after it.
 pub fn field(line: &[u8], mark: u8) -> Option<(u32, &[u8])>
     ensures { option_map (λ p. (p.0, p.1.now)) result ≡ field mark line.now }
 {

@@ -6,7 +6,7 @@ pub record QueueValue : Type 0 where
   pub capacity : ℕ
   pub ids : List ℕ
 
--- no id stands there twice
+-- the list contains no id twice
 abbrev pub AreDistinct : List ℕ → Type 0
 AreDistinct ids = AllPairs (λ a b. a ≢ b) ids
 

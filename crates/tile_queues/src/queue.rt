@@ -71,8 +71,8 @@ impl<Kind> Queue<Kind> {
         self.ids.push(id).map_err(|refused| refused.value)
     }
 
-    /// Takes the id out, and says whether it was there. The others keep their order. It looks from the last id on,
-    /// since tasks that are spilled or taken back mostly stand there.
+    /// Takes the id out, and returns whether the queue contained it. The others keep their order. It looks from the
+    /// last id on, since tasks that are spilled or aborted are mostly near the end.
     pub fn take(&mut self, id: usize) -> bool
         ensures there { IsTrue result ↔ Contains self.old.ids id }
         ensures taken { self.new ≡ record self.old { ids = ids_but id self.old.ids } }

@@ -1,4 +1,4 @@
--- How a try of an event counts.
+-- How an attempted event counts.
 use Rattle.std.specs.Prelude.{◌≡◌, ◌⊎◌}
 use Rattle.conflict_book.specs.event_def.Book.{BookView}
 use Rattle.conflict_book.specs.event_def.End.{IsOver}

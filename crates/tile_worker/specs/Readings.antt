@@ -22,7 +22,7 @@ pub record IsReading (image : ImageValue) (budget : ℕ) (journal : List Entry) 
 abbrev pub AreReadings : ImageValue → ℕ → List Entry → List Reading → Type 0
 AreReadings image budget journal readings = All (λ reading. ∥ IsReading image budget journal reading ∥₁) readings
 
--- the writer belongs to this board, and all that it has told are readings of the view's journal, the last one its
+-- the writer belongs to this board, and all that it has written are readings of the view's journal, the last one its
 -- counts
 pub record HasTold (image : ImageValue) (budget : ℕ) (board : TableId) (view : View) (writer : WriterValue)
     : Type 0 where
@@ -35,7 +35,7 @@ abbrev pub OpeningIsReading : Type 0
 OpeningIsReading = (image : ImageValue) (budget : ℕ) (journal : List Entry)
     → IsReading image budget journal opening_reading
 
--- where all that was told are readings of a journal, so are all that a joined reader saw
+-- where all that was written are readings of a journal, so are all that a joined reader saw
 abbrev pub SeenAreReadings : Type 0
 SeenAreReadings =
     (image : ImageValue) (budget : ℕ) (journal : List Entry) (seen told : List Reading)

@@ -34,7 +34,7 @@ impl Begun for Brand {
     ghost output = { [] };
 }
 
-/// What stands in the lock of a run: a book with its ledger, whose journal and output begin with those before.
+/// The value in the lock of a run: a book with its ledger, whose journal and output begin with those before.
 #[derive(Drop)]
 pub(crate) struct Continued<N: Naming, L: Begun, P: Placer, T: Tap> {
     pub(crate) tallied: Tallied<N, L, P, T>,

@@ -46,7 +46,7 @@ impl<'a, N: Naming, G> Crew<'a, N, G> {
     }
 }
 
-/// Whether there are more workers than processors, as far as the system tells.
+/// Whether there are more workers than processors, as far as the system reports.
 fn is_crowded<R: Threads>(rt: &R, workers: u32) -> bool {
     match available_parallelism(rt) {
         Ok(processors) => processors.get() < workers as usize,

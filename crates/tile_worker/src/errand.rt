@@ -33,7 +33,7 @@ impl<N: Naming> Legs<N> {
         }
     }
 
-    /// The same leg, to be changed.
+    /// The leg at a place, counted from 0, to be changed; the last one at each further place.
     fn at_mut(&mut self, place: u32) -> &mut Leg<N> {
         match place {
             0 => &mut self.first,
@@ -58,7 +58,7 @@ pub(crate) struct Errand<N: Naming> {
 }
 
 impl<N: Naming> Errand<N> {
-    /// That of a worker before its first hold: there is no leg to hand in.
+    /// That of a worker before its first hold: it has no leg to hand in.
     pub(crate) fn new(image: &Image, budget: u32) -> Errand<N>
         requires image { image.now ≡ N.image }
         requires budget { budget ≡ N.budget }
@@ -108,7 +108,7 @@ impl<N: Naming> Errand<N> {
         self.legs.at(self.next)
     }
 
-    /// Goes to the leg that begins where the one ends that was handed in, and tells whether there is one.
+    /// Goes to the leg that begins where the one ends that was handed in, and returns whether there is one.
     pub(crate) fn take_next(&mut self) -> bool {
         let has_next = self.ready.saturating_sub(self.next) > 1;
         if has_next {
@@ -117,8 +117,8 @@ impl<N: Naming> Errand<N> {
         has_next
     }
 
-    /// Computes the next leg of the core, on the decoded text where there is one, and tells whether a further one is
-    /// to be computed too: where this one was long, and stopped at no more than its quantum.
+    /// Computes the next leg of the core, on the decoded text where there is one, and returns whether a further one is
+    /// to be computed too: where this one was long, and stopped within its quantum.
     fn compute_one(
         &mut self,
         image: &Image,

@@ -1,4 +1,4 @@
-//! A book under a lock, with the writer of a board on which its readings are told.
+//! A book under a lock, with the writer of a board to which its readings are written.
 
 ghost use Rattle.std.specs.Prelude.{◌≡◌, ◌≢◌, ◌≤◌, [], List, MatchBool, length, take};
 ghost use Rattle.atomic_table.specs.Seated.{TableId};
@@ -28,7 +28,7 @@ use std::marker::Brand;
 use std::sync::{Mutex, Wait};
 use trace_tap::Tap;
 
-/// A ledger of events that also names the board on which a run is told, and what was told before the run.
+/// A ledger of events that also names the board of a run, and the readings that were written before the run.
 pub(crate) trait Followable: Begun {
     ghost board: { TableId };
 
@@ -41,8 +41,8 @@ impl Followable for Brand {
     ghost before = { [] };
 }
 
-/// What stands in the lock of a run that is told: a book with its ledger, and the writer of the board. All that was
-/// told are readings of the book's journal, and the last one is the book's counts.
+/// The value in the lock of a run with a board: a book with its ledger, and the writer of the board. All that was
+/// written are readings of the book's journal, and the last one is the book's counts.
 #[derive(Drop)]
 pub(crate) struct Followed<N: Naming, L: Followable, P: Placer, T: Tap> {
     pub(crate) tallied: Tallied<N, L, P, T>,
@@ -55,7 +55,7 @@ pub(crate) struct Followed<N: Naming, L: Followable, P: Placer, T: Tap> {
     ghost last: { last_of writer.told ≡ counts_of tallied.book.sound.view },
 }
 
-/// Tells how far a book has come.
+/// Writes the counts of a book to the board.
 #[tactic(auto, using(crate::proofs::Told::goes_on, crate::proofs::Told::readings_told, progress_cell::proofs::Proved::last_pushed),)]
 pub(crate) fn tell<N: Naming, P: Placer, T: Tap, R: Wait>(
     rt: &R,
@@ -78,7 +78,7 @@ pub(crate) fn tell<N: Naming, P: Placer, T: Tap, R: Wait>(
     board.publish(rt, writer, book.counts());
 }
 
-/// Whether what was told last is how far a book has come.
+/// Whether the last reading that was written is the book's counts.
 fn is_told<N: Naming, P: Placer, T: Tap>(book: &Book<N, P, T>, writer: &Writer) -> bool
     ensures { let counts = counts_of (machine_view book.now) in
         MatchBool result (last_of writer.now.told ≡ counts) (last_of writer.now.told ≢ counts) }
@@ -87,8 +87,8 @@ fn is_told<N: Naming, P: Placer, T: Tap>(book: &Book<N, P, T>, writer: &Writer) 
 }
 
 impl<N: Naming, L: Followable, P: Placer, T: Tap> Followed<N, L, P, T> {
-    /// One hold of a worker, as that of a book that isn't told; where a task was committed, it tells how far the book
-    /// has come.
+    /// One hold of a worker, as that of a book without a board; where a task was committed, it writes the book's counts
+    /// to the board.
     fn hold<R: Wait>(
         &mut self,
         rt: &R,
@@ -112,7 +112,7 @@ impl<N: Naming, L: Followable, P: Placer, T: Tap> Followed<N, L, P, T> {
     }
 }
 
-/// The lock of a run that is told, with the board on which it is.
+/// The lock of a run with a board, and the board.
 #[derive(Drop)]
 pub(crate) struct FollowedLock<'a, N: Naming, L: Followable, P: Placer, T: Tap> {
     pub(crate) lock: &'a Mutex<Followed<N, L, P, T>>,

@@ -27,7 +27,7 @@ pub(crate) enum Found {
     Done,
 }
 
-/// What came of an event that was tried.
+/// The outcome of an event that was tried.
 #[derive(Clone, Copy)]
 pub(crate) enum Tried {
     /// It was made.
@@ -40,7 +40,7 @@ pub(crate) enum Tried {
     Over,
 }
 
-/// Dispatches in a tile that is there. Where memory runs out the book is stopped.
+/// Dispatches in one of the machine's tiles. Where memory runs out the book is stopped.
 #[tactic(auto, using(crate::proofs::Holding::event_tries))]
 fn try_dispatch<N: Naming, P: Placer, T: Tap>(book: &mut Book<N, P, T>, tile: u32) -> Tried
     requires { tile < (machine_view book.old).settings.tiles }
@@ -59,7 +59,7 @@ fn try_dispatch<N: Naming, P: Placer, T: Tap>(book: &mut Book<N, P, T>, tile: u3
     }
 }
 
-/// Brings the least spilled task of a tile that is there back. Where memory runs out the book is stopped.
+/// Brings back the least spilled task of one of the machine's tiles. Where memory runs out the book is stopped.
 #[tactic(auto, using(crate::proofs::Holding::event_tries))]
 fn try_split<N: Naming, P: Placer, T: Tap>(book: &mut Book<N, P, T>, tile: u32) -> Tried
     requires { tile < (machine_view book.old).settings.tiles }
@@ -78,7 +78,7 @@ fn try_split<N: Naming, P: Placer, T: Tap>(book: &mut Book<N, P, T>, tile: u32) 
     }
 }
 
-/// Hands in a leg for a core that is there. Where memory runs out the book is stopped.
+/// Hands in a leg for one of the machine's cores. Where memory runs out the book is stopped.
 #[tactic(auto, using(crate::proofs::Holding::event_tries))]
 fn try_leg<N: Naming, P: Placer, T: Tap>(
     book: &mut Book<N, P, T>,
@@ -155,7 +155,7 @@ fn core_of(task: &Task) -> Option<TileCore> {
     }
 }
 
-/// Goes for a core of the worker's own, and tells whether it does.
+/// Goes for a core of the worker's own, and returns whether there is one.
 fn go_for_own<N: Naming, P: Placer, T: Tap>(
     book: &Book<N, P, T>,
     round: &Round,
@@ -179,7 +179,7 @@ fn go_for_own<N: Naming, P: Placer, T: Tap>(
     }
 }
 
-/// Lets be for a while what stalled: the core, and in its tile all dispatches, but where its commit queue was full only
+/// Skips for a while what stalled: the core, and in its tile all dispatches, but where its commit queue was full only
 /// until that has a free place; where legs are short the whole tile.
 fn rest_stalled<N: Naming, P: Placer, T: Tap>(
     book: &Book<N, P, T>,
@@ -211,7 +211,7 @@ fn hand_in<N: Naming, P: Placer, T: Tap>(
         CountsSo N old result (view_of P.policy T.notes book.new) }
 {
     let settings = book.settings();
-    // No type tells that the settings are still those of the hold in which the core was found.
+    // No type proves that the settings are still those of the hold in which the core was found.
     if place.tile >= settings.tiles || place.core >= settings.cores {
         return Tried::Missed;
     }
@@ -298,7 +298,7 @@ fn fill<N: Naming, P: Placer, T: Tap>(
     tried
 }
 
-/// Dispatches in a tile: where legs are short also where no core is free, so that the whole tile is let be.
+/// Dispatches in a tile: where legs are short also where no core is free, so that the whole tile is skipped.
 fn dispatch_in<N: Naming, P: Placer, T: Tap>(
     book: &mut Book<N, P, T>,
     round: &mut Round,
@@ -317,7 +317,7 @@ fn dispatch_in<N: Naming, P: Placer, T: Tap>(
     }
 }
 
-/// Dispatches in the first of the worker's own tiles that isn't let be and takes a dispatch.
+/// Dispatches in the first of the worker's own tiles that isn't skipped and takes a dispatch.
 fn dispatch_own<N: Naming, P: Placer, T: Tap>(book: &mut Book<N, P, T>, round: &mut Round) -> Tried
     ensures { let old = view_of P.policy T.notes book.old in
         CountsSo N old result (view_of P.policy T.notes book.new) }
@@ -334,7 +334,7 @@ fn dispatch_own<N: Naming, P: Placer, T: Tap>(book: &mut Book<N, P, T>, round: &
     Tried::Missed
 }
 
-/// Goes for the next of the worker's own cores on which a task runs, and which isn't let be.
+/// Goes for the next of the worker's own cores on which a task runs, and which isn't skipped.
 fn go_on<N: Naming, P: Placer, T: Tap>(
     book: &Book<N, P, T>,
     round: &mut Round,
@@ -421,9 +421,9 @@ fn advance_idle<N: Naming, P: Placer, T: Tap>(
     }
 }
 
-/// Where the least task runs on a core of the worker's own, goes for that core, which may be let be; where it runs on
-/// another's, that one computes its leg, and this one waits while others go on. Else makes the event for the least
-/// task.
+/// Where the least task runs on a core of the worker's own, goes for that core, even if it is skipped otherwise; where
+/// it runs on another's, that one computes its leg, and this one waits while others go on. Else makes the event for the
+/// least task.
 #[tactic(auto, using(crate::proofs::Holding::rests))]
 fn help_least<N: Naming, P: Placer, T: Tap>(
     book: &mut Book<N, P, T>,
@@ -448,7 +448,7 @@ fn help_least<N: Naming, P: Placer, T: Tap>(
 }
 
 /// A hold in which nothing of the worker's own is left to be tried. Where its legs are short, or no tile is its own,
-/// all of that is let be, and it makes but the events for the least tasks.
+/// all of that is skipped, and it makes only the events for the least tasks.
 #[tactic(auto)]
 fn serve_others<N: Naming, P: Placer, T: Tap>(
     book: &mut Book<N, P, T>,
@@ -471,7 +471,7 @@ fn serve_others<N: Naming, P: Placer, T: Tap>(
 }
 
 /// A look for the core of the next leg after an event was made, unless a further leg of this core is ready. Where legs
-/// are short there is none: the worker asks for a dispatch next, until its tiles are let be.
+/// are short it has none: the worker asks for a dispatch next, until its tiles are skipped.
 fn go_on_after<N: Naming, P: Placer, T: Tap>(
     book: &Book<N, P, T>,
     round: &mut Round,
@@ -513,7 +513,7 @@ fn serve_awake<N: Naming, P: Placer, T: Tap>(
     }
 }
 
-/// A look for a core where all of the worker's own was let be until now: so that it learns whether legs are still
+/// A look for a core where all of the worker's own was skipped until now, so that it learns whether legs are still
 /// short.
 fn look_again<N: Naming, P: Placer, T: Tap>(
     book: &Book<N, P, T>,
@@ -530,8 +530,8 @@ fn look_again<N: Naming, P: Placer, T: Tap>(
 }
 
 /// One hold of the lock: the leg is handed in, or else a task comes back or is dispatched; then a look for the core of
-/// the next leg. Only where none of these is made and no core is found, or while all is let be, the event for the
-/// least task. No more than one of these events is made.
+/// the next leg. Only where none of these is made and no core is found, or while all is skipped, the event for the
+/// least task. At most one of these events is made.
 #[tactic(auto, using(crate::proofs::Holding::rests))]
 pub(crate) fn serve<N: Naming, P: Placer, T: Tap>(
     book: &mut Book<N, P, T>,

@@ -5,20 +5,20 @@
 //! counts that to its share, and copies the core of its next legs. The type of the lock's value keeps that all shares
 //! together are the book's events.
 //!
-//! With a board, the workers tell how far the run has come (`run_watched`): in the hold in which a task was committed,
-//! and once more at the end. The type of the lock's value then keeps that all that was told are readings of the book's
-//! journal, the last one its counts.
+//! With a board, the workers report how far the run has come (`run_watched`): in the hold in which a task was
+//! committed, and once more at the end. The type of the lock's value then keeps that all reports are readings of the
+//! book's journal, the last one its counts.
 //!
-//! It stands on the book, on the board and on the lock of the standard library; `machine_run` calls it, with no board.
-//! A hold costs one event and a look at each core of the worker's own tiles, and with a board, after a commit, what
-//! it costs to tell a reading. Where no thread can be started, the caller runs the workers itself. The program
-//! hands in the gate that a worker passes before it hands in a leg.
+//! It uses the book, the board and the lock of the standard library; `machine_run` calls it, with no board. A hold
+//! costs one event and a look at each core of the worker's own tiles, and with a board, after a commit, what it costs
+//! to write a reading. Where no thread can be started, the caller runs the workers itself. The program hands in the
+//! `Gate` that a worker passes before it hands in a leg.
 //!
 //! `working` is a worker's loop, `hold` what it does in a hold, `waiting` how it waits for one. From hold to hold it
-//! carries (`carried`) its share, the legs that it computes (`errand`) and what it keeps for itself (`round`). In the
-//! lock stands a book with its ledger (`tally`), for `run_tiles` in a type that keeps what it began with (`begun`),
-//! for `run_watched` beside the board's writer (`followed`). `crew` is what the workers of a run have in common,
-//! `fanning` their threads.
+//! carries (`carried`) its share, the legs that it computes (`errand`) and what it keeps for itself (`round`). The lock
+//! has a book with its ledger (`tally`), for `run_tiles` in a type that keeps what it began with (`begun`), for
+//! `run_watched` beside the board's writer (`followed`). `crew` is what the workers of a run have in common, `fanning`
+//! their threads.
 #![tactic(auto)]
 
 mod begun;

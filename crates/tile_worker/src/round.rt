@@ -24,8 +24,8 @@ pub(crate) struct TileCore {
     pub(crate) core: u32,
 }
 
-/// Which tiles are a worker's own, on which core it looked last, up to which count of events it lets be what refused
-/// it, and how it waits.
+/// Which tiles are a worker's own, on which core it looked last, up to which count of events it skips what was refused,
+/// and how it waits.
 #[derive(Drop)]
 pub(crate) struct Round {
     worker: u32,
@@ -43,7 +43,7 @@ pub(crate) struct Round {
     ghost is_own: { last.tile % workers ≡ worker },
 }
 
-/// Where a core stands in the list of all cores of all tiles.
+/// The index of a core in the list of all cores of all tiles.
 fn index_of(place: TileCore) -> usize
     requires tile { place.tile < 16 }
     requires core { place.core < 4 }
@@ -78,8 +78,8 @@ impl Round {
         }
     }
 
-    /// Learns the counts of events at the begin and at the end of a hold. Where others made many events since
-    /// the hold before, or this worker made none now, it is behind them.
+    /// Learns the counts of events at the begin and at the end of a hold. Where others made many events since the hold
+    /// before, or this worker made none now, it lags.
     pub(crate) fn learn_events(&mut self, before: u64, after: u64)
         ensures { self.new ≡ record self.old { seen = after; is_behind = self.new.is_behind } }
     {
@@ -102,12 +102,12 @@ impl Round {
         self.pace.has_short_legs()
     }
 
-    /// Whether all that is the worker's own is let be at this count of events.
+    /// Whether all that is the worker's own is skipped at this count of events.
     pub(crate) fn is_idle(&self, steps: u64) -> bool {
         steps < self.idle_until
     }
 
-    /// Whether it was let be until now.
+    /// Whether it was skipped until now.
     pub(crate) fn wakes(&mut self) -> bool {
         let woke = self.idle_until != 0;
         self.idle_until = 0;
@@ -178,7 +178,7 @@ impl Round {
     }
 
     /// Lets others go on for a while, where they are ahead or this worker made no event: the longer where all that is
-    /// its own is let be.
+    /// its own is skipped.
     pub(crate) fn let_others<R: Wait>(&mut self, rt: &R, bell: &Bell) {
         if self.is_behind {
             self.pace.rest(rt, bell, self.idle_until != 0);

@@ -116,7 +116,7 @@ fn halt_of<N: Naming, P: Placer, T: Tap>(book: &Book<N, P, T>) -> Halt
     }
 }
 
-/// Makes the events of the least tasks until the run is over or memory runs out, and tells how many they are.
+/// Makes the events of the least tasks until the run is over or memory runs out, and returns how many it made.
 fn run_out<N: Naming, P: Placer, T: Tap>(book: &mut Book<N, P, T>, image: &Image) -> u64
     requires image { image.now ≡ N.image }
     ensures rise { let before = events_made book.old in

@@ -22,8 +22,8 @@ use trace_tap::Tap;
 /// At so many events workers stop.
 const MAX_EVENTS: u64 = 1 << 63;
 
-/// What stands in the lock: a book, and the total of what is counted to the parts, which is the number of the
-/// book's events.
+/// The value in the lock: a book, and the total of what is counted to the parts, which is the number of the book's
+/// events.
 #[derive(Drop)]
 pub struct Tallied<
     N: Naming,

@@ -10,13 +10,14 @@ use std::time::Duration;
 /// A leg of so many instructions is long: to compute it takes no less than a hold, so that others go on meanwhile.
 pub(crate) const LONG_LEG: u32 = 256;
 
-/// So many short legs one after another tell that legs are short.
+/// After this many short legs in a row, legs count as short.
 const SHORT_LEGS: u32 = 16;
 
 /// How often a worker tries the lock before it sleeps until it is free.
 const TRIES: u32 = 256;
 
-/// How often it does where there are more workers than processors, and a try may keep another from running.
+/// How often a worker tries the lock where there are more workers than processors, and a worker that tries may keep
+/// another from running.
 const CROWDED_TRIES: u32 = 8;
 
 /// After so many misses a worker without a long leg naps between two tries, where it only paused before.

@@ -1,4 +1,4 @@
-//! Workers run a book to its end, and tell on a board how far it has come.
+//! Workers run a book to its end, and report on a board how far it has come.
 
 ghost use Rattle.std.specs.Prelude.{◌≡◌, ◌≤◌, ◌+◌, ◌^◌, length, take};
 ghost use Rattle.conflict_book.specs.BookViews.{events_made, machine_view};
@@ -23,17 +23,17 @@ use std::sync::{Mutex, Wait};
 use std::thread::Threads;
 use trace_tap::Tap;
 
-/// A book that workers ran and told of, and the writer by which they did.
+/// A book that workers ran and reported, and the writer by which they did.
 #[derive(Drop)]
 pub struct Watched<N: Naming, P: Placer = Box<dyn Placer + Send>, T: Tap = Box<dyn Tap + Send>> {
     /// The book, how many events each worker made, and why the run stopped.
     pub drained: Drained<N, P, T>,
-    /// The writer, which has told the book's counts last.
+    /// The writer, whose last reading is the book's counts.
     pub writer: Writer,
 }
 
-/// Runs the workers on a book, with a ledger that has a part for each of them and one for the events before, and tells
-/// of each commit.
+/// Runs the workers on a book, with a ledger that has a part for each of them and one for the events before, and
+/// reports each commit.
 fn watch_all<
     N: Naming + Send + Sync,
     L: Followable + Send + Sync,
@@ -71,11 +71,11 @@ fn watch_all<
     (settle(tallied, mine, gathered), writer)
 }
 
-/// Runs a book by 1 to 16 workers up to the end of the run, or as far as memory goes, and tells on the writer's board
-/// how far the book has come: in the hold of the lock in which a task was committed, and once more at the end. So
-/// each reading that stands on the board meanwhile is one of the book's journal.
+/// Runs a book by 1 to 16 workers up to the end of the run, or as far as memory goes, and reports on the writer's board
+/// how far the book has come: in the hold of the lock in which a task was committed, and once more at the end. So each
+/// reading on the board meanwhile is one of the book's journal.
 ///
-/// What the writer has told before has to be readings of the book's journal, the last one its counts, as with a new
+/// What the writer has written before has to be readings of the book's journal, the last one its counts, as with a new
 /// board's writer and a new book.
 #[tactic(auto, using(crate::proofs::Growing::grows_trans))]
 pub fn run_watched<

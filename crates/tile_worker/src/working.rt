@@ -59,21 +59,20 @@ pub(crate) fn drive<
     unreachable!()
 }
 
-/// Drives the tiles `t` with `t % workers == worker`, one event in each hold of the lock, until the run is over,
-/// memory runs out, or the book has 2^63 events; and gives back its part, to which each event that it made is
-/// counted.
+/// Drives the tiles `t` with `t % workers == worker`, one event in each hold of the lock, until the run is over, memory
+/// runs out, or the book has 2^63 events; and gives back its part, to which each event that it made is counted.
 ///
-/// It hands in legs of its running cores, each after it passed the gate, and dispatches where an own tile has an
-/// idle task and a free core, or brings a spilled task back that comes first there. Only where it has none of these, or
-/// all of them were refused, it makes the event for the least task. What was refused is let be for 512 events of the
+/// It hands in legs of its running cores, each after it passed the `Gate`, and dispatches where an own tile has an idle
+/// task and a free core, or brings a spilled task back that is the first one there. Only where it has none of these, or
+/// all of them were refused, it makes the event for the least task. What was refused is skipped for 512 events of the
 /// book: a core whose leg stalled gets no leg, and in its tile, as in one whose dispatch was refused, no dispatch is
-/// tried, even if a task has come to stand there meanwhile. A tile that stalled at its full commit queue is tried again
-/// once that has a free place.
+/// tried, even if its queue gets a task meanwhile. A tile that stalled at its full commit queue is tried again once
+/// that has a free place.
 ///
-/// Where its last 16 legs were short the worker asks for a dispatch in any own tile, and what stalls or finds all cores
-/// busy lets the whole tile be, its cores too. So it makes the events for the least tasks then, as a run without
-/// workers does, and looks at a leg once in 512 events. Where legs are long it computes up to four of a core before
-/// it hands in the first, and leaves the least task to the worker whose core it runs on.
+/// Where its last 16 legs were short the worker asks for a dispatch in any own tile, and where that stalls or finds all
+/// cores busy it skips the whole tile, its cores too. So it makes the events for the least tasks then, as a run without
+/// workers does, and looks at a leg once in 512 events. Where legs are long it computes up to four of a core before it
+/// hands in the first, and leaves the least task to the worker whose core it runs on.
 ///
 /// A hold costs one event and a look at each core of its own tiles; a leg is computed outside the lock, on the text
 /// itself, since no decoded one is handed in.

@@ -14,8 +14,8 @@ last_records n list = record { list = list; after = λ list seen. keep_last (5 *
 abbrev pub add_at : List ℕ → ℕ → ℕ → List ℕ
 add_at counts place amount = slice_set counts place (min (slice_index counts place + amount) (2 ^ 64 - 1))
 
--- an access to a line counts what it took back, the lines behind the last one together; nothing else counts,
--- and no event makes an access without a line
+-- an access to a line counts what it aborted, the lines after the last one together; nothing else counts, and no event
+-- makes an access without a line
 abbrev pub counts_after : ℕ → List ℕ → Deed → Option ℕ → ℕ → List ℕ
 counts_after lines counts Access (Some line) aborted = add_at counts (min line lines) aborted
 counts_after lines counts deed line aborted = counts

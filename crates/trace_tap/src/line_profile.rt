@@ -7,8 +7,8 @@ use crate::record::{Deed, Record};
 use crate::tap::Tap;
 use std::alloc::{AllocError, Global};
 
-/// Counts the tasks that accesses took back, by the line of the access. Its list has a count for each line, and one
-/// for all lines after the last of these. A count stands still at 2^64 - 1.
+/// Counts the tasks that accesses aborted, by the line of the access. Its list has a count for each line, and one for
+/// all lines after the last of these. A count stays at 2^64 - 1.
 #[derive(Drop)]
 pub struct LineProfile {
     lines: u32,

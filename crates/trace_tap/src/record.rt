@@ -13,7 +13,7 @@ pub enum Deed {
     Call,
     /// A task went on without an access or a call, or it trapped.
     Keep,
-    /// A task was taken back because it was asked for.
+    /// A task was aborted because an event asked for it.
     Abort,
     /// The least task was committed.
     Commit,
@@ -32,7 +32,7 @@ pub struct Record {
     pub tile: u32,
     /// The memory line of a load or a store: its offset in the data by the line size.
     pub line: Option<u32>,
-    /// How many tasks it took back.
+    /// How many tasks it aborted.
     pub aborted: u32,
     /// How many tasks had committed once it was made.
     pub commits: u32,

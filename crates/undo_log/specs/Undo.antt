@@ -1,4 +1,4 @@
--- What calls of `load` and `store` do and log, and what stands after they are taken back.
+-- What calls of `load` and `store` do and log, and what the memory is after their rollback.
 use Rattle.std.specs.Prelude.{◌≡◌, ℕ, List, [], ◌∷◌, Option, Some, None, All}
 use Rattle.undo_log.specs.declared.access.Access.{Access}
 use Rattle.undo_log.specs.Number.{number_at, after_write, AreBytes, IsAccessible}
@@ -35,11 +35,11 @@ abbrev pub after_restore : ℕ → ℕ → ℕ → Option ℕ → List ℕ → L
 after_restore offset width old None bytes = bytes
 after_restore offset width old (Some value) bytes = after_write bytes offset width old
 
--- the bytes after the access is taken back
+-- the bytes after the access is rolled back
 abbrev pub access_undone : Access → List ℕ → List ℕ
 access_undone access bytes = after_restore access.offset access.width access.old access.new bytes
 
--- the bytes after the stores of a log are taken back, the last one first
+-- the bytes after the stores of a log are rolled back, the last one first
 abbrev pub undone : List Access → List ℕ → List ℕ
 undone [] bytes = bytes
 undone (access ∷ log) bytes = access_undone access (undone log bytes)

@@ -1,4 +1,4 @@
-//! What a task does to memory, and how it is taken back. The serial machine stores by it, and both undo by it; the
+//! The accesses of a task to memory, and their rollback. Both machines undo by it; the serial one stores by it, and the
 //! speculative one loads and stores by `covered`.
 
 ghost use Rattle.std.specs.Prelude.{◌≡◌, [], ◌∷◌, ◌++◌, length, IfOk, OnOk, OnErr};
@@ -8,7 +8,7 @@ ghost use Rattle.undo_log.specs.Undo.{Load, Store, access_of, after_call, undone
 use crate::{Access, Log, Memory};
 use std::alloc::AllocError;
 
-/// The number that stands there, and one access at the log's end.
+/// Loads the number at an offset, and appends one access to the log.
 ///
 /// The width is 1, 2 or 4, the offset is a multiple of it, and the access lies within the data.
 pub fn load(memory: &Memory, log: &mut Log, offset: u32, width: u8) -> Result<u32, AllocError>

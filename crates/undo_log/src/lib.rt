@@ -1,10 +1,10 @@
-//! The guest's data memory, and the logs by which the stores of a task are taken back.
+//! The guest's data memory, and the logs by which the stores of a task are rolled back.
 //!
-//! A log keeps each access of its task in order, with the value that stood there before. A load is one read of the
-//! whole number, a store one read and one write of it, and each is one push to the log, which may go by memory that
-//! is spare. To undo a log costs one write for each store in it, and no memory. It stands on nothing but memory that
-//! is taken before; both machines keep one memory and a log for each task, the serial one of its stores alone, and
-//! `rv_core` reads and writes stacks by it.
+//! A log keeps each access of its task in order, with the value that the memory had before. A load is one read of the
+//! whole number, a store one read and one write of it, and each is one push to the log, which can use spare memory. To
+//! undo a log costs one write for each store in it, and no memory. It uses only `spare_buffer`; each machine keeps a
+//! single memory and a log for each task, the serial one of its stores alone, and `rv_core` reads and writes stacks by
+//! it.
 #![tactic(auto)]
 
 mod access;

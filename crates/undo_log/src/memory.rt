@@ -25,7 +25,7 @@ impl Model for Memory {
 }
 
 impl Memory {
-    /// A memory of `size` bytes, which begins with the initial ones and has zeros behind them.
+    /// A memory of `size` bytes, which begins with the initial ones, followed by zeros.
     pub fn new(alloc: Global, initial: &[u8], size: u32) -> Result<Self, AllocError>
         requires { length initial.now ≤ size }
         ensures { IfOk result (λ memory. memory ≡ initial.now ++ replicate (size - length initial.now) 0) }

@@ -65,9 +65,9 @@ after_commit done c = record c {
   tiles = record c.tiles { useful = add_at done.tile done.used c.tiles.useful };
 }
 
--- ---- taken back
+-- ---- aborted tasks
 
--- behind one more task that was taken back, which was discarded where it is gone
+-- after one more task that was aborted, which was discarded where it is gone
 abbrev pub after_taken : Option Cause → Counts → TakenTask → Counts
 after_taken cause c task = record c {
   work = record c.work { wasted = c.work.wasted + task.used };
@@ -159,7 +159,7 @@ after_own (event.Step tile core leg) task request did new c = record c {
 after_own event.Commit task request (Some done) new c = after_commit done c
 after_own event task request did new c = c
 
--- behind an event that was made, with the tasks that it took back and spilled
+-- after an event that was made, with the tasks that it aborted and spilled
 abbrev pub after_event : {N : Type 0} → Event N → Option ℕ → Option Request → EffectValue → Option Done → View → Counts
     → Counts
 after_event event task request effect did new c = with_standing new
@@ -192,7 +192,7 @@ after_reply replies.Stall event task request effect did new c =
     after_stall event request (after_refusal event request c)
 after_reply other event task request effect did new c = after_refusal event request c
 
--- behind what an act came to
+-- after the outcome of an act
 abbrev pub after_attempt : {N : Type 0} → Reply → Attempt N → Option ℕ → Option Request → EffectValue → Option Done
     → View → Counts → Counts
 after_attempt reply (Hands event) task request effect did new c =
@@ -204,7 +204,7 @@ abbrev pub one_advance : Act → ℕ → ℕ
 one_advance acts.Advance advances = advances + 1
 one_advance act advances = advances
 
--- behind an act of this number that is told, and did what this kind does
+-- after an act of this number that has a log entry, and did what this kind does
 abbrev pub after_told : ℕ → Act → ActKind → Counts → Counts
 after_told at act kind c =
     record c { acts = at; told = one_more kind c.told; advances = one_advance act c.advances }

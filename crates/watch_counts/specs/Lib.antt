@@ -1,4 +1,4 @@
--- Contracts of public calls mean all of these. What is counted stands in Counts, on one page.
+-- Contracts of public calls mean all of these. Counts has what is counted, on one page.
 pub mod Kinds
 pub mod Work
 pub mod Nothing

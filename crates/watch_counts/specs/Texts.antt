@@ -1,4 +1,4 @@
--- The line of counts: groups of numbers under their names, in the order in which docs/machine/FIGURES.md tells them.
+-- The line of counts: groups of numbers under their names, in the order of docs/machine/FIGURES.md.
 use Rattle.std.specs.Prelude.{◌-◌, ◌^◌, ℕ, List, [], ◌∷◌, ◌++◌, codes, decimal, if◌then◌else◌, nat_lt}
 use Rattle.watch_text.specs.Fields.{items_text}
 use Rattle.watch_counts.specs.declared.accesses.AccessCounts.{AccessCounts}
@@ -88,7 +88,7 @@ acts_text c =
     group_text (codes "made") (acts_group c.made) ++ group_text (codes "told") (acts_group c.told)
     ++ group_text (codes "passed") (acts_group c.passed)
 
--- what tasks did that committed, and those that were taken back
+-- what tasks did that committed, and those that were aborted
 unfoldable pub tasks_text : Counts → List ℕ
 tasks_text c =
     group_text (codes "committed") (accesses_group c.committed) ++ group_text (codes "undone") (accesses_group c.undone)

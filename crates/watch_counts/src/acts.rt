@@ -24,7 +24,7 @@ pub enum ActKind {
     Take,
     /// A leg that is held is handed in.
     Give,
-    /// A task is taken back.
+    /// A task is aborted.
     Abort,
     /// The least task commits.
     Commit,
@@ -32,7 +32,7 @@ pub enum ActKind {
     Coalesce,
     /// A spilled task comes back.
     Split,
-    /// The least task is brought on.
+    /// The least task is advanced.
     Advance,
 }
 
@@ -55,7 +55,7 @@ pub struct ActCounts {
     pub coalesce: u64,
     /// Splits.
     pub split: u64,
-    /// What brought the least task on.
+    /// Acts that advanced the least task.
     pub advance: u64,
 }
 

@@ -1,4 +1,4 @@
-//! Tasks that were taken back, by cause.
+//! Tasks that were aborted, by cause.
 
 ghost use Rattle.std.specs.Prelude.{◌≡◌, Some, if◌then◌else◌};
 ghost use Rattle.watch_text.specs.conflict_book.Legless.{event_of};
@@ -11,7 +11,7 @@ use rv_core::Naming;
 use task_request::Request;
 use watch_text::conflict_book::Legless;
 
-/// Why an event takes tasks back.
+/// Why an event aborts tasks.
 #[derive(Clone, Copy, Debug, PartialEq, Eq)]
 pub enum Cause {
     /// A load meets a store of theirs.
@@ -45,7 +45,7 @@ pub struct CauseCounts {
     pub asked: u64,
 }
 
-/// Why a step takes tasks back, by what its task asks for.
+/// Why a step aborts tasks, by what its task asks for.
 pub(crate) fn cause_in_step(request: Option<Request>) -> Option<Cause>
     ensures { result ≡ cause_in_step request }
 {
@@ -106,7 +106,7 @@ impl CauseCounts {
         }
     }
 
-    /// The same where something holds.
+    /// Counts a task under a cause, if `holds`.
     pub(crate) fn count_where(&mut self, holds: bool, cause: Option<Cause>)
         ensures { (c : CauseCounts) → self.old ≡ capped_causes c
             → self.new ≡ capped_causes (if holds then one_taken cause c else c) }

@@ -21,15 +21,15 @@ use watch_text::spec_state::{State, TaskId};
 /// What is counted of a story. Each number stops at 2^64 - 1.
 #[derive(Clone, Copy, Debug, PartialEq, Eq)]
 pub struct Counts {
-    /// The number of the last act that was told.
+    /// The number of the last act in the log.
     pub acts: u64,
-    /// The acts that were told, by what they did.
+    /// The acts in the log, by what they did.
     pub told: ActCounts,
     /// Those that weren't asked for.
     pub passed: ActCounts,
     /// The events that were made.
     pub events: u64,
-    /// The same by kind.
+    /// The events that were made, by kind.
     pub made: ActCounts,
     /// The rounds that ended.
     pub rounds: u64,
@@ -39,9 +39,9 @@ pub struct Counts {
     pub work: WorkCounts,
     /// The accesses of tasks that committed.
     pub committed: AccessCounts,
-    /// Those of tasks that were taken back.
+    /// The accesses of tasks that were aborted.
     pub undone: AccessCounts,
-    /// The tasks that were taken back.
+    /// The tasks that were aborted.
     pub taken: CauseCounts,
     /// Those of them that were discarded.
     pub discarded: CauseCounts,
@@ -68,7 +68,7 @@ pub struct Counts {
     /// The tasks that committed, by how many instructions they executed: at place k at least 2^k, and at all but the
     /// last one fewer than 2^(k + 1).
     pub lengths: [u64; 17],
-    /// Work and tasks that were taken back, by tile.
+    /// Work and tasks that were aborted, by tile.
     pub tiles: TileCounts,
 }
 

@@ -100,7 +100,7 @@ pub fn done_by<N: Naming>(state: &State<N>, asked: &Asked, about: &About) -> Opt
     }
 }
 
-/// The powers of two by which tasks are told apart by their length: a task has at most 65,536 instructions.
+/// The powers of two that bound the classes of tasks by length: a task has at most 65,536 instructions.
 const POWERS: [u32; 16] = [
     2, 4, 8, 16, 32, 64, 128, 256, 512, 1_024, 2_048, 4_096, 8_192, 16_384, 32_768, 65_536,
 ];

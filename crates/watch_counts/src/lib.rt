@@ -1,10 +1,10 @@
-//! What is counted of a run that is watched: acts, events and rounds, work, accesses, tasks that were taken back by
-//! cause, what stalled, where tasks are, and the same by depth, by length and by tile.
+//! What is counted of a run that is watched: acts, events and rounds, work, accesses, tasks that were aborted by cause,
+//! what stalled, where tasks are, and these by depth, by length and by tile.
 //!
-//! Counts are a fold over the moments of a story, with the acts that pass and the ends of rounds: specs/Counts has it
-//! on one page. Each number stops at 2^64 - 1, and its text says so. To count an act takes no memory; one that makes an
-//! event looks at each tile's queues and cores once, at the tasks that it took back, and at the log of a task that
-//! commits. The crate stands on moments and on the readers of the machine; `watch_play` counts by it.
+//! Counts are a fold over the entries of an event log, with the acts that pass and the ends of rounds: specs/Counts has
+//! it on one page. Each number stops at 2^64 - 1, and its text says so. To count an act allocates no memory; one that
+//! makes an event looks at each tile's queues and cores once, at the tasks that it aborted, and at the log of a task
+//! that commits. The crate uses log entries and the readers of the machine; `watch_play` counts by it.
 #![tactic(auto)]
 
 mod accesses;

@@ -1,4 +1,4 @@
-//! Each act that is told, and what it came to.
+//! Each act in the log, and its outcome.
 
 ghost use Rattle.std.specs.Prelude.{◌≡◌, ◌+◌, ℕ, Option, false, true, fold, length, option_map};
 ghost use Rattle.rv_core.specs.LegValue.{LegValue};
@@ -73,7 +73,7 @@ fn advances_after(advances: u64, act: Act) -> u64
 }
 
 impl Counts {
-    /// An act of this number is told, which did what this kind does.
+    /// Counts an act of this number, which did what this kind does.
     #[tactic(auto, using(crate::proofs::Stopping::capped_itself))]
     fn tell(&mut self, at: u64, act: Act, kind: ActKind)
         ensures { (c : Counts) → self.old ≡ capped_counts c → self.new ≡ capped_counts (after_told at act kind c) }
@@ -131,7 +131,7 @@ impl Counts {
         self.tiles.count_useful(done.tile, done.used);
     }
 
-    /// A task was taken back.
+    /// Counts a task that was aborted.
     fn count_taken(&mut self, cause: Option<Cause>, task: &TakenTask)
         ensures { (c : Counts) → self.old ≡ capped_counts c → self.new ≡ capped_counts (after_taken cause c task.now) }
     {
@@ -144,7 +144,7 @@ impl Counts {
         self.tiles.count_taken(task.tile, task.used);
     }
 
-    /// Tasks were taken back.
+    /// Counts tasks that were aborted.
     fn count_back(&mut self, cause: Option<Cause>, back: &[TakenTask])
         ensures { (c : Counts) → self.old ≡ capped_counts c
             → self.new ≡ capped_counts (fold (after_taken cause) c back.now) }
@@ -319,7 +319,7 @@ impl Counts {
         }
     }
 
-    /// What an act came to.
+    /// Counts the outcome of an act.
     fn count_attempt<N: Naming>(
         &mut self,
         asked: &Asked,
@@ -343,9 +343,9 @@ impl Counts {
         }
     }
 
-    /// Counts an act that is told: its number from 1, what it came to, with how many instructions its leg has, what
-    /// that is about, what the task had done that a commit is about, the reply, what an event did beside its one
-    /// change, and the machine behind it.
+    /// Counts an act in the log: its number from 1, what it asked for, how many instructions its leg has, what it is
+    /// about, what the task of a commit had done, the reply, what an event did beside its one change, and the machine
+    /// after it.
     pub fn note<N: Naming>(
         &mut self,
         at: u64,

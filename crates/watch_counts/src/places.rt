@@ -99,7 +99,7 @@ fn is_stalled(cores: &[bool; 64], tile: u32, core: u32) -> bool
     cores[4 * tile as usize + core as usize]
 }
 
-/// Whether it stands at a trap.
+/// Whether it trapped.
 fn is_at_trap(status: Status) -> bool
     ensures { result ≡ is_some (trap_cause status) }
 {

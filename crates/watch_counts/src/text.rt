@@ -70,7 +70,7 @@ fn put_more_named(line: &mut String, group: &[NamedCount]) -> Result<(), AllocEr
     Ok(())
 }
 
-/// The same with commas between them, and a bracket behind all.
+/// Puts numbers under their names, with commas between them, and a closing bracket.
 fn put_all_named(line: &mut String, group: &[NamedCount]) -> Result<(), AllocError>
     ensures { OnOk result (string_bytes line.new ≡ string_bytes line.old
         ++ items_text named_text (map named_of group.now)) }
@@ -292,7 +292,7 @@ fn put_all_acts(line: &mut String, counts: &Counts) -> Result<(), AllocError>
     put_acts(line, "passed", &counts.passed)
 }
 
-/// What tasks did that committed, and those that were taken back.
+/// Puts what tasks did that committed, and those that were aborted.
 #[tactic(auto, unfolding(crate::specs::Texts::tasks_text))]
 fn put_tasks(line: &mut String, counts: &Counts) -> Result<(), AllocError>
     ensures { OnOk result (string_bytes line.new ≡ string_bytes line.old ++ tasks_text counts.now) }

@@ -14,7 +14,7 @@ pub struct TileCounts {
     pub useful: [u64; 16],
     /// The wasted ones.
     pub wasted: [u64; 16],
-    /// The tasks that were taken back.
+    /// The tasks that were aborted.
     pub taken: [u64; 16],
 }
 
@@ -38,7 +38,7 @@ impl TileCounts {
         add_at(&mut self.useful, tile as usize, u64::from(used));
     }
 
-    /// A task of so many instructions that was taken back.
+    /// Counts a task of `used` instructions that was aborted.
     pub(crate) fn count_taken(&mut self, tile: u32, used: u32)
         ensures { (c : TileCounts) → self.old ≡ capped_tiles c
             → self.new ≡ capped_tiles (record c {

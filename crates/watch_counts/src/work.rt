@@ -15,7 +15,7 @@ pub struct WorkCounts {
     pub executed: u64,
     /// Those of tasks that committed, since their last dispatch.
     pub useful: u64,
-    /// Those of tasks that were taken back.
+    /// The instructions of tasks that were aborted.
     pub wasted: u64,
     /// The legs of steps that were refused: no part of those above.
     pub refused: u64,
@@ -86,7 +86,7 @@ impl WorkCounts {
         self.useful = more(self.useful, u64::from(used));
     }
 
-    /// A task of so many instructions that was taken back.
+    /// Counts a task of `used` instructions that was aborted.
     pub(crate) fn count_wasted(&mut self, used: u32)
         ensures { (c : WorkCounts) → self.old ≡ capped_work c
             → self.new ≡ capped_work (record c { wasted = c.wasted + used }) }

@@ -1,4 +1,4 @@
--- What is counted of a story, act by act from its opening on, and the lines of counts that are told on the way.
+-- What is counted of an event log, act by act from its opening on, and the lines of counts that are printed on the way.
 use Rattle.std.specs.Prelude.{◌≡◌, ◌==◌, ◌&&◌, ℕ, zero, suc, Bool, true, not, List, [], ◌++◌}
 use Rattle.std.specs.Prelude.{if◌then◌else◌}
 use Rattle.guest_image.specs.ImageValue.{ImageValue}
@@ -34,14 +34,14 @@ counts_of image course opening zero stage moments new leads = counts_at opening.
 counts_of image course opening (suc number) stage moments new leads = after_stage leads.2 stage
     (after_act leads.4 (counts_of image course opening number leads.2 leads.0 leads.1 leads.3))
 
--- counts are told behind the act of this number, which led from one stage to the other: in rounds behind the last act
--- of each K-th, else behind each K-th act
+-- counts are printed after the act of this number, which led from one stage to the other: in rounds after the last act
+-- of each K-th round, else after each K-th act
 abbrev pub is_due_behind : Telling → Course → (number : ℕ) → (at stage : Stage) → Bool
 is_due_behind telling (OfRounds rounds seed most settings) number at stage =
     not (stage.round == at.round) && are_counts_due telling stage.round
 is_due_behind telling other number at stage = are_counts_due telling number
 
--- the line of counts behind it, by the counts before the end of its round, where counts are told
+-- the line of counts after it, from the counts before the end of its round, where counts are printed
 abbrev pub line_behind : Telling → Course → (number : ℕ) → (at stage : Stage) → Counts → View → List ℕ
 line_behind telling course number at stage counts view = if has_counts telling
     then (if is_due_behind telling course number at stage then counts_line (after_stage at stage counts) view else [])
@@ -57,11 +57,11 @@ counts_lines telling image course opening (suc number) stage moments new leads =
     ++ (if is_due_behind telling course (suc number) leads.2 stage
     then counts_line (counts_of image course opening (suc number) stage moments new leads) new.book.view else [])
 
--- the counts at the end of a course, where counts are told
+-- the counts at the end of a driver, where counts are printed
 abbrev pub last_counts : Telling → Counts → PlayState → List ℕ
 last_counts telling counts new = if has_counts telling then counts_line counts new.book.view else []
 
--- where counts are told, those that the code has are those of the story
+-- where counts are printed, the code has the counts of the event log
 abbrev pub AreCounted : {N : Type 0} → Telling → (image : ImageValue) (course : Course) (opening : BookView)
     (number : ℕ) (stage : Stage) (moments : List (Moment N)) (new : PlayState)
     → StoryLeads image course opening number stage moments new → Counts → Type 0

@@ -1,4 +1,4 @@
--- Courses: which acts there are, and which of them are asked for as the machine stands.
+-- Drivers: which acts there are, and which of them a driver asks for in a given state of the machine.
 use Rattle.std.specs.Prelude.{◌≡◌, ◌≢◌, ◌⊎◌, ◌&&◌, ◌+◌, ◌*◌, ◌/◌, ◌%◌, ◌^◌, ◌<◌, ◌==◌, ℕ, zero, suc}
 use Rattle.std.specs.Prelude.{List, [], ◌∷◌, ◌++◌, length}
 use Rattle.std.specs.Prelude.{Bool, true, false, map}
@@ -79,7 +79,7 @@ shuffled (suc last) order = shuffled last (with_drawn last order)
 unfoldable pub next_order : ℕ → Order → Order
 next_order seed order = if seed == 0 then order else shuffled (length order.acts) order
 
--- ---- how far a course has come
+-- ---- the position of a driver
 
 -- the acts of the round that is played, in their order, how many rounds ended before it, and the place of its next act;
 -- how many tasks had committed when it began; how many rounds in a row before it were starved; and whether it advances
@@ -170,8 +170,8 @@ IsAskedBy other view act = Unit {0}
 
 -- ---- the end
 
--- the course goes on while its next act may come: a script does to its last act, and `least` until the run is over; so
--- do rounds, but a round in which the run ends is played to its end
+-- the driver has a next act: a script up to its last act, and `least` until the run is over; so do rounds, but a round
+-- in which the run ends is played to its end
 abbrev pub GoesOnAt : Course → Stage → View → Type 0
 GoesOnAt (OfScript script) stage view = Unit {0}
 GoesOnAt OfLeast stage view = IsOver view → ⊥
@@ -182,6 +182,6 @@ GoesOnAt (OfRounds rounds seed most settings) stage view =
 abbrev pub HasNext : Course → Stage → View → Act → Type 0
 HasNext course stage view act = (act_of stage ≡ Some act) × GoesOnAt course stage view
 
--- the course ends at this stage
+-- the driver ends at this stage
 abbrev pub EndsAt : Course → Stage → View → Type 0
 EndsAt course stage view = (act : Act) → HasNext course stage view act → ⊥

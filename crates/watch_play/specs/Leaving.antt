@@ -19,7 +19,7 @@ use Rattle.watch_counts.specs.watch_text.Moments.{Moment}
 use Rattle.watch_play.specs.Courses.{Course, OfLeast, OfRounds, OfScript, Stage}
 use Rattle.watch_play.specs.Stories.{StoryLeads}
 
--- the acts of a course stand within these settings: those of a script do, and rounds are of a machine like this
+-- the acts of a driver are within these settings: those of a script are, and rounds are of a machine like this
 abbrev pub IsWithin : Course → Settings → Type 0
 IsWithin (OfScript script) settings = All (ActIsInRange settings.tiles settings.cores) script
 IsWithin OfLeast settings = Unit {0}
@@ -31,7 +31,7 @@ pub record IsSoundBook (image : ImageValue) (settings : Settings) (book : BookVi
   pub going : book.stopped ≡ false
   pub settings_are : book.view.settings ≡ settings
 
--- so a story, wherever it has come to, leaves a sound book, if it began with one
+-- so an event log, however long, leaves a sound book, if it began with one
 abbrev pub StoryStaysSound : Type 0 → Type 0
 StoryStaysSound N =
     (image : ImageValue) (course : Course) (settings : Settings) (opening : BookView) (count : ℕ) (stage : Stage)
@@ -46,7 +46,8 @@ LeastStoryAdvances N =
     → Sound image opening.view → opening.stopped ≡ false → StoryLeads image OfLeast opening count stage moments last
     → AdvancesBy N image (length moments) opening last.book
 
--- so what this course leaves of an opening is what the least tasks' events do, by as many of them as it has moments
+-- so what this driver leaves of an opening is what the least tasks' events do, by as many of them as its log has
+-- entries
 abbrev pub LeastStoryIsRun : Type 0 → Type 0
 LeastStoryIsRun N =
     (image : ImageValue) (settings : Settings) (placers : List Policy) (taps : List TapValue) (opening : BookView)

@@ -1,4 +1,4 @@
--- That a course in rounds gets on, and that it is what a script of its acts does.
+-- That rounds in lockstep make progress, and that they do what a script of their acts does.
 use Rattle.std.specs.Prelude.{◌≡◌, ◌==◌, ◌+◌, ◌≤◌, ℕ, zero, suc, Bool, not, false, List, map, if◌then◌else◌}
 use Rattle.guest_image.specs.ImageValue.{ImageValue}
 use Rattle.watch_counts.specs.spec_law.Sound.{Sound}
@@ -20,7 +20,7 @@ pub record IsLockstep {N : Type 0} (image : ImageValue) (rounds seed most : ℕ)
   pub going : opening.stopped ≡ false
   pub leads : StoryLeads image (OfRounds rounds seed most opening.view.settings) opening count stage moments last
 
--- so many moments in a row brought the least task on, while the run went on, and none of them committed
+-- `n` log entries in a row advanced the least task, while the run went on, and none of them committed
 pub data IsBroughtOn (N : Type 0) (image : ImageValue) (first : PlayState) : ℕ → PlayState → Type 0 where
   not_yet : IsBroughtOn N image first 0 first
   once_more : (n : ℕ) (mid new : PlayState) (m : Moment N) → IsBroughtOn N image first n mid
@@ -59,7 +59,7 @@ RoundsDispatch N =
     (leads : StoryLeads image (OfRounds rounds seed most settings) opening count stage moments last) → 1 ≤ most
     → waited image (OfRounds rounds seed most settings) opening count stage moments last leads ≤ most
 
--- the acts that a story in rounds tells, in their order, are a script that is played so
+-- the acts that the log of a run in rounds lists, in their order, are a script that is played so
 abbrev pub LockstepPlays : Type 0 → Type 0
 LockstepPlays N =
     (image : ImageValue) (rounds seed most : ℕ) (opening : BookView) (count : ℕ) (stage : Stage)

@@ -1,4 +1,4 @@
--- What is made of an act, and what is told behind it.
+-- What becomes of an act, and what is printed after it.
 use Rattle.std.specs.Prelude.{◌≡◌, ◌⊎◌, ◌+◌, ℕ, Result, Ok, Err}
 use Rattle.guest_image.specs.ImageValue.{ImageValue}
 use Rattle.place_policy.specs.Policy.{Policy}
@@ -21,8 +21,8 @@ use Rattle.watch_play.specs.Texts.{moment_lines}
 abbrev pub play_of : {N P T : Type 0} → (P → Policy) → (T → TapValue) → Play N P T → PlayState
 play_of policy notes play = record { book = view_of policy notes play.book; held = play.player.held }
 
--- an act is played, and told where lines are, or counted where counts are: it is a moment, whose lines the sink took,
--- or a front of them, or nothing; or it is none
+-- an act is played, and printed where lines are, or counted where counts are: it becomes a log entry, of whose lines
+-- the sink took all, a prefix, or nothing; or it becomes no entry
 abbrev pub TellsAct : Type 0 → ImageValue → Telling → (at : ℕ) → (told new_told : SoTold) → Act → PlayState → PlayState
     → SinkState → SinkState → Result (Unit {0}) StoryStop → Type 0
 TellsAct N image telling at told new_told act old new before after (Ok done) =

@@ -1,4 +1,4 @@
--- What comes of one act.
+-- The outcome of one act.
 use Rattle.std.specs.Prelude.{◌≡◌, ◌+◌, ℕ, List, Result, Ok, Err, true}
 use Rattle.guest_image.specs.ImageValue.{ImageValue}
 use Rattle.watch_counts.specs.step_script.declared.act.Act.{Act}
@@ -15,7 +15,7 @@ use Rattle.watch_play.specs.declared.stop.StoryStop.TheVariants as stops
 use Rattle.watch_play.specs.declared.telling.Telling.{Telling}
 use Rattle.watch_play.specs.declared.watch.SoTold.{SoTold}
 
--- the act is this moment: the `at`-th act of the course, and the `number`-th that is asked for
+-- the act is this log entry: the `at`-th act of the driver, and the `number`-th that it asks for
 pub record IsMomentAt {N : Type 0} (image : ImageValue) (at number : ℕ) (act : Act) (m : Moment N)
     (old new : PlayState) : Type 0 where
   pub act_is : m.act ≡ act
@@ -33,13 +33,13 @@ ComesToLine N image telling at number act old came.Untold line new =
     (m : Moment N) × IsMomentAt image at number act m old new
 ComesToLine N image telling at number act old came.Unmade line new = new.book ≡ old.book
 
--- where counts are told, those before and behind a moment are what the code has
+-- where counts are printed, the code has those before and after a log entry
 abbrev pub CountsMoment : {N : Type 0} → Telling → Moment N → (before after : Counts) → Type 0
 CountsMoment telling m before after =
     has_counts telling ≡ true → (c : Counts) → before ≡ capped_counts c → after ≡ capped_counts (counts_after c m)
 
--- an act of which no line is told is a moment, which is counted where counts are told; or memory ran out, it is none,
--- and the book stays
+-- an act of which no line is printed becomes a log entry, which is counted where counts are printed; or memory ran out,
+-- it becomes none, and the book stays
 abbrev pub MakesAct : Type 0 → ImageValue → Telling → (at : ℕ) → (told new_told : SoTold) → Act → PlayState → PlayState
     → Result (Unit {0}) StoryStop → Type 0
 MakesAct N image telling at told new_told act old new (Ok done) =

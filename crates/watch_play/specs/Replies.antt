@@ -1,4 +1,4 @@
--- A story of a script is a play of it: what is said of each act stands in its line.
+-- The event log of a script is a play of it: each act's line has its reply.
 use Rattle.std.specs.Prelude.{◌≡◌, All, List, false, length, map}
 use Rattle.guest_image.specs.ImageValue.{ImageValue}
 use Rattle.watch_counts.specs.spec_law.Sound.{Sound}

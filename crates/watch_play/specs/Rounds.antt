@@ -1,5 +1,5 @@
--- What comes of the acts of a round: those that it asks for are made, unless a step stalls or memory runs out; those
--- that it passes over wouldn't be made.
+-- The outcome of the acts of a round: those that the round asks for are made, unless a step stalls or memory runs out;
+-- those that it passes over wouldn't be made.
 use Rattle.std.specs.Prelude.{◌≡◌, ◌≢◌, ℕ, List}
 use Rattle.guest_image.specs.ImageValue.{ImageValue}
 use Rattle.watch_counts.specs.spec_law.Sound.{Sound}

@@ -15,7 +15,7 @@ stage_of s = record {
   forced = s.forced;
 }
 
--- behind so many acts the numbers of a stage are no greater, so that none of them overflows
+-- after `number` acts no number of a stage is greater than that, so that none of them overflows
 pub record IsSmall (number : ℕ) (stage : courses.Stage) : Type 0 where
   pub few : length stage.order.acts < 2 ^ 32
   pub round : stage.round ≤ number

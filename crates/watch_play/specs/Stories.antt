@@ -1,4 +1,4 @@
--- Stories: the moments of a course, from an opening on.
+-- Event logs: the entries of a driver, from an opening on.
 use Rattle.std.specs.Prelude.{◌≡◌, ◌↔◌, ◌+◌, ℕ, zero, suc, Bool, IsTrue, List, [], ◌∷◌, ◌++◌, length}
 use Rattle.guest_image.specs.ImageValue.{ImageValue}
 use Rattle.watch_counts.specs.spec_state.View.{View}
@@ -32,7 +32,7 @@ pub record NextStage (course : Course) (at : Stage) (view : View) (stage : Stage
   pub waits_is : IsTrue waits ↔ LeastWaits view
   pub stage_is : stage ≡ next_stage course at (length view.history) waits
 
--- so many acts of the course, from an opening on, gave these moments, and led here, to this stage
+-- the driver's first `number` acts, from an opening on, gave these log entries, and led to this play and stage
 abbrev pub StoryLeads : {N : Type 0} → ImageValue → Course → BookView → ℕ → Stage → List (Moment N) → PlayState → Type 0
 StoryLeads image course opening zero stage moments new =
     (moments ≡ []) × (new ≡ begun opening) × (stage ≡ first_stage course (length opening.view.history))

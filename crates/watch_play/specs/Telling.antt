@@ -1,4 +1,4 @@
--- How far a story was told.
+-- How much of an event log was printed.
 use Rattle.std.specs.Prelude.{◌≡◌, ◌⊎◌, ◌+◌, ◌<◌, ◌≤◌, ◌++◌, ℕ, List, [], Result, Ok, Err, length}
 use Rattle.std.specs.Prelude.{true, if◌then◌else◌}
 use Rattle.guest_image.specs.ImageValue.{ImageValue}
@@ -19,7 +19,7 @@ use Rattle.watch_play.specs.Stories.{ActComes, StoryLeads, begun}
 use Rattle.watch_play.specs.Counted.{AreCounted, after_act, counts_lines, counts_of, last_counts}
 use Rattle.watch_play.specs.Texts.{has_counts, opening_lines, story_lines}
 
--- what is told of a course on a machine of these settings, of this image
+-- what is printed of a driver on a machine of these settings, of this image
 pub record Plan : Type 0 where
   pub course : Course
   pub settings : Settings
@@ -31,7 +31,7 @@ abbrev pub lines_by : {N : Type 0} → Plan → BookView → List (Moment N) →
 lines_by plan opening moments =
     story_lines plan.course plan.settings plan.image opening.view plan.telling moments
 
--- its lines, and these lines of counts behind them where counts are told
+-- the log's lines, followed by these lines of counts where counts are printed
 abbrev pub text_with : {N : Type 0} → Plan → BookView → (counts : List ℕ) → List (Moment N) → List ℕ
 text_with plan opening counts moments = if has_counts plan.telling
     then lines_by plan opening moments ++ counts
@@ -44,7 +44,7 @@ abbrev pub text_so_far : {N : Type 0} (plan : Plan) (opening : BookView) (count 
 text_so_far plan opening count stage moments play goes = text_with plan opening
     (counts_lines plan.telling plan.image plan.course opening count stage moments play goes) moments
 
--- so many acts of the course led here, through these moments
+-- the first `count` acts of the driver led here, through these log entries
 pub record HasStory {N : Type 0} (plan : Plan) (opening : BookView) (moments : List (Moment N)) (book : BookView)
     : Type 0 where
   pub count : ℕ
@@ -58,14 +58,14 @@ abbrev pub text_of_story : {N : Type 0} (plan : Plan) (opening : BookView) (mome
     (book : BookView) → HasStory plan opening moments book → List ℕ
 text_of_story plan opening moments book s = text_so_far plan opening s.count s.stage moments s.last s.goes
 
--- and that of one whose course ended: the counts come last, where counts are told
+-- the text of a log whose driver ended: the counts come last, where counts are printed
 abbrev pub text_of_course : {N : Type 0} (plan : Plan) (opening : BookView) (moments : List (Moment N))
     (book : BookView) → HasStory plan opening moments book → List ℕ
 text_of_course plan opening moments book s = text_of_story plan opening moments book s
     ++ last_counts plan.telling
     (counts_of plan.image plan.course opening s.count s.stage moments s.last s.goes) s.last
 
--- the course was played to its end, and all of it was told
+-- the driver was played to its end, and all of its log was printed
 pub record IsAllTold (N : Type 0) (plan : Plan) (opening book : BookView) (before after : SinkState) : Type 0 where
   pub moments : List (Moment N)
   pub story : HasStory plan opening moments book
@@ -84,8 +84,8 @@ pub data TookMost {N : Type 0} (plan : Plan) (opening : BookView) (moments : Lis
       → SinkTakes before after (text_of_story plan opening front old shorter)
       → TookMost plan opening moments book story before after
 
--- memory ran out, behind whole lines: nothing was told of a book at its opening, or all moments were but at most the
--- last
+-- memory ran out, after whole lines: nothing was printed of a book at its opening, or all log entries were, except
+-- perhaps the last one
 pub record IsToldInPart (N : Type 0) (plan : Plan) (opening book : BookView) (before after : SinkState) : Type 0 where
   pub moments : List (Moment N)
   pub story : HasStory plan opening moments book
@@ -98,7 +98,7 @@ pub record IsCutOff (N : Type 0) (plan : Plan) (opening book : BookView) (before
   pub took : TakesFront before after (text_of_course plan opening moments book story)
   pub rose : Rose before.faults after.faults
 
--- how far a story was told, by what is answered
+-- how much of an event log was printed, by the result
 abbrev pub Tells : Type 0 → Plan → BookView → BookView → SinkState → SinkState → Result (Unit {0}) StoryStop → Type 0
 Tells N plan opening book before after (Ok done) = IsAllTold N plan opening book before after
 Tells N plan opening book before after (Err stops.Memory) = IsToldInPart N plan opening book before after
@@ -106,7 +106,8 @@ Tells N plan opening book before after (Err stops.Sink) = IsCutOff N plan openin
 
 -- ---- a story that goes on
 
--- so many acts of the course led here, to this stage, through so many moments, all of which were told, or counted
+-- the first `count` acts of the driver led here, to this stage, through these log entries, all of which were printed,
+-- or counted
 pub record IsSoFar {N : Type 0} (plan : Plan) (opening : BookView) (count : ℕ) (stage : Stage) (told : SoTold)
     (moments : List (Moment N)) (play : PlayState) (before now : SinkState) : Type 0 where
   pub goes : StoryLeads plan.image plan.course opening count stage moments play
@@ -121,7 +122,7 @@ abbrev pub GoesSoFar : (N : Type 0) → Plan → BookView → (count : ℕ) → 
 GoesSoFar N plan opening count stage told play before now =
     (moments : List (Moment N)) × IsSoFar plan opening count stage told moments play before now
 
--- so many acts of the course led on from there, to this stage, or the story ended on the way
+-- the first `count` acts of the driver led on from there, to this stage, or the log ended on the way
 abbrev pub GoesOn : (N : Type 0) → Plan → BookView → (count : ℕ) → Stage → (told : SoTold) → (new : PlayState)
     → (before after : SinkState) → Result (Unit {0}) StoryStop → Type 0
 GoesOn N plan opening count stage told new before after (Ok done) =
@@ -129,8 +130,9 @@ GoesOn N plan opening count stage told new before after (Ok done) =
 GoesOn N plan opening count stage told new before after (Err stop) =
     Tells N plan opening new.book before after (Err stop)
 
--- behind a story so far, at this stage, the next act came: its lines were told where lines are, and it was counted
--- where counts are, but neither was the end of its round counted, nor were the counts told that may be due behind it
+-- after a log so far, at this stage, the next act was played: its lines were printed where lines are, and it was
+-- counted where counts are, but the end of its round wasn't counted yet, nor were the counts printed that may be due
+-- after it
 pub record HasCome (N : Type 0) (plan : Plan) (opening : BookView) (count : ℕ) (stage : Stage) (told : SoTold)
     (play : PlayState) (before now : SinkState) : Type 0 where
   pub front : List (Moment N)
@@ -176,7 +178,7 @@ ActGoesOn N image telling course number stage next told new_told old new now aft
 
 -- ---- the opening
 
--- a text was told, or not, by what is answered
+-- a text was printed, or not, by the result
 abbrev pub TellsText : List ℕ → SinkState → SinkState → Result (Unit {0}) StoryStop → Type 0
 TellsText text before after (Ok done) = SinkTakes before after text × (before.faults ≤ after.faults)
 TellsText text before after (Err stops.Memory) = after ≡ before
@@ -187,13 +189,13 @@ abbrev pub TellsOpening : Plan → BookView → SinkState → SinkState → Resu
 TellsOpening plan opening before after result =
     TellsText (opening_lines plan.course plan.settings plan.image opening.view plan.telling) before after result
 
--- a book at its opening, for which no leg is held, and the lines before its first act were told
+-- a book at its opening, for which no leg is held, and the lines before its first act were printed
 pub record IsOpened (plan : Plan) (opening : BookView) (play : PlayState) (before now : SinkState) : Type 0 where
   pub play_is : play ≡ begun opening
   pub took : SinkTakes before now (opening_lines plan.course plan.settings plan.image opening.view plan.telling)
   pub later : before.faults ≤ now.faults
 
--- whatever this is the opening of, the course behind it is told so
+-- whatever this is the opening of, this much of the driver's log is printed after it
 abbrev pub TellsCourse : Type 0 → ImageValue → Telling → Course → PlayState → BookView → SinkState → SinkState
     → Result (Unit {0}) StoryStop → Type 0
 TellsCourse N image telling course old new now after result =

@@ -12,49 +12,50 @@ use Rattle.watch_play.specs.declared.telling.Telling.{Telling}
 use Rattle.watch_play.specs.declared.telling.Telling.TheVariants as tellings
 use Rattle.watch_play.specs.Courses.{Course, course_word}
 
--- where views are told, they are told behind each K-th moment, K at least 1
+-- where views are printed, they are printed after each K-th log entry, K at least 1
 abbrev pub IsTellable : Telling → Type 0
 IsTellable (tellings.Views each) = 1 ≤ each
 IsTellable other = Unit {0}
 
--- lines are told
+-- lines are printed
 abbrev pub has_lines : Telling → Bool
 has_lines tellings.Memory = false
 has_lines (tellings.Counts each) = false
 has_lines other = true
 
--- counts are told
+-- counts are printed
 abbrev pub has_counts : Telling → Bool
 has_counts (tellings.Counts each) = true
 has_counts other = false
 
--- they are told behind so many rounds, or moments where the course has no rounds: a multiple of K, unless that is 0
+-- counts are printed after this number of rounds, or log entries where the driver has no rounds: a multiple of K,
+-- unless that is 0
 abbrev pub are_counts_due : Telling → ℕ → Bool
 are_counts_due (tellings.Counts each) number = not (each == 0) && number % each == 0
 are_counts_due other number = false
 
--- a view is told behind the moment of this number: a multiple of K
+-- a view is printed after the log entry of this number: a multiple of K
 abbrev pub is_due : Telling → ℕ → Bool
 is_due (tellings.Views each) number = number % each == 0
 is_due other number = false
 
--- the view behind the moment of this number, where one is told there; else nothing
+-- the view after the log entry of this number, where one is printed there; else nothing
 abbrev pub view_text : Telling → ℕ → View → ℕ → List ℕ
 view_text telling number view events = if is_due telling number then view_line view events else []
 
--- the lines of a moment, where lines are told: its own, and the view where one is told behind it, with the count of
--- events (`steps`)
+-- the lines of a log entry, where lines are printed: its own, and the view where one is printed after it, with the
+-- count of events (`steps`)
 abbrev pub moment_lines : {N : Type 0} → Telling → Moment N → List ℕ
 moment_lines telling m =
     if has_lines telling then line_of m ++ view_text telling m.number m.new.view m.new.steps else []
 
--- the lines before the first act, where lines are told; where counts are, the head alone
+-- the lines before the first act, where lines are printed; where counts are, only the first line
 abbrev pub opening_lines : Course → Settings → ImageValue → View → Telling → List ℕ
 opening_lines course settings image opening telling =
     if has_lines telling then head_line (course_word course) settings image ++ placed_lines opening
     else if has_counts telling then head_line (course_word course) settings image else []
 
--- the lines of a story, up to its last moment, where lines are told; where counts are, the head alone
+-- the lines of an event log, up to its last entry, where lines are printed; where counts are, only the first line
 abbrev pub story_lines : {N : Type 0} → Course → Settings → ImageValue → View → Telling → List (Moment N) → List ℕ
 story_lines course settings image opening telling moments =
     if has_lines telling

@@ -1,4 +1,4 @@
--- Two stories of one course, from two openings of one image, tell one thing: they differ in the ids of tasks alone.
+-- Two event logs of one driver, from two openings of one image, are the same but for the ids of tasks.
 use Rattle.std.specs.Prelude.{◌≡◌, ℕ, List}
 use Rattle.std.specs.List.{AllZip}
 use Rattle.guest_image.specs.ImageValue.{ImageValue, IsImage}
@@ -15,8 +15,8 @@ use Rattle.watch_play.specs.Courses.{Course, EndsAt, Stage}
 use Rattle.watch_play.specs.Leaving.{IsWithin}
 use Rattle.watch_play.specs.Stories.{StoryLeads}
 
--- two moments tell one thing: one act under one number, with one reply and as many tasks taken back, of books before
--- and after it that are the same but for ids. Of what else the event did (its effect) this says nothing
+-- two log entries agree: they have the same act, number and reply, as many tasks were aborted, and their books before
+-- and after are the same but for ids. About what else the event did (its effect) this claims nothing
 pub record TellOneThing {N : Type 0} (m other : Moment N) : Type 0 where
   pub at_is : other.at ≡ m.at
   pub number_is : other.number ≡ m.number
@@ -26,7 +26,8 @@ pub record TellOneThing {N : Type 0} (m other : Moment N) : Type 0 where
   pub old : AreSameBooks m.old other.old
   pub new : AreSameBooks m.new other.new
 
--- so two stories do, moment by moment, as far as so many acts of the course lead, and leave books that are the same
+-- so two event logs agree, entry by entry, as far as the driver's first `count` acts lead, and leave books that are the
+-- same but for ids
 abbrev pub StoryIsOne : Type 0 → Type 0
 StoryIsOne N =
     (image : ImageValue) (course : Course) (settings : Settings) (placers : List Policy) (taps : List TapValue)
@@ -38,7 +39,7 @@ StoryIsOne N =
     → StoryLeads image course other_opening count other_stage others other_last
     → (other_stage ≡ stage) × AllZip TellOneThing moments others × AreSameBooks last.book other_last.book
 
--- and a course from an opening ends behind one number of acts, no other
+-- and a driver from an opening ends after one number of acts, no other
 abbrev pub EndIsOne : Type 0 → Type 0
 EndIsOne N =
     (image : ImageValue) (course : Course) (settings : Settings) (placers : List Policy) (taps : List TapValue)

@@ -1,4 +1,4 @@
-//! What is told of counts.
+//! The counts that are printed.
 
 ghost use Rattle.std.specs.Prelude.{◌≡◌, ◌==◌, ◌&&◌, [], not, true, if◌then◌else◌, List};
 ghost use Rattle.watch_counts.specs.spec_state.declared.settings.Settings.{Settings};
@@ -32,7 +32,7 @@ pub(crate) fn begin_counts<N: Naming>(counts: &mut Counts, state: &State<N>)
     *counts = Counts::new(state);
 }
 
-/// Tells the counts, if they are due.
+/// Prints the counts, if they are due.
 fn tell_counts_if<N: Naming, K: Sink>(
     line: &mut String,
     sink: &mut K,
@@ -53,7 +53,7 @@ fn tell_counts_if<N: Naming, K: Sink>(
     tell_text(sink, line.as_bytes())
 }
 
-/// Tells the counts at the end of a course, where counts are told.
+/// Prints the counts at the end of a driver, where counts are printed.
 pub(crate) fn tell_last_counts<N: Naming, K: Sink>(
     printer: &mut Printer,
     sink: &mut K,
@@ -73,7 +73,7 @@ pub(crate) fn tell_last_counts<N: Naming, K: Sink>(
     )
 }
 
-/// Counts an act that isn't asked for, where counts are told.
+/// Counts an act that the driver doesn't ask for, where counts are printed.
 pub(crate) fn pass_act(counts: &mut Counts, telling: Telling, act: Act)
     ensures { (c : Counts) → has_counts telling ≡ true → counts.old ≡ capped_counts c
         → counts.new ≡ capped_counts (after_passed act c) }
@@ -83,7 +83,7 @@ pub(crate) fn pass_act(counts: &mut Counts, telling: Telling, act: Act)
     }
 }
 
-/// Counts a round, where one ended: where so many had ended before an act, and so many behind it.
+/// Counts a round, where one ended: `before` rounds had ended before an act, and `now` after it.
 fn count_round(counts: &mut Counts, before: u64, now: u64)
     ensures { (c : Counts) → counts.old ≡ capped_counts c
         → counts.new ≡ capped_counts (if now == before then c else after_round c) }
@@ -93,7 +93,7 @@ fn count_round(counts: &mut Counts, before: u64, now: u64)
     }
 }
 
-/// Whether counts are due behind a round, where one ended: so many had ended before an act, and so many behind it.
+/// Whether counts are due after a round, where one ended: `before` rounds had ended before an act, and `now` after it.
 fn is_round_due(telling: Telling, before: u64, now: u64) -> bool
     ensures { result ≡ (not (now == before) && are_counts_due telling now) }
 {
@@ -116,8 +116,8 @@ fn is_due_behind(telling: Telling, stage: &Stage, round: u64, number: u64) -> bo
     }
 }
 
-/// Behind the act of this number, which led to a stage where so many rounds had ended: counts the end of its round, and
-/// tells the counts that are due, where counts are told.
+/// Counts the end of a round, where the act of this number ended one, and prints the counts that are due, where counts
+/// are printed. Before the act, `round` rounds had ended.
 pub(crate) fn end_act<N: Naming, K: Sink>(
     printer: &mut Printer,
     sink: &mut K,

@@ -1,4 +1,4 @@
-//! A course, which is played act by act from its first stage on.
+//! Drivers, which are played act by act from their first stage on.
 
 ghost use Rattle.std.specs.Prelude.{◌≡◌, ◌<◌, ◌≤◌, ◌+◌, ◌^◌, All, List, OnOk, length};
 ghost use Rattle.watch_counts.specs.Capped.{capped_counts};
@@ -27,7 +27,7 @@ use trace_tap::Tap;
 use watch_counts::step_script::Act;
 use watch_counts::watch_text::CourseWord;
 
-/// Plays the next act of a stage, with so many acts before it, where the course asks for it; else it passes.
+/// Plays the next act of a stage, where the driver asks for it; else the act passes.
 fn play_asked<N: Naming, P: Placer, T: Tap, K: Sink>(
     play: &mut Play<N, P, T>,
     printer: &mut Printer,
@@ -64,7 +64,7 @@ fn play_asked<N: Naming, P: Placer, T: Tap, K: Sink>(
     }
 }
 
-/// Plays the next act of a stage, with so many acts before it, and goes on to the stage behind it.
+/// Plays the next act of a stage, and goes on to the following stage.
 fn play_next<N: Naming, P: Placer, T: Tap, K: Sink>(
     play: &mut Play<N, P, T>,
     printer: &mut Printer,
@@ -111,7 +111,7 @@ fn play_next<N: Naming, P: Placer, T: Tap, K: Sink>(
     )
 }
 
-/// Plays a course from a stage on, up to its end.
+/// Plays a driver from a stage on, up to its end.
 fn play_from<N: Naming, P: Placer, T: Tap, K: Sink>(
     play: &mut Play<N, P, T>,
     printer: &mut Printer,

@@ -8,9 +8,9 @@ ghost use Rattle.watch_play.specs.Twice.{EndIsOne, StoryIsOne};
 
 use rv_core::Naming;
 
-/// A moment of a sound book that wasn't stopped does its act, as a script that is played does; what is said of it are
-/// its reply, or of an advance whether it committed or moved, and how many tasks it took back. On an unsound view the
-/// event for the least task might be refused, and a stopped book advances to no end.
+/// A log entry of a sound book that wasn't stopped does its act, as a script that is played does; it states its reply,
+/// or of an advance whether it committed or moved, and how many tasks it aborted. On an unsound view the event for the
+/// least task might be refused, and a stopped book advances to no end.
 pub fn moment_does<N: Naming>()
     ensures { MomentDoes N }
 {}
@@ -46,14 +46,14 @@ pub fn rounds_dispatch<N: Naming>()
     ensures { RoundsDispatch N }
 {}
 
-/// The acts that a story in rounds tells, in their order, are a script that is played so: lockstep is `steps` of the
-/// acts of its lines, with the same replies.
+/// The acts that the log of a run in rounds lists, in their order, are a script that is played so: lockstep is `steps`
+/// of the acts of its lines, with the same replies.
 pub fn lockstep_plays<N: Naming>()
     ensures { LockstepPlays N }
 {}
 
-/// A story of any course whose acts stand within the settings leaves a sound book that wasn't stopped, wherever it has
-/// come to, if it began with one. An unsound opening stays unsound, and a stopped book makes no event.
+/// An event log of any driver whose acts are within the settings leaves a sound book that wasn't stopped, however long
+/// it is, if it began with one. An unsound opening stays unsound, and a stopped book makes no event.
 pub fn story_stays_sound<N: Naming>()
     ensures { StoryStaysSound N }
 {}
@@ -63,21 +63,21 @@ pub fn least_story_advances<N: Naming>()
     ensures { LeastStoryAdvances N }
 {}
 
-/// So what this course leaves of an opening is the run that as many events of the least tasks make as it has moments:
-/// the one that the first program runs without workers.
+/// So what this driver leaves of an opening is the run that as many events of the least tasks make as the log has
+/// entries: the one that `fractal_sim` runs without workers.
 pub fn least_story_is_run<N: Naming>()
     ensures { LeastStoryIsRun N }
 {}
 
-/// Two stories of one course, from openings of one image with the same settings, placers and taps, tell one thing,
-/// moment by moment: they differ in the ids of tasks alone. Of what an event did beside its one change it says how many
-/// tasks were taken back, and no more.
+/// Two event logs of one driver, from openings of one image with the same settings, placers and taps, agree entry by
+/// entry: only the ids of tasks differ. Of what an event did beside its one change they agree on how many tasks were
+/// aborted, and no more is claimed.
 pub fn story_is_one<N: Naming>()
     ensures { StoryIsOne N }
 {}
 
-/// A course from an opening ends behind one number of acts and no other: so the numbers of rounds and of acts that it
-/// tells, and of lines, are determined.
+/// A driver from an opening ends after one number of acts and no other: so the numbers of rounds, acts and lines of its
+/// log are determined.
 pub fn end_is_one<N: Naming>()
     ensures { EndIsOne N }
 {}

@@ -1,11 +1,11 @@
-//! Courses that are played on a book, and told act by act: those of a script, what brings the least task on, or rounds
+//! Drivers that are played on a book, with an event log of their acts: a script, advances of the least task, or rounds
 //! in lockstep.
 //!
-//! Each act that is asked for is one line, with a whole view behind each so many where there are views, and is one
-//! piece for the sink, written before the next act; where the memory alone is told, no line is put together, and the
-//! sink is left alone. Between the acts stand the player, the line and the order of a round: the memory does not grow
-//! with the number of acts. It stands on the lines of `watch_text`, on scripts, by whose player it plays, and on the
-//! book; `fractal_watch` calls it.
+//! Each act that the driver asks for is one log line, with a whole view after each K-th where views are printed, and is
+//! one piece for the sink, written before the next act; where only the memory is printed, no line is made, and nothing
+//! goes to the sink. Between acts it keeps the player, the line and the order of a round: its memory doesn't grow with
+//! the number of acts. It uses the lines of `watch_text`, scripts, by whose player it plays, and the book;
+//! `fractal_watch` calls it.
 #![tactic(auto)]
 
 mod counting;

@@ -88,8 +88,8 @@ fn next_draw(drawn: u32) -> u32
     drawn.wrapping_mul(1_664_525).wrapping_add(1_013_904_223)
 }
 
-/// Shuffles acts, from the last of them on: each changes places with one that is drawn among it and those before it.
-/// The number that is drawn last is told.
+/// Shuffles acts, from the last of them on: each changes places with one that is drawn among it and those before it. It
+/// returns the number that is drawn last.
 fn shuffle(acts: &mut [Act], drawn: u32) -> u32
     requires { length acts.old < 2 ^ 32 }
     ensures order { let order = shuffled (length acts.old) (record { drawn = drawn; acts = acts.old }) in
@@ -107,8 +107,8 @@ fn shuffle(acts: &mut [Act], drawn: u32) -> u32
     drawn
 }
 
-/// The order of the next round: unless the seed is 0, that of the round before is shuffled. The number that is drawn
-/// last is told.
+/// Makes the order of the next round: unless the seed is 0, that of the round before is shuffled. It returns the number
+/// that is drawn last.
 #[tactic(auto, unfolding(crate::specs::Courses::next_order))]
 pub(crate) fn next_order(acts: &mut [Act], drawn: u32, seed: u32) -> u32
     requires { length acts.old < 2 ^ 32 }

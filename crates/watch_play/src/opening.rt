@@ -1,4 +1,4 @@
-//! What is told before the first act.
+//! What is printed before the first act.
 
 ghost use Rattle.std.specs.Prelude.{◌≡◌, ◌++◌, OnOk, [], if◌then◌else◌};
 ghost use Rattle.std.specs.String.{string_bytes};
@@ -40,7 +40,7 @@ fn put_opening<N: Naming>(
     }
 }
 
-/// Tells the lines before the first act, or the head alone.
+/// Prints the lines before the first act, or only the first of them.
 fn tell_lines<N: Naming, K: Sink>(
     line: &mut String,
     sink: &mut K,
@@ -59,8 +59,8 @@ fn tell_lines<N: Naming, K: Sink>(
     tell_text(sink, line.as_bytes())
 }
 
-/// Tells the head, and the tasks of the image where they were placed, where lines are told; where counts are, the head
-/// alone; else the sink is left alone.
+/// Prints the first line, and the tasks of the image where they were placed, where lines are printed; where counts are,
+/// only the first line; else nothing goes to the sink.
 pub fn tell_opening<N: Naming, P: Placer, T: Tap, K: Sink>(
     watch: &mut Watch<N, P, T>,
     sink: &mut K,

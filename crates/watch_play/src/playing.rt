@@ -1,4 +1,4 @@
-//! One act, which is played, and told where lines are told.
+//! One act, which is played, and printed where lines are printed.
 
 ghost use Rattle.std.specs.Prelude.{◌≡◌, ◌+◌, ◌<◌, ◌^◌, ◌++◌, List, OnOk, ℕ, true};
 ghost use Rattle.std.specs.String.{string_bytes};
@@ -37,18 +37,18 @@ use watch_counts::watch_text::{
 };
 use watch_counts::{Counts, Done, done_by};
 
-/// What came of an act.
+/// The outcome of an act.
 #[derive(Clone, Copy, Debug, PartialEq, Eq)]
 pub(crate) enum PlayedAct {
     /// It was made or refused, or its word was said, and its line stands ready.
     Told,
-    /// The same, but no memory was left for its line.
+    /// It was made or refused, or its reply was found, but no memory was left for its line.
     Untold,
     /// Out of memory before anything was made.
     Unmade,
 }
 
-/// Whether the view is told behind the last of so many moments.
+/// Whether the view is printed after the log entry of this number.
 fn is_due(telling: Telling, number: u64) -> bool
     requires { IsTellable telling }
     ensures { result ≡ is_due telling number }
@@ -61,7 +61,7 @@ fn is_due(telling: Telling, number: u64) -> bool
     }
 }
 
-/// The view, where it is told behind the last of so many moments.
+/// Puts the view, where it is printed after the log entry of this number.
 fn put_view_behind<N: Naming, P: Placer, T: Tap>(
     line: &mut String,
     book: &Book<N, P, T>,
@@ -79,7 +79,8 @@ fn put_view_behind<N: Naming, P: Placer, T: Tap>(
     }
 }
 
-/// The rest of the line of an act, the last of so many moments, and the view behind it where it is told.
+/// Puts the rest of the line of an act, which is the log entry of this number, and the view after it where it is
+/// printed.
 fn tell_rest<N: Naming, P: Placer, T: Tap>(
     line: &mut String,
     book: &Book<N, P, T>,
@@ -101,7 +102,7 @@ fn tell_rest<N: Naming, P: Placer, T: Tap>(
     put_view_behind(line, book, telling, number)
 }
 
-/// Plays an act of this number, from 1, and puts its line together, where lines are told.
+/// Plays an act of this number, from 1, and makes its line, where lines are printed.
 fn play_act<N: Naming, P: Placer, T: Tap>(
     play: &mut Play<N, P, T>,
     printer: &mut Printer,
@@ -157,7 +158,7 @@ fn play_act<N: Naming, P: Placer, T: Tap>(
     }
 }
 
-/// Plays an act of this number, and tells its line.
+/// Plays an act of this number, and prints its line.
 fn tell_line<N: Naming, P: Placer, T: Tap, K: Sink>(
     play: &mut Play<N, P, T>,
     printer: &mut Printer,
@@ -189,7 +190,7 @@ fn tell_line<N: Naming, P: Placer, T: Tap, K: Sink>(
     }
 }
 
-/// What a step is about of which an act came to be, or the word that is said in its place.
+/// What an act that asked for a step is about, or the reply in its place.
 fn about_step<N: Naming>(state: &State<N>, asked: &Asked, leg: &Leg<N>) -> About
     requires within { AskedIsInRange N state.now.view.settings asked.now }
     requires takes { (tile core : ℕ) → asked.now ≡ Asked.Ready tile core
@@ -225,7 +226,7 @@ fn about_act<N: Naming>(state: &State<N>, act: Act, asked: &Asked, leg: &Leg<N>)
     }
 }
 
-/// What the task has done that a commit is about, where counts are told.
+/// What the task of a commit has done, where counts are printed.
 fn done_before<N: Naming>(
     state: &State<N>,
     telling: Telling,
@@ -242,8 +243,8 @@ fn done_before<N: Naming>(
     }
 }
 
-/// Counts an act that was played, where counts are told: its number, what it came to, with how many instructions its
-/// leg has, what that is about, what the task had done that a commit is about, and the reply.
+/// Counts an act that was played, where counts are printed: its number, its kind, the number of instructions of its
+/// leg, what it is about, what the task of a commit had done, and the reply.
 fn count_moment<N: Naming, P: Placer, T: Tap>(
     counts: &mut Counts,
     book: &Book<N, P, T>,
@@ -268,7 +269,7 @@ fn count_moment<N: Naming, P: Placer, T: Tap>(
     }
 }
 
-/// Plays an act of this number, of which no line is told, and counts it where counts are.
+/// Plays an act of this number, of which no line is printed, and counts it where counts are.
 fn make_act<N: Naming, P: Placer, T: Tap>(
     play: &mut Play<N, P, T>,
     told: &mut SoTold,
@@ -291,7 +292,7 @@ fn make_act<N: Naming, P: Placer, T: Tap>(
     };
     let leg = play.player.leg();
     let steps = leg.steps();
-    // What the act is about belongs to its moment, told or not.
+    // What the act is about belongs to its log entry, printed or not.
     let about = about_act(play.book.state(), act, &asked, leg);
     let done = done_before(play.book.state(), telling, &asked, &about);
     let applied = play.player.make(&mut play.book, asked);
@@ -314,7 +315,7 @@ fn make_act<N: Naming, P: Placer, T: Tap>(
     Ok(())
 }
 
-/// Plays an act of this number, and tells it where lines are told; else the sink is left alone.
+/// Plays an act of this number, and prints it where lines are printed; else nothing goes to the sink.
 pub(crate) fn tell_act<N: Naming, P: Placer, T: Tap, K: Sink>(
     play: &mut Play<N, P, T>,
     printer: &mut Printer,

@@ -1,4 +1,4 @@
-//! How far a course has come.
+//! The position of a driver.
 
 ghost use Rattle.std.specs.Prelude.{◌≡◌, ◌+◌, ◌<◌, ◌≤◌, ◌^◌, ◌↔◌, Bool, IfOk, IfSome, IsNone, IsTrue, length, List};
 ghost use Rattle.watch_counts.specs.conflict_book.BookViews.{machine_view};
@@ -25,10 +25,10 @@ use watch_counts::spec_state::{Settings, Where};
 use watch_counts::step_script::Act;
 use watch_counts::watch_text::CourseWord;
 
-/// How far a course has come: the definition's `Stage`, beside the course.
+/// The position of a driver: the definition's `Stage`, beside the mode.
 #[derive(Drop)]
 pub(crate) struct Stage {
-    /// The course.
+    /// The mode.
     pub course: CourseWord,
     /// The acts of the round that is played, in their order; of a script, all of them.
     pub acts: Vec<Act>,
@@ -130,7 +130,7 @@ impl Stage {
         }
     }
 
-    /// Whether the course goes on with it.
+    /// Whether the driver has a next act in this state of the book.
     fn goes_on<N: Naming, P: Placer, T: Tap>(&self, book: &Book<N, P, T>) -> bool
         ensures { (settings : Settings) (script : List Act)
             → IsTrue result ↔ GoesOnAt (course_of self.now.course settings script) (stage_of self.now)
@@ -147,7 +147,7 @@ impl Stage {
         }
     }
 
-    /// The next act of a course that goes on; None exactly where it ends.
+    /// The next act of a driver that goes on; None exactly where it ends.
     pub(crate) fn next<N: Naming, P: Placer, T: Tap>(&self, book: &Book<N, P, T>) -> Option<Act>
         ensures some { (settings : Settings) (script : List Act)
             → IfSome result (HasNext (course_of self.now.course settings script) (stage_of self.now)
@@ -160,7 +160,7 @@ impl Stage {
         if self.goes_on(book) { Some(act) } else { None }
     }
 
-    /// Whether the course asks for an act as the machine stands.
+    /// Whether the driver asks for an act in this state of the machine.
     pub(crate) fn asks<N: Naming, P: Placer, T: Tap>(&self, book: &Book<N, P, T>, act: Act) -> bool
         requires { let settings = (machine_view book.now).settings in
             ActIsInRange settings.tiles settings.cores act }

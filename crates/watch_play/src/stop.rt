@@ -1,13 +1,13 @@
-//! Why a story ends before its course does, and how a text is told.
+//! Why a run ends before its driver does, and how a text is printed.
 
 ghost use Rattle.watch_play.specs.Telling.{TellsText};
 
 use sim_io::{Sink, write_all};
 
-/// Why a story ends before its course does.
+/// Why a run ends before its driver does.
 #[derive(Clone, Copy, Debug, PartialEq, Eq)]
 pub enum StoryStop {
-    /// Out of memory. Whole lines were told, at most one moment too few, or none at all before the first act.
+    /// Out of memory. Whole lines were printed, at most one log entry too few, or none at all before the first act.
     Memory,
     /// The sink failed.
     Sink,

@@ -24,32 +24,32 @@ pub struct Play<N: Naming, P: Placer, T: Tap> {
     pub player: Player<N>,
 }
 
-/// How much was told so far.
+/// How much was printed so far.
 #[derive(Clone, Copy, Debug, PartialEq, Eq)]
 pub struct SoTold {
     /// How many moments there were.
     pub moments: u64,
-    /// What was counted of them, where counts are told.
+    /// What was counted of them, where counts are printed.
     pub counts: Counts,
 }
 
-/// What prints: the line that is put together, and how much was told.
+/// What prints: the line that is being made, and how much was printed.
 #[derive(Drop)]
 pub struct Printer {
     /// The line that is put together.
     pub line: String,
-    /// How much was told.
+    /// How much was printed.
     pub told: SoTold,
 }
 
-/// A run that is watched: what plays it, what prints it, and what is told of it.
+/// A run that is watched: what plays it, what prints it, and what is printed of it.
 #[derive(Drop)]
 pub struct Watch<N: Naming, P: Placer, T: Tap> {
     /// What plays.
     pub play: Play<N, P, T>,
     /// What prints.
     pub printer: Printer,
-    /// What is told of the run.
+    /// What is printed of the run.
     pub telling: Telling,
 }
 

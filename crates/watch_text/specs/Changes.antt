@@ -1,4 +1,4 @@
--- What stands in a line behind its event: the reply, and what changed.
+-- The part of a line after its event: the reply, and what changed.
 use Rattle.std.specs.Prelude.{◌-◌, ◌==◌, ℕ, List, [], ◌∷◌, ◌++◌, codes, decimal, drop, filter, length, map}
 use Rattle.std.specs.Prelude.{Some, None, option_and_then, option_map, slice_get, if◌then◌else◌}
 use Rattle.std.specs.declared.option.Option.{Option}
@@ -26,13 +26,13 @@ use Rattle.watch_text.specs.Fields.{hex_text, items_field, name_field, number_fi
 abbrev pub last_item : {X : Type 0} → List X → Option X
 last_item items = slice_get items (length items - 1)
 
--- ---- tasks that were taken back and spilled
+-- ---- tasks that were aborted and spilled
 
--- how many tasks were taken back, where any were
+-- how many tasks were aborted, where any were
 abbrev pub aborted_text : ℕ → List ℕ
 aborted_text aborted = if aborted == 0 then [] else number_field (codes "aborted") aborted
 
--- a task that was taken back, and how many instructions it had executed
+-- a task that was aborted, and how many instructions it had executed
 abbrev pub back_text : TakenTask → List ℕ
 back_text task = pair_text task.id.0 task.used
 
@@ -46,13 +46,13 @@ spilled_text task =
     codes "[" ++ decimal task.id.0 ++ codes "," ++ decimal task.name.creator ++ codes "," ++ decimal task.name.index
     ++ codes "]"
 
--- which were taken back, which of these are gone, and which were spilled
+-- which were aborted, which of these are gone, and which were spilled
 abbrev pub lists_text : EffectValue → List ℕ
 lists_text effect =
     items_field (codes "back") back_text effect.back ++ items_field (codes "gone") decimal (gone_ids effect.back)
     ++ items_field (codes "spilled") spilled_text effect.spilled
 
--- how many were taken back, and these lists
+-- how many were aborted, and these lists
 unfoldable pub taken_text : EffectValue → ℕ → List ℕ
 taken_text effect aborted = aborted_text aborted ++ lists_text effect
 

@@ -58,7 +58,7 @@ args_field args =
 abbrev pub hex_text : List ℕ → List ℕ
 hex_text bytes = flat_map byte_hex bytes
 
--- how filters tell lines apart
+-- the kind of filters
 abbrev pub filter_word : FilterKind → List ℕ
 filter_word Modulo = codes "modulo"
 filter_word Bloom = codes "bloom"

@@ -1,4 +1,4 @@
--- A moment: an act that was told, with the book before and after it.
+-- A log entry: an act that was made, with the book before and after it.
 use Rattle.std.specs.Prelude.{◌≡◌, ℕ, Some, None, slice_get, option_map}
 use Rattle.std.specs.declared.option.Option.{Option}
 use Rattle.guest_image.specs.ImageValue.{ImageValue}
@@ -18,8 +18,8 @@ use Rattle.script_text.specs.step_script.Asking.{AsksFor, Attempt, AttemptTells,
 use Rattle.script_text.specs.step_script.Playing.{PlayState}
 use Rattle.watch_text.specs.declared.about.About.{About}
 
--- the number of the act, and which of the told ones it is, both from 1; the act, what it came to, the task that this
--- is about and what that asks for; the reply, how many tasks were taken back, what the event did beside its one change,
+-- the number of the act, and the number of its log entry, both from 1; the act, what it asked for, the task that this
+-- is about and that task's request; the reply, how many tasks were aborted, what the event did beside its one change,
 -- and the book before and after
 pub record Moment (N : Type 0) : Type 0 where
   pub at : ℕ
@@ -38,8 +38,8 @@ pub record Moment (N : Type 0) : Type 0 where
 abbrev pub task_of : About → Option ℕ
 task_of about = option_map (λ id. id.0) about.task
 
--- the task that an event is about: the one that is dispatched, holds the core, is taken back or commits; none where
--- there is no such task, and where tasks move between a queue and a block
+-- the task that an event is about: the one that is dispatched, holds the core, is aborted or commits; None where no
+-- task is, and where tasks move between a queue and a block
 abbrev pub IsAbout : {N : Type 0} → View → Attempt N → Option ℕ → Type 0
 IsAbout view (Says reply) task = task ≡ None
 IsAbout view (Hands (event.Dispatch tile)) None = (id : ℕ) (task : Task) → IsIdle view tile id task → ⊥
@@ -59,8 +59,8 @@ IsAskedFor view (Hands (event.Step tile core leg)) (Some request) =
     (id : ℕ) × (task : Task) × TakesLeg view tile core leg id task × (request_of view task leg ≡ request)
 IsAskedFor view other request = request ≡ None
 
--- the moment leads from one of these states of a play to the other: its act comes to what it says, with all that it
--- says of that
+-- the log entry leads from one of these states of a play to the other: its act has this outcome, and all that the entry
+-- says of it is true
 pub record IsMoment {N : Type 0} (image : ImageValue) (m : Moment N) (before after : PlayState) : Type 0 where
   pub old_is : m.old ≡ before.book
   pub new_is : m.new ≡ after.book

@@ -43,7 +43,7 @@ limits_text settings =
     ++ number_field (codes "commits") settings.commits ++ number_field (codes "budget") settings.budget
     ++ number_field (codes "phase") settings.phase
 
--- how filters tell lines apart
+-- the kind of filters
 unfoldable pub filter_text : FilterKind → List ℕ
 filter_text kind = word_field (codes "filter") (filter_word kind)
 
@@ -64,7 +64,8 @@ bounds_text image =
 unfoldable pub image_text : ImageValue → List ℕ
 image_text image = contents_text image ++ bounds_text image
 
--- the head: what is told, of which course, on which machine, and of which image; there are no workers
+-- the first line: what is printed, of which mode, on which machine, and of which image; no number of workers, because
+-- none run
 unfoldable pub head_line : CourseWord → Settings → ImageValue → List ℕ
 head_line course settings image =
     codes "{\"watch\":1" ++ course_text course ++ settings_text settings ++ image_text image ++ codes "}\n"
@@ -87,7 +88,7 @@ placed_rest p =
 abbrev pub placed_line : ℕ → Option ℕ → Placed → List ℕ
 placed_line tile id placed = placed_front tile id ++ placed_rest placed
 
--- what is told of a task in a queue, which the image has made
+-- what is printed of a task in a queue, which the image has made
 abbrev pub placed_task : Task → Placed
 placed_task task = let name = name_given task.creator 0 in record {
   creator = name.creator;

@@ -1,4 +1,4 @@
--- What stands in a line before its event: the words of acts and events, and what a task asks for.
+-- The part of a line before its event: the names of acts and events, and what a task asks for.
 use Rattle.std.specs.Prelude.{◌+◌, ℕ, List, [], ◌++◌, codes, decimal, Some, None}
 use Rattle.std.specs.declared.option.Option.{Option}
 use Rattle.guest_image.specs.declared.memory_map.TheConstants.{DATA_START}

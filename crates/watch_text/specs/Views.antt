@@ -51,7 +51,7 @@ finished_text view tile = codes "],\"finished\":[" ++ items_text decimal (finish
 unfoldable pub block_text : View → ℕ → List ℕ
 block_text view tile = codes "],\"block\":" ++ decimal (length (block_at view tile)) ++ codes "}"
 
--- the ids on its cores, and behind them those
+-- the ids on its cores, followed by those in its commit queue and in its block
 abbrev pub working_text : View → ℕ → List ℕ
 working_text view tile =
     items_text (held_text view tile) (range_with_len 0 view.settings.cores)

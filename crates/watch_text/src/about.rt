@@ -20,8 +20,8 @@ use task_request::{Request, request_of};
 /// What an event is about.
 #[derive(Clone, Copy, Debug, PartialEq, Eq)]
 pub struct About {
-    /// The task that is dispatched, holds the core, is taken back or commits; None where there is no such task, and
-    /// where tasks move between a queue and a block.
+    /// The task that is dispatched, holds the core, is aborted or commits; None where no task is, and where tasks move
+    /// between a queue and a block.
     pub task: Option<TaskId>,
     /// What the task on the core asks for at the end of the leg; None where it doesn't take the leg.
     pub request: Option<Request>,

@@ -7,7 +7,7 @@ use script_text::event_def::Reply;
 pub struct Answer {
     /// The reply, or the word that was said in its place.
     pub reply: Reply,
-    /// How many tasks were taken back.
+    /// How many tasks were aborted.
     pub aborted: u32,
     /// How many events were made so far.
     pub events: u64,

@@ -1,4 +1,4 @@
-//! What an event took back and spilled.
+//! The tasks that an event aborted and spilled.
 
 ghost use Rattle.std.specs.Prelude.{◌≡◌, ◌++◌, ℕ, IfOk, OnOk};
 ghost use Rattle.std.specs.String.{string_bytes};
@@ -72,7 +72,7 @@ fn gone_ids(alloc: Global, back: &[TakenTask]) -> Result<Vec<usize>, AllocError>
     Ok(ids)
 }
 
-/// Which tasks an event took back, which of these are gone, and which it spilled.
+/// Puts which tasks an event aborted, which of these are gone, and which it spilled.
 fn put_lists(line: &mut String, alloc: Global, effect: &Effect) -> Result<(), AllocError>
     ensures { OnOk result (string_bytes line.new ≡ string_bytes line.old ++ lists_text effect.now) }
 {
@@ -82,7 +82,7 @@ fn put_lists(line: &mut String, alloc: Global, effect: &Effect) -> Result<(), Al
     put_list(line, "spilled", effect.spilled())
 }
 
-/// What an event took back and spilled: how many tasks were taken back, which, which of these are gone, and which were
+/// Puts what an event aborted and spilled: how many tasks were aborted, which, which of these are gone, and which were
 /// spilled.
 #[tactic(auto, unfolding(crate::specs::Changes::taken_text))]
 pub(crate) fn put_taken(

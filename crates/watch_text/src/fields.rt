@@ -103,7 +103,7 @@ pub(crate) fn put_number(line: &mut String, name: &str, number: u64) -> Result<(
     put_digits(line, number)
 }
 
-/// The same where there is one.
+/// Puts a field with a name and a number, where there is one; else nothing.
 #[inline(always)]
 pub(crate) fn put_some(line: &mut String, name: &str, number: Option<u64>) -> Result<(), AllocError>
     ensures { OnOk result (string_bytes line.new ≡ string_bytes line.old ++ some_field name.now number) }

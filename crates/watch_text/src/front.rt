@@ -219,7 +219,7 @@ fn put_leg<N: Naming>(line: &mut String, leg: &Leg<N>, request: &Request) -> Res
     put_request(line, request)
 }
 
-/// The same, where a leg is handed in and its task takes it.
+/// Puts a leg that its task takes, and what the task asks for at its end, where a leg is handed in; else nothing.
 fn put_asked<N: Naming>(
     line: &mut String,
     asked: &Asked,

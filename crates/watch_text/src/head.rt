@@ -1,4 +1,4 @@
-//! The head: what is told, of which course, on which machine, and of which image.
+//! The first line of an event log: what is printed, of which mode, on which machine, and of which image.
 
 ghost use Rattle.std.specs.Prelude.{◌≡◌, ◌++◌, OnOk};
 ghost use Rattle.std.specs.String.{string_bytes};
@@ -19,7 +19,7 @@ use std::fmt::Write;
 pub enum CourseWord {
     /// Those of a script.
     Steps,
-    /// What brings the least task on, up to the end of the run.
+    /// Those that advance the least task, up to the end of the run.
     Least,
     /// In each round every tile dispatches, every running core makes a step, tasks commit and come back; after many
     /// starved rounds in a row, a round advances the least task until it is dispatched.
@@ -92,7 +92,7 @@ fn put_filter(line: &mut String, kind: FilterKind) -> Result<(), AllocError>
     put_word(line, "filter", filter_word(kind))
 }
 
-/// How large a machine is, how far it runs, and how its filters tell lines apart.
+/// Puts the size of a machine, its limits, and the kind of its filters.
 #[tactic(auto, unfolding(crate::specs::Opening::settings_text))]
 fn put_settings(line: &mut String, settings: &Settings) -> Result<(), AllocError>
     ensures { OnOk result (string_bytes line.new ≡ string_bytes line.old ++ settings_text settings.now) }
@@ -138,7 +138,7 @@ fn put_image(line: &mut String, image: &Image) -> Result<(), AllocError>
     put_bounds(line, image)
 }
 
-/// The head: the course, the settings but for the number of workers, of which there are none, and the image.
+/// Puts the first line: the mode, the settings but for the number of workers, because none run, and the image.
 #[tactic(auto, unfolding(crate::specs::Opening::head_line))]
 pub fn put_head(
     line: &mut String,

@@ -7,7 +7,7 @@ ghost use Rattle.watch_text.specs.Fields.{items_field, items_text, more_items};
 use crate::fields::{put_digits, put_text};
 use std::alloc::AllocError;
 
-/// What may stand in a list.
+/// An item of a list in a line.
 pub(crate) trait ListItem {
     /// Its text.
     ghost text: { Self → List ℕ };

@@ -1,10 +1,10 @@
-//! Lines of JSON that tell what acts do to a machine: what each asks for, the reply, and what changed, which tasks were
-//! taken back, discarded and spilled among it; and the lines around them, of the opening, of a whole view and of the
-//! end.
+//! Lines of JSON that report what acts do to a machine: what each asks for, the reply, and what changed, with the tasks
+//! that were aborted, discarded and spilled; and the lines around them, of the opening, of a whole view and of the end.
 //!
-//! A line is put together in one text: before the event from what the act came to, behind it from readers of the state
-//! and from what the event tells that it did beside its one change. It costs what it writes. It stands on scripts and
-//! on the readers of the machine; `watch_play` calls it, and `fractal_watch` for the last line.
+//! A line is put together in one text: the part before the event from what the act asked for, the part after it from
+//! readers of the state and from the event's effect, which lists what it did beside its one change. It costs what it
+//! writes. It uses scripts and the readers of the machine; `watch_play` calls it, and `fractal_watch` for the last
+//! line.
 #![tactic(auto)]
 
 mod about;

@@ -1,4 +1,4 @@
-//! What an event changed beside the tasks that it took back or spilled.
+//! What an event changed beside the tasks that it aborted or spilled.
 
 ghost use Rattle.std.specs.Prelude.{◌≡◌, ◌<◌, ◌++◌, OnOk, Some, drop, option_copied, option_map};
 ghost use Rattle.std.specs.String.{string_bytes};

@@ -15,7 +15,7 @@ use std::alloc::AllocError;
 use std::fmt::Write;
 use task_desc::Desc;
 
-/// What is told of a task that was placed, beside its tile and its id.
+/// What is printed of a task that was placed, beside its tile and its id.
 #[derive(Clone, Copy)]
 struct Placed {
     creator: u64,
@@ -53,7 +53,7 @@ fn put_what(line: &mut String, placed: &Placed) -> Result<(), AllocError>
     write!(line, "}}\n")
 }
 
-/// What is told of a task in a queue, which the image has made.
+/// What is printed of a task in a queue, which the image has made.
 fn placed_task(task: &Task) -> Placed
     ensures { result ≡ placed_task task.now }
 {

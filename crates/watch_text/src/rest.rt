@@ -29,7 +29,7 @@ fn put_reply(line: &mut String, reply: Reply, events: u64) -> Result<(), AllocEr
     put_field(line, ",\"n\":", events)
 }
 
-/// What an event changed: what it took back and spilled, and what it did beside that.
+/// Puts what an event changed: what it aborted and spilled, and what it did beside that.
 fn put_made<N: Naming>(
     line: &mut String,
     state: &State<N>,
@@ -66,7 +66,7 @@ fn put_change<N: Naming>(
     }
 }
 
-/// The same by the reply.
+/// Puts what an event changed, where its reply is `Ok`; else nothing.
 fn put_change_by<N: Naming>(
     line: &mut String,
     state: &State<N>,
