@@ -9,7 +9,7 @@ ghost use Rattle.std.specs.Prelude.{◌≡◌, IsTrue};
 ghost use Rattle.conflict_book.specs.spec_state.Settings.{IsValid};
 ghost use Rattle.conflict_book.specs.Ranges.{IsInRange};
 
-use conflict_book::spec_state::{FilterKind, Settings};
+use conflict_book::event_step::event_prelude::event_def::spec_state::{FilterKind, Settings};
 use conflict_book::{Applied, Book, Event, Reply};
 use guest_image::Image;
 use load_gen::{Load, make};

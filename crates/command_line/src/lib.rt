@@ -13,4 +13,3 @@ pub use number::number_between;
 pub use reading::read_words;
 pub use request::{Command, Refusal, Request};
 pub use spec_state;
-pub use spec_state::serial_machine;

@@ -19,13 +19,13 @@ ghost use Rattle.conflict_book.specs.Next.{ComesNext};
 ghost use Rattle.conflict_book.specs.BookViews.{effect_of, going_book, machine_view, view_of};
 
 use crate::book::{Book, SoundState};
+use crate::event_def::{Advance, Came, Halt};
+use crate::event_prelude::end_with;
 use crate::events::pass_after;
+use crate::serial_machine::End;
+use crate::spec_state::{Settings, State, TaskId, Where};
 use event_move::{make_commit, make_dispatch, make_split};
-use event_step::event_def::{Advance, Came, Halt};
-use event_step::event_prelude::end_with;
 use event_step::make_step;
-use event_step::serial_machine::End;
-use event_step::spec_state::{Settings, State, TaskId, Where};
 use guest_image::Image;
 use place_policy::Placer;
 use rv_core::{Leg, Naming};

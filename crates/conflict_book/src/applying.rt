@@ -10,8 +10,8 @@ ghost use Rattle.conflict_book.specs.Ranges.{IsInRange};
 ghost use Rattle.conflict_book.specs.BookViews.{after_event, effect_of, machine_view, view_of};
 
 use crate::book::Book;
+use crate::event_def::{Applied, Came, Event, Reply};
 use crate::legless::Legless;
-use event_step::event_def::{Applied, Came, Event, Reply};
 use place_policy::Placer;
 use rv_core::{Leg, Naming};
 use std::alloc::AllocError;

@@ -5,7 +5,7 @@ ghost use Rattle.event_step.specs.spec_state.Effects.{nothing};
 ghost use Rattle.event_step.specs.event_def.Book.{next_count};
 ghost use Rattle.event_step.specs.spec_law.Sound.{Sound};
 
-use event_step::spec_state::State;
+use crate::spec_state::State;
 use place_policy::Placer;
 use rv_core::{Leg, Naming};
 use std::marker::Model;

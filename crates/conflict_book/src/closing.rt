@@ -9,9 +9,9 @@ ghost use Rattle.conflict_book.specs.Left.{LeavesLawfulRun};
 ghost use Rattle.conflict_book.specs.BookViews.{view_of};
 
 use crate::book::{Book, SoundState};
-use event_step::event_def::Closed;
-use event_step::spec_rollback::undo_all;
-use event_step::spec_state::State;
+use crate::event_def::Closed;
+use crate::spec_rollback::undo_all;
+use crate::spec_state::State;
 use place_policy::Placer;
 use rv_core::Naming;
 use trace_tap::Tap;

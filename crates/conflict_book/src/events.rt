@@ -14,10 +14,10 @@ ghost use Rattle.conflict_book.specs.Ranges.{IsInRange};
 ghost use Rattle.conflict_book.specs.BookViews.{going_book};
 
 use crate::book::SoundState;
+use crate::event_def::Came;
 use crate::legless::Legless;
+use crate::spec_state::State;
 use event_move::{abort, coalesce, commit, dispatch, split};
-use event_step::event_def::Came;
-use event_step::spec_state::State;
 use event_step::step;
 use place_policy::Placer;
 use rv_core::{Leg, Naming};

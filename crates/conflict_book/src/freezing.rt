@@ -8,9 +8,9 @@ ghost use Rattle.conflict_book.specs.Frozen.{IsFrozenOf};
 ghost use Rattle.conflict_book.specs.BookViews.{view_of};
 
 use crate::book::{Book, SoundState};
-use event_step::event_def::Closed;
-use event_step::serial_machine::MAX_COMMITS;
-use event_step::spec_state::Pendings;
+use crate::event_def::Closed;
+use crate::serial_machine::MAX_COMMITS;
+use crate::spec_state::Pendings;
 use place_policy::Placer;
 use rv_core::Naming;
 use std::alloc::AllocError;

@@ -20,9 +20,11 @@ mod queries;
 pub use book::{Book, SoundState};
 pub use event_move;
 pub use event_step;
-pub use event_step::event_def::{Advance, Applied, Closed, Event, Halt, Reply};
-pub use event_step::{
-    event_def, event_prelude, serial_machine, spec_access, spec_commit, spec_dispatch, spec_state,
-};
+use event_step::event_prelude;
+use event_step::event_prelude::event_def::spec_state;
+use event_step::event_prelude::event_def::spec_state::serial_machine;
+pub use event_step::event_prelude::event_def::{Advance, Applied, Closed, Event, Halt, Reply};
+use event_step::event_prelude::{event_def, spec_commit, spec_rollback};
+use event_step::spec_access::spec_dispatch;
 pub use freezing::Frozen;
 pub use legless::Legless;

@@ -20,8 +20,8 @@ ghost use Rattle.conflict_book.specs.Fresh.{AreFresh};
 ghost use Rattle.conflict_book.specs.BookViews.{going_book, view_of};
 
 use crate::book::{Book, SoundState};
-use event_step::spec_commit::coalesce;
-use event_step::spec_state::{Settings, State};
+use crate::spec_commit::coalesce;
+use crate::spec_state::{Settings, State};
 use guest_image::{Image, ImageTask, Kind, TEXT_START};
 use place_policy::{Placer, serving_pick, serving_placed};
 use rv_core::{Core, Decoded, Leg, Naming, run_leg_decoded};

@@ -14,10 +14,10 @@ ghost use Rattle.conflict_book.specs.BookViews.{effect_of, events_made, machine_
 ghost use Rattle.conflict_book.specs.Ready.{HasRunning, IsReady};
 
 use crate::book::Book;
-use event_step::event_prelude::end_of;
-use event_step::serial_machine::{End, Entry};
-use event_step::spec_dispatch::free_core;
-use event_step::spec_state::{Effect, Loads, Settings, State, Status, TaskId};
+use crate::event_prelude::end_of;
+use crate::serial_machine::{End, Entry};
+use crate::spec_dispatch::free_core;
+use crate::spec_state::{Effect, Loads, Settings, State, Status, TaskId};
 use place_policy::{Placer, serving_pick};
 use progress_cell::Reading;
 use rv_core::{Core, Decoded, Naming, NotedCore};

@@ -8,5 +8,5 @@
 
 mod laws;
 
-pub use event_law::{event_def, serial_machine, spec_state};
+pub use event_law::event_def;
 pub use laws::{bound_falls, idle_stays, made_is_sound, room_is_left, taker_stays, victim_moves};

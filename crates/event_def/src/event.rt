@@ -1,7 +1,7 @@
 //! Events, and what they are answered.
 
+use crate::serial_machine::End;
 use rv_core::{Leg, Naming};
-use spec_state::serial_machine::End;
 use trace_tap::Record;
 
 /// One atomic change of the machine. Tiles and cores are counted from 0.

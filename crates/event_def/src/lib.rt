@@ -11,4 +11,4 @@ mod event;
 pub use event::{Advance, Applied, Came, Event, Halt, Reply};
 pub use run_journal::Closed;
 pub use spec_state;
-pub use spec_state::serial_machine;
+use spec_state::serial_machine;

@@ -8,7 +8,6 @@
 mod laws;
 
 pub use event_def;
-pub use event_def::{serial_machine, spec_state};
 pub use laws::{
     advances_fall, close_is_serial, end_is_one, end_is_serial, end_is_there, event_stays_sound,
     events_count_one, events_join, histories_are_runs, least_event_is_granted,

@@ -11,10 +11,10 @@ ghost use Rattle.event_prelude.specs.event_def.declared.event.Event.TheVariants 
 ghost use Rattle.event_prelude.specs.event_def.End.{IsOver};
 ghost use Rattle.event_move.specs.Moving.{ComesSo};
 
+use crate::event_def::{Came, Reply};
 use crate::recording::record_of;
-use event_prelude::event_def::{Came, Reply};
-use event_prelude::spec_rollback::abort as take_back;
-use event_prelude::spec_state::{State, TaskId};
+use crate::spec_rollback::abort as take_back;
+use crate::spec_state::{State, TaskId};
 use event_prelude::{is_at, least_going};
 use rv_core::Naming;
 use trace_tap::{Deed, Record};

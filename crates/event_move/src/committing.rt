@@ -9,11 +9,11 @@ ghost use Rattle.event_prelude.specs.event_basis.Whereabouts.{IsUnfinished};
 ghost use Rattle.event_prelude.specs.event_def.End.{IsOver};
 ghost use Rattle.event_move.specs.Moving.{CommitComes};
 
+use crate::event_def::{Came, Reply};
 use crate::recording::record_of;
-use event_prelude::event_def::{Came, Reply};
+use crate::spec_commit::commit_task;
+use crate::spec_state::{State, TaskId, Where};
 use event_prelude::least_going;
-use event_prelude::spec_commit::commit_task;
-use event_prelude::spec_state::{State, TaskId, Where};
 use rv_core::Naming;
 use trace_tap::Deed;
 

@@ -17,11 +17,11 @@ ghost use Rattle.event_prelude.specs.event_def.Telling.{TellsCore};
 ghost use Rattle.event_move.specs.Idling.{NoIdleIsLeast};
 ghost use Rattle.event_move.specs.Moving.{ComesSo};
 
+use crate::event_def::{Came, Reply};
 use crate::recording::record_of;
-use event_prelude::event_def::{Came, Reply};
+use crate::spec_rollback::abort;
+use crate::spec_state::{State, Status, Task, TaskId, Where};
 use event_prelude::least_going;
-use event_prelude::spec_rollback::abort;
-use event_prelude::spec_state::{State, Status, Task, TaskId, Where};
 use rv_core::Naming;
 use spec_dispatch::{dispatch_task, free_core};
 use trace_tap::{Deed, Record};

@@ -18,4 +18,6 @@ mod spilling;
 pub use aborting::abort;
 pub use committing::{commit, make_commit};
 pub use dispatching::{dispatch, has_idle, least_in, make_dispatch};
+use event_prelude::event_def::spec_state;
+use event_prelude::{event_def, spec_commit, spec_rollback};
 pub use spilling::{coalesce, make_split, split};

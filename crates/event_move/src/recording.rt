@@ -3,7 +3,7 @@
 ghost use Rattle.std.specs.Prelude.{◌≡◌, None};
 ghost use Rattle.event_prelude.specs.event_def.Trace.{record_of};
 
-use event_prelude::spec_state::State;
+use crate::spec_state::State;
 use rv_core::Naming;
 use trace_tap::{Deed, Record};
 

@@ -13,10 +13,10 @@ ghost use Rattle.event_prelude.specs.event_def.declared.event.Event.TheVariants 
 ghost use Rattle.event_prelude.specs.event_def.End.{IsOver};
 ghost use Rattle.event_move.specs.Moving.{ComesSo};
 
+use crate::event_def::{Came, Reply};
 use crate::recording::record_of;
-use event_prelude::event_def::{Came, Reply};
-use event_prelude::spec_commit::{coalesce as spill, split as return_least};
-use event_prelude::spec_state::State;
+use crate::spec_commit::{coalesce as spill, split as return_least};
+use crate::spec_state::State;
 use event_prelude::{end_of, least_going, make_room, may_return};
 use rv_core::Naming;
 use trace_tap::{Deed, Record};

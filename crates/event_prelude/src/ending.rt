@@ -8,8 +8,8 @@ ghost use Rattle.event_basis.specs.spec_state.View.{task_at};
 ghost use Rattle.event_basis.specs.Whereabouts.{IsUntrapped};
 ghost use Rattle.event_basis.specs.event_def.End.{HasEnd, IsOver};
 
-use event_basis::serial_machine::End;
-use event_basis::spec_state::{State, Status, TaskId, Where};
+use crate::serial_machine::End;
+use crate::spec_state::{State, Status, TaskId, Where};
 use rv_core::Naming;
 use task_desc::Name;
 

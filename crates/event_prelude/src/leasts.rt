@@ -4,7 +4,7 @@ ghost use Rattle.std.specs.Prelude.{◌≡◌, ◌↔◌, IsTrue, Some, option_m
 ghost use Rattle.event_basis.specs.spec_state.Least.{IsTheLeast, IsLeastSpilled};
 ghost use Rattle.event_basis.specs.Whereabouts.{queued_in, spilled_in};
 
-use event_basis::spec_state::{State, TaskId, Where};
+use crate::spec_state::{State, TaskId, Where};
 use rv_core::Naming;
 
 /// The id of the least task, where it is queued.

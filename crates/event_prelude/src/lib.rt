@@ -11,7 +11,9 @@ mod leasts;
 mod rooming;
 
 pub use ending::{end_of, end_with, least_going};
-pub use event_basis::{event_def, serial_machine, spec_state};
+pub use event_basis::event_def;
+use event_basis::event_def::spec_state;
+use event_basis::event_def::spec_state::serial_machine;
 pub use leasts::is_at;
 pub use rooming::{make_room, may_return, stalls};
 pub use spec_commit;

@@ -15,7 +15,7 @@ ghost use Rattle.event_basis.specs.Forcing.{RunsIfTask};
 ghost use Rattle.event_prelude.specs.Entering.{MayEnter};
 
 use crate::leasts::{is_least, is_least_spilled, is_spilled_at};
-use event_basis::spec_state::{State, TaskId, Where};
+use crate::spec_state::{State, TaskId, Where};
 use rv_core::Naming;
 use spec_commit::{coalesce, creator_of, victim_of};
 use spec_rollback::abort;

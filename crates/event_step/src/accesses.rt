@@ -11,10 +11,10 @@ ghost use Rattle.event_prelude.specs.event_basis.Forcing.{TakesStill};
 ghost use Rattle.event_step.specs.Accessing.{TakesTelling, LoadsTelling, StoresTelling};
 ghost use Rattle.event_step.specs.Coming.{QuietlyComes};
 
+use crate::event_def::{Came, Reply};
 use crate::recording::record_of;
-use event_prelude::event_def::{Came, Reply};
-use event_prelude::spec_rollback::abort_conflicts;
-use event_prelude::spec_state::{State, TaskId};
+use crate::spec_rollback::abort_conflicts;
+use crate::spec_state::{State, TaskId};
 use rv_core::{Leg, Naming};
 use rv_table::{LoadWidth, Reg};
 use spec_access::{load_reserved, reserve_access, store_reserved};

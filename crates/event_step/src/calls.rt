@@ -9,9 +9,9 @@ ghost use Rattle.spec_access.specs.Asking.{Asks};
 ghost use Rattle.event_prelude.specs.event_def.End.{IsOver};
 ghost use Rattle.event_step.specs.Coming.{QuietlyComes};
 
+use crate::event_def::Came;
 use crate::recording::record_of;
-use event_prelude::event_def::Came;
-use event_prelude::spec_state::{State, TaskId};
+use crate::spec_state::{State, TaskId};
 use guest_image::Kind;
 use rv_core::{Leg, Naming};
 use spec_access::{call_trap, end_quantum, open_sub, put_byte};

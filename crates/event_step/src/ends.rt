@@ -11,10 +11,10 @@ ghost use Rattle.event_prelude.specs.event_def.End.{IsOver};
 ghost use Rattle.event_step.specs.Coming.{QuietlyComes};
 ghost use Rattle.event_step.specs.Ending.{EndsTelling, HasLater, HasNoLater, SaysLater};
 
+use crate::event_def::{Came, Reply};
 use crate::recording::record_of;
-use event_prelude::event_def::{Came, Reply};
-use event_prelude::spec_rollback::abort;
-use event_prelude::spec_state::{State, TaskId};
+use crate::spec_rollback::abort;
+use crate::spec_state::{State, TaskId};
 use fractal_vt::cmp;
 use rv_core::{Leg, Naming};
 use spec_access::finish;

@@ -14,9 +14,9 @@ ghost use Rattle.event_prelude.specs.Entering.{MayEnter};
 ghost use Rattle.event_step.specs.Coming.{TaskComes};
 ghost use Rattle.event_step.specs.Placing.{PlacesTelling};
 
+use crate::event_def::{Came, Reply};
 use crate::recording::record_of;
-use event_prelude::event_def::{Came, Reply};
-use event_prelude::spec_state::{State, TaskId};
+use crate::spec_state::{State, TaskId};
 use event_prelude::{make_room, stalls};
 use place_policy::{Placer, serving_pick, serving_placed};
 use rv_core::{Leg, Naming};

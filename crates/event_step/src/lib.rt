@@ -18,7 +18,7 @@ mod legs;
 mod recording;
 
 pub use event_prelude;
-pub use event_prelude::{event_def, serial_machine, spec_commit, spec_rollback, spec_state};
+use event_prelude::event_def::spec_state;
+use event_prelude::{event_def, spec_rollback};
 pub use legs::{make_step, step, taker};
 pub use spec_access;
-pub use spec_access::spec_dispatch;

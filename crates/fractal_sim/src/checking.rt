@@ -10,11 +10,11 @@ ghost use Rattle.fractal_sim.specs.Finding.{IsWritable};
 ghost use Rattle.program_call.specs.Call.{input_limit};
 
 use crate::finding::Finding;
+use crate::report_text::{Examined, JournalFault, Report, examine, read_journal};
+use crate::serial_machine::{Serial, SerialRun};
 use command_line::{Command, Request};
 use guest_image::Image;
-use machine_run::serial_machine::{Serial, SerialRun};
-use machine_run::spec_state::Settings;
-use script_text::report_text::{Examined, JournalFault, Report, examine, read_journal};
+use spec_state::Settings;
 use std::alloc::Global;
 
 /// Checks the report after an image.

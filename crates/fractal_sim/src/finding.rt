@@ -1,8 +1,8 @@
 //! What is found with an image before anything is written.
 
+use crate::serial_machine::SerialRun;
 use guest_image::Image;
 use load_gen::Load;
-use machine_run::serial_machine::SerialRun;
 use machine_run::{Played, Ran, Traced};
 
 /// Which image is generated.

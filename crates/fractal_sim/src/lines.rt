@@ -5,10 +5,10 @@ ghost use Rattle.fractal_sim.specs.Texts.{accepted_line, commits_line, image_fau
 ghost use Rattle.fractal_sim.specs.Texts.{load_line, load_word, nested_line, script_fault_line, tasks_line};
 
 use crate::finding::Loading;
+use crate::report_text::{Line, put};
 use guest_image::ImageFault;
 use itoa::Buffer;
 use load_gen::Load;
-use script_text::report_text::{Line, put};
 
 /// The line that reports a fault of the image.
 pub(crate) fn image_line(fault: ImageFault) -> Line

@@ -24,10 +24,13 @@ mod telling;
 mod tests;
 
 use machine_run::tile_worker::OpenGate;
+use machine_run::{step_script, tile_worker};
 use place_policy::{ByHint, LeastLoaded, Placer, RoundRobin};
 use program::top;
 use program_call::{exit_code, process_words, texts_of};
+use script_text::report_text;
 use sim_io::{StdSink, StdSource};
+use spec_state::serial_machine;
 use std::alloc::{AllocError, Global};
 use std::env::Env;
 use std::io::Read;

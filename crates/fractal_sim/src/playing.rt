@@ -8,9 +8,9 @@ ghost use Rattle.fractal_sim.specs.Finding.{IsWritable};
 ghost use Rattle.program_call.specs.Call.{input_limit};
 
 use crate::finding::Finding;
+use crate::step_script::{ScriptFault, read_script};
 use command_line::{Command, Request};
 use guest_image::Image;
-use machine_run::step_script::{ScriptFault, read_script};
 use machine_run::{Played, Traced, play_script, trace_script};
 use place_policy::Placer;
 use std::alloc::{AllocError, Global};

@@ -6,7 +6,7 @@ ghost use Rattle.fractal_sim.specs.Program.{AnswersAndCounts};
 
 use crate::deciding::find;
 use crate::telling::{tell, tell_fault};
-use machine_run::tile_worker::Gate;
+use crate::tile_worker::Gate;
 use place_policy::Placer;
 use program_call::Outcome;
 use sim_io::{Sink, Source};

@@ -12,13 +12,13 @@ ghost use Rattle.fractal_sim.specs.Texts.{commits_line, end_status, load_line, l
 
 use crate::finding::{Finding, Loading, Saving};
 use crate::lines::{accept_line, commits_line, load_line, nested_line, tasks_line};
+use crate::report_text::{write_body, write_end, write_report};
+use crate::serial_machine::{End, SerialRun};
+use crate::step_script::Said;
 use guest_image::Image;
-use machine_run::serial_machine::{End, SerialRun};
-use machine_run::step_script::Said;
 use machine_run::{Played, Ran, Traced};
 use program_call::{DONE, LIMIT, NESTED, NO_MEMORY, Outcome, SINK_FAULT, TOO_MANY, TRAP};
 use run_journal::Closed;
-use script_text::report_text::{write_body, write_end, write_report};
 use script_text::{write_replies, write_trace};
 use sim_io::{Failed, Sink, write_all};
 

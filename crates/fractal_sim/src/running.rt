@@ -8,12 +8,12 @@ ghost use Rattle.fractal_sim.specs.Deciding.{IsRunSo, IsLoadedSo, event_count, r
 ghost use Rattle.fractal_sim.specs.Finding.{HasWindow, IsWritable};
 
 use crate::finding::{Finding, Loading};
+use crate::tile_worker::Gate;
 use guest_image::Image;
 use load_gen::make;
-use machine_run::spec_state::Settings;
-use machine_run::tile_worker::Gate;
 use machine_run::{Ran, run};
 use place_policy::Placer;
+use spec_state::Settings;
 use std::alloc::{AllocError, Global};
 use std::marker::Brand;
 use std::sync::Wait;

@@ -10,13 +10,13 @@ ghost use Rattle.fractal_sim.specs.Finding.{IsWritable};
 
 use crate::finding::{Finding, Saving};
 use crate::running::event_count;
+use crate::serial_machine::End;
+use crate::tile_worker::Gate;
 use guest_image::{Image, write_image};
-use machine_run::serial_machine::End;
-use machine_run::spec_state::Settings;
-use machine_run::tile_worker::Gate;
 use machine_run::{Ran, Stopped, run_to_save};
 use place_policy::Placer;
 use resume_image::{Frozen, SaveFault, snapshot};
+use spec_state::Settings;
 use std::alloc::{AllocError, Global};
 use std::marker::Brand;
 use std::sync::Wait;

@@ -12,8 +12,8 @@ mod saves;
 mod schedules;
 
 use crate::program::top;
-use machine_run::serial_machine::End;
-use machine_run::tile_worker::{Gate, OpenGate};
+use crate::serial_machine::End;
+use crate::tile_worker::{Gate, OpenGate};
 use place_policy::{ByHint, LeastLoaded, Placer, RoundRobin};
 use program_call::Outcome;
 use sim_io::{MemSink, MemSource};

@@ -12,6 +12,8 @@ ghost use Rattle.watch_play.specs.watch_text.Views.{last_line};
 ghost use Rattle.fractal_watch.specs.Closing.{StoryFinishes, HoldsClosed, IsClosedAs, stop_status, text_of_closed};
 ghost use Rattle.fractal_watch.specs.Texts.{watch_status};
 
+use crate::conflict_book::Book;
+use crate::watch_text::put_end;
 use guest_image::Image;
 use place_policy::Placer;
 use program_call::{DONE, LIMIT, NO_MEMORY, Outcome, SINK_FAULT, TRAP};
@@ -20,8 +22,6 @@ use rv_core::Naming;
 use sim_io::Sink;
 use std::alloc::AllocError;
 use trace_tap::Tap;
-use watch_play::conflict_book::Book;
-use watch_play::watch_text::put_end;
 use watch_play::{StoryStop, Telling, tell_text};
 
 /// How the run of a book stands: its end, or unfinished where it isn't over.

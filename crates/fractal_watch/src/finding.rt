@@ -11,14 +11,14 @@ ghost use Rattle.fractal_watch.specs.Finding.{IsFoundOrFault, IsPlayable};
 ghost use Rattle.fractal_watch.specs.Given.{front};
 ghost use Rattle.fractal_watch.specs.Watched.{HasActs};
 
+use crate::step_script::{Act, ScriptFault, read_script};
+use crate::watch_text::CourseWord;
 use crate::words::{Asking, read_asking};
 use command_line::Refusal;
 use guest_image::Image;
 use program_call::{FrontFault, Opened, read_input};
 use sim_io::Source;
 use std::alloc::Global;
-use watch_play::step_script::{Act, ScriptFault, read_script};
-use watch_play::watch_text::CourseWord;
 
 /// What is found before anything is told.
 #[derive(Drop)]

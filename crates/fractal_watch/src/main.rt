@@ -23,6 +23,9 @@ use std::alloc::{AllocError, Global};
 use std::env::Env;
 use std::io::Read;
 use std::process::ExitCode;
+use watch_play::watch_text;
+use watch_play::watch_text::step_script;
+use watch_play::watch_text::step_script::conflict_book;
 
 fn main(rt: HostRuntime) -> ExitCode {
     exit_code(answer(&rt))

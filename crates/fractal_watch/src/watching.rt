@@ -13,6 +13,9 @@ ghost use Rattle.fractal_watch.specs.Telling.{TellsBookOf, TellsRunOf};
 ghost use Rattle.fractal_watch.specs.Words.{IsInRanges};
 
 use crate::closing::{break_off, finish};
+use crate::conflict_book::Book;
+use crate::step_script::Act;
+use crate::watch_text::CourseWord;
 use crate::words::Asking;
 use guest_image::Image;
 use place_policy::Placer;
@@ -21,9 +24,6 @@ use rv_core::Naming;
 use sim_io::Sink;
 use std::alloc::Global;
 use trace_tap::{LastN, Tap};
-use watch_play::conflict_book::Book;
-use watch_play::step_script::Act;
-use watch_play::watch_text::CourseWord;
 use watch_play::{Play, Printer, StoryStop, Watch, play_course, tell_opening};
 
 /// Plays a course behind its opening, and tells both.

@@ -9,12 +9,12 @@ ghost use Rattle.fractal_watch.specs.Words.{telling_in};
 ghost use Rattle.fractal_watch.specs.Words.{HasRounds, words_of, course_asked, filter_among, filter_named};
 ghost use Rattle.fractal_watch.specs.Words.{filter_place, with_filter};
 
+use crate::watch_text::CourseWord;
 use command_line::{Refusal, Request, number_between, read_words};
 use line_table::FilterKind;
+use spec_state::Settings;
 use std::alloc::{AllocError, Global};
 use watch_play::Telling;
-use watch_play::spec_state::Settings;
-use watch_play::watch_text::CourseWord;
 
 /// After how many starved rounds in a row the least task is advanced in lockstep, unless the words say otherwise: where
 /// rounds get on, it waits for fewer, and so this changes nothing there.

@@ -7,8 +7,8 @@ ghost use Rattle.outcome_law.specs.conflict_book.BookViews.{machine_view, view_o
 ghost use Rattle.machine_run.specs.Halted.{IsLeftOf, KeepsPending};
 ghost use Rattle.machine_run.specs.Played.{StandsAt};
 
-use outcome_law::conflict_book::Book;
-use outcome_law::spec_state::Pendings;
+use crate::conflict_book::Book;
+use crate::spec_state::Pendings;
 use place_policy::Placer;
 use run_journal::{Closed, End};
 use rv_core::Naming;

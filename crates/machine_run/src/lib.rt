@@ -11,9 +11,10 @@ mod running;
 
 pub use laws::{played_run_is_one, traced_run_is_one};
 pub use left::{Ran, Stopped};
-pub use outcome_law::{
-    conflict_book, serial_machine, spec_access, spec_commit, spec_dispatch, spec_state, step_script,
-};
+pub use outcome_law::step_script;
+use outcome_law::step_script::conflict_book;
+use outcome_law::step_script::conflict_book::event_step::event_prelude::event_def::spec_state;
+use outcome_law::step_script::conflict_book::event_step::event_prelude::event_def::spec_state::serial_machine;
 pub use playing::{Played, Traced, play_script, trace_script};
 pub use running::{run, run_to_save};
 pub use tile_worker;

@@ -4,7 +4,7 @@ ghost use Rattle.std.specs.Prelude.{◌≡◌, map, option_map, slice_get, IfOk}
 ghost use Rattle.outcome_law.specs.conflict_book.BookViews.{view_of};
 ghost use Rattle.machine_run.specs.Played.{tap_lists};
 
-use outcome_law::conflict_book::Book;
+use crate::conflict_book::Book;
 use place_policy::Placer;
 use rv_core::Naming;
 use std::alloc::{AllocError, Global};

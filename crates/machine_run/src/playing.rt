@@ -14,13 +14,13 @@ ghost use Rattle.outcome_law.specs.step_script.Ranges.{ActIsInRange};
 ghost use Rattle.machine_run.specs.Halted.{IsLeftOf};
 ghost use Rattle.machine_run.specs.Played.{IsPlayedOrPart, IsTracedOrPart, LeavesTapLists, StandsAt};
 
+use crate::conflict_book::Book;
 use crate::left::{Ran, leave};
 use crate::lists::lists_of;
+use crate::serial_machine::End;
+use crate::spec_state::Settings;
+use crate::step_script::{Act, Said, play};
 use guest_image::Image;
-use outcome_law::conflict_book::Book;
-use outcome_law::serial_machine::End;
-use outcome_law::spec_state::Settings;
-use outcome_law::step_script::{Act, Said, play};
 use place_policy::Placer;
 use rv_core::Naming;
 use std::alloc::{AllocError, Global};

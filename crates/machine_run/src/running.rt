@@ -11,11 +11,11 @@ ghost use Rattle.outcome_law.specs.conflict_book.BookViews.{events_made, view_of
 ghost use Rattle.machine_run.specs.Least.{IsLeastRun, end_of_halt, run_of_closed};
 ghost use Rattle.machine_run.specs.Halted.{IsHalted, IsMachineRun, KeepsPending};
 
+use crate::conflict_book::{Book, Halt};
 use crate::left::{Ran, Stopped, stop};
+use crate::serial_machine::End;
+use crate::spec_state::Settings;
 use guest_image::Image;
-use outcome_law::conflict_book::{Book, Halt};
-use outcome_law::serial_machine::End;
-use outcome_law::spec_state::Settings;
 use place_policy::Placer;
 use rv_core::Naming;
 use std::alloc::{AllocError, Global};

@@ -4,16 +4,16 @@ ghost use Rattle.std.specs.Prelude.{◌≡◌, All, IsTrue};
 ghost use Rattle.machine_run.specs.spec_state.Settings.{IsValid};
 ghost use Rattle.machine_run.specs.conflict_book.Ranges.{IsInRange};
 
+use crate::conflict_book::{Applied, Book, Event, Halt, Reply};
 use crate::machines::{
     ENDERS, FOUR_CORES, Hinted, TWO_TILES, image_of, is_normal, one_tap, opening_book,
 };
+use crate::serial_machine::End;
 use guest_image::Image;
-use machine_run::conflict_book::{Applied, Book, Event, Halt, Reply};
-use machine_run::serial_machine::End;
-use machine_run::spec_state::{DISPATCH_NUMBERS, Settings};
 use run_journal::Closed;
 use rv_core::{Naming, run_leg};
 use sample_image::{FIRST_MAKER, Program, READER_AND_WRITER};
+use spec_state::{DISPATCH_NUMBERS, Settings};
 use std::alloc::{AllocError, Global};
 use std::marker::Brand;
 use std::process::Abort;

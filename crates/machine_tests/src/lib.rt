@@ -23,3 +23,7 @@ mod steps;
 mod whole_runs;
 #[cfg(test)]
 mod workers;
+
+use machine_run::step_script::conflict_book;
+use machine_run::{step_script, tile_worker};
+use spec_state::serial_machine;

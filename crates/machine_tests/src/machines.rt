@@ -3,13 +3,13 @@
 ghost use Rattle.std.specs.Prelude.{◌≡◌};
 ghost use Rattle.machine_run.specs.spec_state.Settings.{IsValid};
 
+use crate::conflict_book::Book;
+use crate::serial_machine::End;
 use guest_image::{Image, read_image};
-use machine_run::conflict_book::Book;
-use machine_run::serial_machine::End;
-use machine_run::spec_state::{FilterKind, Settings};
 use place_policy::ByHint;
 use rv_core::Naming;
 use sample_image::Program;
+use spec_state::{FilterKind, Settings};
 use std::alloc::{AllocError, Global};
 use std::test::Fail;
 use trace_tap::LastN;

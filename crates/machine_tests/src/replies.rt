@@ -1,7 +1,7 @@
 //! Texts of replies to acts and of what taps saw, and the pieces in which they are written.
 
-use machine_run::conflict_book::Reply;
-use machine_run::step_script::{Said, Word};
+use crate::conflict_book::Reply;
+use crate::step_script::{Said, Word};
 use script_text::{write_replies, write_trace};
 use sim_io::{Failed, MemSink};
 use std::alloc::{AllocError, Global};

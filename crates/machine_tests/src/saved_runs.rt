@@ -6,15 +6,15 @@ ghost use Rattle.resume_image.specs.Saved.{IsSavedOf};
 ghost use Rattle.machine_run.specs.serial_machine.WholeRun.{IsRunOf};
 ghost use Rattle.machine_run.specs.spec_state.Settings.{IsValid};
 
+use crate::conflict_book::{Frozen, Halt};
 use crate::machines::{Hinted, TWO_TILES, image_in, image_of, is_normal, opening_book};
+use crate::serial_machine::{End, SerialRun, run_image};
 use guest_image::{Image, write_image};
-use machine_run::conflict_book::{Frozen, Halt};
-use machine_run::serial_machine::{End, SerialRun, run_image};
-use machine_run::spec_state::{Pending, Settings};
 use resume_image::{SaveFault, join_runs, runs_join, snapshot};
 use run_journal::{Entry, Journal};
 use rv_core::Naming;
 use sample_image::{MAKER_TEXT, Program};
+use spec_state::{Pending, Settings};
 use std::alloc::Global;
 use std::marker::Brand;
 use std::process::Abort;

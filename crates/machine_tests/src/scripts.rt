@@ -3,15 +3,15 @@
 ghost use Rattle.std.specs.Prelude.{◌≡◌};
 ghost use Rattle.machine_run.specs.spec_state.Settings.{IsValid};
 
+use crate::conflict_book::Reply;
 use crate::machines::{ENDERS, FOUR_CORES, Hinted, TWO_TILES, image_of, opening_book};
-use guest_image::Image;
-use machine_run::conflict_book::Reply;
-use machine_run::spec_state::Settings;
-use machine_run::step_script::{
+use crate::step_script::{
     Act, Said, ScriptFault, Word, play, read_script, written_scripts_read_back,
 };
+use guest_image::Image;
 use rv_core::Naming;
 use sample_image::{FIRST_MAKER, MAKER_TEXT, Program, READER_AND_WRITER};
+use spec_state::Settings;
 use std::alloc::Global;
 use std::marker::Brand;
 use std::process::Abort;

@@ -8,9 +8,9 @@ ghost use Rattle.machine_run.specs.spec_state.View.{task_at};
 
 use crate::machines::{DEFAULTS, image_of};
 use guest_image::{Image, Kind};
-use machine_run::spec_state::{Emitted, Parts, Pending, Settings, State, Task, TaskId, Where};
 use rv_core::Naming;
 use sample_image::Program;
+use spec_state::{Emitted, Parts, Pending, Settings, State, Task, TaskId, Where};
 use std::alloc::{AllocError, Global};
 use std::marker::Brand;
 use std::process::Abort;

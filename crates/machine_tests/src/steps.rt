@@ -16,18 +16,16 @@ ghost use Rattle.machine_run.specs.spec_state.Settings.{IsValid};
 ghost use Rattle.machine_run.specs.spec_access.Asking.{Asks, AsksForChild};
 
 use crate::machines::{FOUR_CORES, TWO_TILES, image_of};
+use crate::serial_machine::Entry;
 use guest_image::Image;
-use machine_run::serial_machine::Entry;
-use machine_run::spec_access::{
-    call_trap, dispatch, emit, finish, keep, make_sub, read, request_of_task, spawn, write,
-};
-use machine_run::spec_commit::{commit, room_victim};
-use machine_run::spec_dispatch::free_core;
-use machine_run::spec_state::{
-    DISPATCH_NUMBERS, Parts, Settings, State, Status, Task, TaskId, Where,
-};
 use rv_core::{Leg, Naming, Stop, run_leg};
 use sample_image::Program;
+use spec_access::{
+    call_trap, dispatch, emit, finish, keep, make_sub, read, request_of_task, spawn, write,
+};
+use spec_commit::{commit, room_victim};
+use spec_dispatch::free_core;
+use spec_state::{DISPATCH_NUMBERS, Parts, Settings, State, Status, Task, TaskId, Where};
 use std::alloc::{AllocError, Global};
 use std::marker::Brand;
 use std::process::Abort;

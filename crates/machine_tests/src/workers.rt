@@ -6,18 +6,18 @@ ghost use Rattle.machine_run.specs.conflict_book.BookViews.{events_made, machine
 ghost use Rattle.machine_run.specs.tile_worker.Readings.{HasTold};
 ghost use Rattle.machine_run.specs.spec_state.Settings.{IsValid};
 
+use crate::conflict_book::{Book, Halt};
 use crate::machines::{ENDERS, Hinted, TWO_TILES, image_of, opening_book};
-use guest_image::Image;
-use load_gen::{Load, make};
-use machine_run::conflict_book::{Book, Halt};
-use machine_run::serial_machine::End;
-use machine_run::spec_state::Settings;
-use machine_run::tile_worker::{
+use crate::serial_machine::End;
+use crate::tile_worker::{
     Drained, Gate, OpenGate, Watched, opening_is_reading, run_tiles, run_watched,
 };
+use guest_image::Image;
+use load_gen::{Load, make};
 use place_policy::{ByHint, Placer};
 use progress_cell::{Board, Reader, Reading, Writer};
 use rv_core::Naming;
+use spec_state::Settings;
 use std::alloc::{Alloc, Global};
 use std::marker::Brand;
 use std::process::Abort;

@@ -13,6 +13,3 @@ pub use laws::{
     outcome_is_one, play_is_one, script_is_one, stop_is_one, stops_are_one,
 };
 pub use step_script;
-pub use step_script::{
-    conflict_book, serial_machine, spec_access, spec_commit, spec_dispatch, spec_state,
-};

@@ -53,3 +53,6 @@ mod texts;
 mod virtual_times;
 #[cfg(test)]
 mod words;
+
+use command_line::spec_state;
+use command_line::spec_state::serial_machine;

@@ -2,7 +2,7 @@
 
 ghost use Rattle.std.specs.Prelude.{◌<◌, length};
 
-use command_line::serial_machine::TurnFault;
+use crate::serial_machine::TurnFault;
 use guest_image::{Image, read_image};
 use report_text::{
     JournalFault, Report, Verdict, Window, WindowWord, check, read_journal,

@@ -4,9 +4,7 @@ ghost use Rattle.std.specs.Prelude.{◌≤◌};
 
 use crate::image_bytes::{EMITTING, TASK, image_with};
 use crate::sending::is_sent;
-use command_line::serial_machine::{
-    Bytes, End, Journal, MAX_COMMITS, Serial, SerialRun, run_image,
-};
+use crate::serial_machine::{Bytes, End, Journal, MAX_COMMITS, Serial, SerialRun, run_image};
 use guest_image::Image;
 use std::alloc::{AllocError, Global};
 use std::process::Abort;

@@ -1,6 +1,6 @@
 //! Worked words of a command line, and words that are refused.
 
-use command_line::spec_state::{FilterKind, Settings};
+use crate::spec_state::{FilterKind, Settings};
 use command_line::{Command, Refusal, Request, read_words};
 use load_gen::Load;
 use std::alloc::{AllocError, Global};

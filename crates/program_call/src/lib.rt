@@ -18,6 +18,7 @@ mod telling;
 pub use input::{FrontFault, INPUT_LIMIT, Opened, read_input};
 pub use outcome::Outcome;
 pub use process::{exit_code, process_words, texts_of};
+use run_law::serial_machine;
 pub use statuses::{
     DONE, IMAGE_FAULT, LIMIT, LONG, NESTED, NO_MEMORY, REPORT_FAULT, SCRIPT_FAULT, SINK_FAULT,
     SOURCE_FAULT, TOO_MANY, TRAP, USAGE,

@@ -3,7 +3,7 @@
 ghost use Rattle.std.specs.Prelude.{◌≡◌};
 ghost use Rattle.program_call.specs.Outcomes.{IsEmpty};
 
-use run_law::serial_machine::{Bytes, End, Journal};
+use crate::serial_machine::{Bytes, End, Journal};
 use std::alloc::Global;
 
 /// What the program answers: its exit status, and the run that it made or accepted.

@@ -9,10 +9,10 @@ ghost use Rattle.report_text.specs.Replay.{IsNoRun, TellsWhetherItEnds};
 ghost use Rattle.report_text.specs.Report.{window_of};
 
 use crate::report::{Report, WindowWord};
+use crate::serial_machine::{End, Entry, Serial, TurnFault};
 use crate::verdict::{Examined, NoRun, Verdict};
 use crate::window::{window_len, word_of};
 use guest_image::Image;
-use run_law::serial_machine::{End, Entry, Serial, TurnFault};
 use std::alloc::Global;
 
 /// Whether a report is that of a run of the image with these limits: `commits` is 1 to 1,000,000 and `budget` 1 to

@@ -22,5 +22,6 @@ pub use limits::{MAX_CAUSE, MAX_DEPTH, MAX_ENTRIES};
 pub use line::{Line, put};
 pub use reading::{read_journal, written_reports_read_back};
 pub use report::{Report, Window, WindowWord};
+use run_law::serial_machine;
 pub use verdict::{Examined, Verdict};
 pub use writing::{write_body, write_end, write_entries, write_report};

@@ -7,7 +7,7 @@ ghost use Rattle.report_text.specs.Grammar.{end_in, entry_in, output_bytes, outp
 use crate::hexing::{hex_bytes, hex_word};
 use crate::limits::{MAX_CAUSE, MAX_DEPTH, MAX_ENTRIES};
 use crate::report::WindowWord;
-use run_law::serial_machine::{End, Entry};
+use crate::serial_machine::{End, Entry};
 use std::alloc::{AllocError, Global};
 use task_desc::Name;
 use text_lines::{behind, cut, field, number};

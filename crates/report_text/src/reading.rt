@@ -8,7 +8,7 @@ ghost use Rattle.report_text.specs.Grammar.{GivesRead, entries_at, report_of, wi
 use crate::fault::JournalFault;
 use crate::parsing::{end_in, entry_in, output_in, window_in};
 use crate::report::{Report, Window};
-use run_law::serial_machine::{Bytes, End, Journal};
+use crate::serial_machine::{Bytes, End, Journal};
 use std::alloc::Global;
 use text_lines::next_line;
 

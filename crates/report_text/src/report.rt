@@ -1,6 +1,6 @@
 //! What a report says.
 
-use run_law::serial_machine::{Bytes, End, Items, Journal};
+use crate::serial_machine::{Bytes, End, Items, Journal};
 
 /// A word of the window. In a report of a run the address is a multiple of 4 in the data, and the data has the word
 /// there at the end; a report that was read may say anything.

@@ -1,6 +1,6 @@
 //! What checking a report finds.
 
-use run_law::serial_machine::{Serial, TurnFault};
+use crate::serial_machine::{Serial, TurnFault};
 
 /// Whether a report is that of a run.
 #[derive(Clone, Copy, Debug, PartialEq, Eq)]

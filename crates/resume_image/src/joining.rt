@@ -9,9 +9,9 @@ ghost use Rattle.conflict_book.specs.Frozen.{IsFrozenOf};
 ghost use Rattle.resume_image.specs.Saved.{IsSavedOf};
 ghost use Rattle.resume_image.specs.Joined.{IsJoinedRun, RunsJoin, joined_journal, shifted_name, shifted_entry};
 
+use crate::serial_machine::MAX_COMMITS;
+use crate::spec_state::Pending;
 use conflict_book::Frozen;
-use conflict_book::serial_machine::MAX_COMMITS;
-use conflict_book::spec_state::Pending;
 use guest_image::Image;
 use run_journal::{Entry, Journal};
 use std::alloc::{AllocError, Global};

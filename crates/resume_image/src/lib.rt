@@ -14,7 +14,9 @@ mod joining;
 mod saving;
 
 pub use conflict_book::Frozen;
-pub use conflict_book::spec_state::{Pending, Pendings};
+use conflict_book::event_step::event_prelude::event_def::spec_state;
+use conflict_book::event_step::event_prelude::event_def::spec_state::serial_machine;
+pub use conflict_book::event_step::event_prelude::event_def::spec_state::{Pending, Pendings};
 pub use fault::SaveFault;
 pub use joining::{join_runs, runs_join};
 pub use saving::snapshot;

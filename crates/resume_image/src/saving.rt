@@ -10,8 +10,8 @@ ghost use Rattle.resume_image.specs.Pendings.{AreOfRoot, IsGreatestDepth};
 ghost use Rattle.resume_image.specs.Saved.{CannotSave, IsSavedOf, saved_task};
 
 use crate::fault::SaveFault;
+use crate::spec_state::Pending;
 use conflict_book::Frozen;
-use conflict_book::spec_state::Pending;
 use guest_image::{Image, ImageTask, Kind, MAX_TASKS};
 use std::alloc::{AllocError, Global};
 

@@ -10,8 +10,5 @@ mod traces;
 pub use replies::write_replies;
 pub use report_text;
 pub use step_script;
-pub use step_script::{
-    conflict_book, event_def, event_move, event_prelude, event_step, serial_machine, spec_dispatch,
-    spec_state,
-};
+use step_script::conflict_book::event_step::event_prelude::event_def;
 pub use traces::write_trace;

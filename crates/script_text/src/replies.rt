@@ -5,10 +5,10 @@ ghost use Rattle.sim_io.specs.Parts.{Writes};
 ghost use Rattle.step_script.specs.declared.saying.Word.TheVariants.{Plain};
 ghost use Rattle.script_text.specs.Replies.{reply_line, reply_lines, reply_text, word_text};
 
+use crate::event_def::Reply;
 use crate::line::put_count;
 use report_text::{Line, put};
 use sim_io::{Failed, Sink, write_all};
-use step_script::event_def::Reply;
 use step_script::{Said, Word};
 
 /// The word for a reply.

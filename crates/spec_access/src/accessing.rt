@@ -11,7 +11,7 @@ ghost use Rattle.spec_access.specs.Asking.{Asks, HasOwnNotes, OfTaker};
 use crate::calling::put_behind;
 use rv_core::{Leg, Naming, width_of_load};
 use rv_table::{LoadWidth, Reg};
-use spec_dispatch::spec_state::{State, TaskId};
+use spec_state::{State, TaskId};
 use std::alloc::AllocError;
 use undo_log::{load_with, store_with};
 

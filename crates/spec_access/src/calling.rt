@@ -10,7 +10,7 @@ ghost use Rattle.spec_access.specs.Asking.{Asks, OfTaker};
 
 use guest_image::Kind;
 use rv_core::{Leg, Naming, NotedCore};
-use spec_dispatch::spec_state::{State, Status, TaskId};
+use spec_state::{State, Status, TaskId};
 
 /// The core of its tile on which a task with this status runs.
 #[inline]

@@ -20,7 +20,7 @@ use crate::calling::{call_trap, end_quantum, open_sub, put_byte};
 use crate::requests::{byte_of, cause_of, kind_of, load_of, request_of_task, spawn_of, store_of};
 use crate::spawning::enqueue_child;
 use rv_core::{Leg, Naming};
-use spec_dispatch::spec_state::{State, TaskId};
+use spec_state::{State, TaskId};
 use std::alloc::AllocError;
 
 /// Makes the load at which a task's leg stopped: its register has what the memory has there, and the access joins

@@ -9,7 +9,7 @@ ghost use Rattle.spec_dispatch.specs.spec_state.Stored.{IsWellFormed};
 
 use fractal_vt::{Vt, as_domain};
 use guest_image::Kind;
-use spec_dispatch::spec_state::{Creator, Fresh, Task, TaskId};
+use spec_state::{Creator, Fresh, Task, TaskId};
 use task_desc::{Place, Spawn};
 
 /// The domain in which this one lies: its levels but the last one.

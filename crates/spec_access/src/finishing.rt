@@ -10,7 +10,7 @@ ghost use Rattle.spec_access.specs.Asking.{Asks, CommitQueueHasRoom, OfTaker};
 
 use crate::calling::{held_core, put_behind};
 use rv_core::{Leg, Naming};
-use spec_dispatch::spec_state::{State, Status, TaskId};
+use spec_state::{State, Status, TaskId};
 use tile_queues::CommitQueue;
 
 /// Puts an id that is not there into a queue with a free place, as the last one.

@@ -12,7 +12,7 @@ ghost use Rattle.spec_access.specs.Asking.{Asks, HasTaker};
 use guest_image::Kind;
 use rv_core::{Leg, Naming};
 use rv_table::{LoadWidth, Reg};
-use spec_dispatch::spec_state::{State, TaskId};
+use spec_state::{State, TaskId};
 use task_desc::Spawn;
 use task_request::{Request, request_of, request_of_stop};
 

@@ -13,7 +13,7 @@ ghost use Rattle.spec_access.specs.Telling.{EnqueuesTold};
 use crate::calling::put_behind;
 use crate::child::child_of;
 use rv_core::{Leg, Naming};
-use spec_dispatch::spec_state::{State, TaskId};
+use spec_state::{State, TaskId};
 use std::alloc::AllocError;
 use task_desc::Spawn;
 

@@ -15,10 +15,10 @@ ghost use Rattle.spec_state.specs.Tasks.{depth_of, own_level};
 ghost use Rattle.spec_state.specs.View.{task_at};
 ghost use Rattle.spec_commit.specs.Committing.{IsAdoptedOrSame, after_adoption};
 
+use crate::serial_machine::Entry;
 use fractal_vt::as_domain;
 use kept_slab::KeptSlab;
 use rv_core::Naming;
-use spec_state::serial_machine::Entry;
 use spec_state::{Children, Creator, State, Task, TaskId};
 use std::alloc::AllocError;
 use task_desc::Name;

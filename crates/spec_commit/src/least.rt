@@ -10,8 +10,8 @@ ghost use Rattle.spec_state.specs.StateValue.{CoversOutput};
 ghost use Rattle.spec_commit.specs.Committing.{HasCommittedCreator};
 
 use crate::committing::commit_task;
+use crate::serial_machine::Entry;
 use rv_core::Naming;
-use spec_state::serial_machine::Entry;
 use spec_state::{Creator, State, Task, TaskId};
 use std::alloc::AllocError;
 

@@ -20,5 +20,6 @@ mod victim;
 pub use coalescing::coalesce;
 pub use committing::commit_task;
 pub use least::commit;
+use spec_state::serial_machine;
 pub use splitting::split;
 pub use victim::{creator_of, room_victim, victim_of};

@@ -16,4 +16,3 @@ mod table;
 
 pub use cores::free_core;
 pub use dispatching::{dispatch, dispatch_task};
-pub use spec_state;

@@ -8,13 +8,13 @@ ghost use Rattle.spec_state.specs.View.{task_at, loads};
 ghost use Rattle.spec_state.specs.Tasks.{context_of, depth_of, kind_at, outer_kind, floor_in};
 ghost use Rattle.spec_state.specs.Stored.{IsStored};
 
+use crate::serial_machine::{Bytes, Journal};
 use crate::state::State;
 use crate::task::{Task, TaskId};
 use fractal_vt::Vt;
 use guest_image::Kind;
 use rv_core::Naming;
 use task_desc::Ctx;
-use task_law::serial_machine::{Bytes, Journal};
 
 /// What a run leaves of a state.
 #[derive(Drop)]

@@ -2,9 +2,9 @@
 
 ghost use Rattle.std.specs.Prelude.{◌≡◌, ◌<◌, ◌≤◌, [], ◌∷◌, ◌++◌, length, IfOk};
 
+use crate::serial_machine::{Entry, Journal};
 use std::alloc::{AllocError, Global};
 use std::marker::Model;
-use task_law::serial_machine::{Entry, Journal};
 
 /// The committed tasks in the order of their commits, at most as many as its limit. It takes all its memory when it
 /// is made.

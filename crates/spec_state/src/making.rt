@@ -13,6 +13,7 @@ use crate::effect::Effect;
 use crate::history::History;
 use crate::numbers::MAX_NUMBERS_IN_USE;
 use crate::reserving::Buffers;
+use crate::serial_machine::Bytes;
 use crate::settings::Settings;
 use crate::state::State;
 use crate::task::{Task, TaskId};
@@ -24,7 +25,6 @@ use rv_core::{Decoded, Naming};
 use spill_store::Blocks;
 use std::alloc::{AllocError, Global};
 use std::marker::PhantomData;
-use task_law::serial_machine::Bytes;
 use tile_queues::{CommitQueue, Queue, TaskQueue};
 use undo_log::Memory;
 

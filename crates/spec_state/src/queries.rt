@@ -7,13 +7,13 @@ ghost use Rattle.spec_state.specs.View.{task_at, finished_at, cores_at, block_at
 ghost use Rattle.spec_state.specs.Tasks.{kept_core, trap_cause};
 
 use crate::loads::Loads;
+use crate::serial_machine::Entry;
 use crate::settings::Settings;
 use crate::state::State;
 use crate::task::{Status, Task, TaskId};
 use fractal_vt::{Key, Vt};
 use rv_core::{Core, Decoded, Naming};
 use std::alloc::Global;
-use task_law::serial_machine::Entry;
 use tile_queues::TaskQueue;
 
 impl<N: Naming> State<N> {

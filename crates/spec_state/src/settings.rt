@@ -3,8 +3,8 @@
 ghost use Rattle.std.specs.Prelude.{◌≡◌, ◌↔◌, IsTrue};
 ghost use Rattle.spec_state.specs.Settings.{IsValid, IsLine, IsBetween};
 
+use crate::serial_machine::{MAX_BUDGET, MAX_COMMITS};
 use line_table::FilterKind;
-use task_law::serial_machine::{MAX_BUDGET, MAX_COMMITS};
 
 /// How large a machine is and how far it runs. Each number has a range, which [`valid`](Settings::valid) tests.
 #[derive(Clone, Copy, Debug, PartialEq, Eq)]

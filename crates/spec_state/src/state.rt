@@ -4,6 +4,7 @@ use crate::children::Children;
 use crate::effect::Effect;
 use crate::history::History;
 use crate::reserving::Buffers;
+use crate::serial_machine::Bytes;
 use crate::settings::Settings;
 use crate::task::{Task, TaskId};
 use commit_arbiter::Index;
@@ -13,7 +14,6 @@ use rv_core::{Decoded, Naming};
 use spill_store::Blocks;
 use std::alloc::Global;
 use std::marker::{Model, PhantomData};
-use task_law::serial_machine::Bytes;
 use tile_queues::{CommitQueue, TaskQueue};
 use undo_log::Memory;
 

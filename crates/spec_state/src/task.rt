@@ -1,12 +1,12 @@
 //! Tasks: ids, creators, status and all that a task has.
 
 use crate::emitted::Emitted;
+use crate::serial_machine::Items;
 use fractal_vt::Key;
 use guest_image::Kind;
 use line_table::Lines;
 use rv_core::NotedCore;
 use task_desc::Spawn;
-use task_law::serial_machine::Items;
 use undo_log::Log;
 
 /// An uncommitted task that isn't spilled, by its slot in the state's slab. It says nothing of the task: an id is

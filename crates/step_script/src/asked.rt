@@ -1,7 +1,7 @@
 //! What an act requests of the book.
 
+use crate::event_def::Reply;
 use conflict_book::Legless;
-use conflict_book::event_def::Reply;
 
 /// What an act requests of the book.
 #[derive(Clone, Copy, Debug, PartialEq, Eq)]

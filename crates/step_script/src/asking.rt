@@ -10,11 +10,11 @@ ghost use Rattle.step_script.specs.Playing.{HeldLeg, without_held_leg};
 ghost use Rattle.step_script.specs.Asking.{AskedIsInRange, AsksAdvance, AsksGive, AsksStep, AsksTake, asks_of};
 
 use crate::asked::Asked;
+use crate::event_def::Reply;
+use crate::event_prelude::least_going;
 use crate::holding::{Held, forget, hand_out, hold};
 use crate::running::{leg_at, run_at};
-use conflict_book::event_def::Reply;
-use conflict_book::event_prelude::least_going;
-use conflict_book::spec_state::{Status, TaskId, Where};
+use crate::spec_state::{Status, TaskId, Where};
 use conflict_book::{Book, Legless};
 use guest_image::Image;
 use place_policy::Placer;

@@ -23,10 +23,9 @@ mod saying;
 pub use act::Act;
 pub use asked::Asked;
 pub use conflict_book;
-pub use conflict_book::{
-    event_def, event_move, event_prelude, event_step, serial_machine, spec_access, spec_commit,
-    spec_dispatch, spec_state,
-};
+use conflict_book::event_step::event_prelude;
+use conflict_book::event_step::event_prelude::event_def;
+use conflict_book::event_step::event_prelude::event_def::spec_state;
 pub use fault::ScriptFault;
 pub use player::Player;
 pub use playing::play;

@@ -6,10 +6,10 @@ ghost use Rattle.step_script.specs.Playing.{Does, DoesAdvance, HeldLeg, Plays, P
 ghost use Rattle.step_script.specs.Ranges.{ActIsInRange};
 
 use crate::act::Act;
+use crate::event_def::{Advance, Reply};
 use crate::player::Player;
 use crate::saying::{Said, Word};
 use conflict_book::Book;
-use conflict_book::event_def::{Advance, Reply};
 use guest_image::Image;
 use place_policy::Placer;
 use rv_core::Naming;

@@ -1,6 +1,6 @@
 //! The reply to each act that was played.
 
-use conflict_book::event_def::Reply;
+use crate::event_def::Reply;
 
 /// The word for an act.
 #[derive(Clone, Copy, Debug, PartialEq, Eq)]

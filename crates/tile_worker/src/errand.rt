@@ -4,8 +4,8 @@ ghost use Rattle.std.specs.Prelude.{◌≡◌, ◌≤◌};
 ghost use Rattle.conflict_book.specs.spec_state.Settings.{IsValid};
 
 use crate::round::TileCore;
+use crate::spec_state::Settings;
 use crate::waiting::LONG_LEG;
-use conflict_book::spec_state::Settings;
 use guest_image::{Image, TEXT_START};
 use rv_core::{Decoded, Leg, Naming, NotedCore, Stop, run_leg};
 

@@ -9,7 +9,7 @@ ghost use Rattle.tile_worker.specs.Holds.{HoldsOnce};
 
 use crate::errand::Errand;
 use crate::round::{Round, TileCore};
-use conflict_book::spec_state::{Status, Task, Where};
+use crate::spec_state::{Status, Task, Where};
 use conflict_book::{Advance, Book, Legless, Reply};
 use guest_image::Image;
 use place_policy::Placer;

@@ -39,6 +39,7 @@ mod waiting;
 mod watching;
 mod working;
 
+use conflict_book::event_step::event_prelude::event_def::spec_state;
 pub use gate::{Gate, OpenGate};
 pub use laws::{opening_is_reading, seen_are_readings};
 pub use running::{Drained, run_tiles};

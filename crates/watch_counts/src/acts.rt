@@ -8,10 +8,10 @@ ghost use Rattle.watch_counts.specs.Nothing.{no_acts};
 ghost use Rattle.watch_counts.specs.Capped.{capped_acts};
 ghost use Rattle.watch_counts.specs.Kinds.{kind_done, kind_of_act, kind_of_event, one_more};
 
+use crate::conflict_book::Legless;
 use crate::numbers::more;
+use crate::step_script::{Act, Asked};
 use rv_core::Naming;
-use watch_text::conflict_book::Legless;
-use watch_text::step_script::{Act, Asked};
 
 /// What an act does, or an event.
 #[derive(Clone, Copy, Debug, PartialEq, Eq)]

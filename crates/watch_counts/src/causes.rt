@@ -6,10 +6,10 @@ ghost use Rattle.watch_counts.specs.Nothing.{no_causes};
 ghost use Rattle.watch_counts.specs.Capped.{capped_causes};
 ghost use Rattle.watch_counts.specs.Kinds.{cause_in_step, cause_of, one_taken};
 
+use crate::conflict_book::Legless;
 use crate::numbers::more;
 use rv_core::Naming;
 use task_request::Request;
-use watch_text::conflict_book::Legless;
 
 /// Why an event aborts tasks.
 #[derive(Clone, Copy, Debug, PartialEq, Eq)]

@@ -12,11 +12,11 @@ use crate::causes::CauseCounts;
 use crate::domains::DomainCounts;
 use crate::numbers::more;
 use crate::places::{PlaceCounts, places_of, spilled_of};
+use crate::spec_state::{State, TaskId};
 use crate::stalls::StallCounts;
 use crate::tiles::TileCounts;
 use crate::work::WorkCounts;
 use rv_core::Naming;
-use watch_text::spec_state::{State, TaskId};
 
 /// What is counted of a story. Each number stops at 2^64 - 1.
 #[derive(Clone, Copy, Debug, PartialEq, Eq)]

@@ -9,13 +9,13 @@ ghost use Rattle.watch_text.specs.Changes.{task_if};
 ghost use Rattle.watch_text.specs.Moments.{task_of};
 ghost use Rattle.watch_counts.specs.Work.{done_by, done_of, length_place};
 
+use crate::conflict_book::Legless;
+use crate::spec_state::{State, TaskId};
+use crate::step_script::Asked;
 use guest_image::Kind;
 use rv_core::Naming;
 use undo_log::Access;
 use watch_text::About;
-use watch_text::conflict_book::Legless;
-use watch_text::spec_state::{State, TaskId};
-use watch_text::step_script::Asked;
 
 /// What a task has done since its dispatch, and where.
 #[derive(Clone, Copy, Debug, PartialEq, Eq)]

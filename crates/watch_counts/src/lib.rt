@@ -32,7 +32,8 @@ pub use stalls::StallCounts;
 pub use text::put_counts;
 pub use tiles::TileCounts;
 pub use watch_text;
-pub use watch_text::{
-    conflict_book, event_move, event_prelude, spec_dispatch, spec_state, step_script,
-};
+use watch_text::step_script;
+use watch_text::step_script::conflict_book;
+use watch_text::step_script::conflict_book::event_step::event_prelude::event_def;
+use watch_text::step_script::conflict_book::event_step::event_prelude::event_def::spec_state;
 pub use work::WorkCounts;

@@ -18,17 +18,17 @@ ghost use Rattle.watch_counts.specs.Work.{instructions, refused_leg};
 
 use crate::acts::{ActKind, kind_done, kind_of_act, kind_of_legless};
 use crate::causes::{Cause, cause_in_step, cause_of_legless};
+use crate::conflict_book::Legless;
 use crate::counts::Counts;
 use crate::done::{Done, length_place};
+use crate::event_def::Reply;
 use crate::numbers::{add_at, more};
 use crate::places::{places_of, put_stalled};
+use crate::spec_state::{Effect, State, Status, TakenTask, TaskId};
+use crate::step_script::{Act, Asked};
 use rv_core::Naming;
 use task_request::Request;
 use watch_text::About;
-use watch_text::conflict_book::Legless;
-use watch_text::event_def::Reply;
-use watch_text::spec_state::{Effect, State, Status, TakenTask, TaskId};
-use watch_text::step_script::{Act, Asked};
 
 /// The core to which a task was dispatched.
 fn dispatched_core<N: Naming>(state: &State<N>, task: Option<TaskId>) -> Option<u32>

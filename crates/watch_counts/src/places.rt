@@ -11,8 +11,8 @@ ghost use Rattle.watch_counts.specs.Counts.{by_place, cores_in, is_trapped, plac
 ghost use Rattle.watch_counts.specs.Work.{over_tiles};
 
 use crate::numbers::{greater, more, sum_of};
+use crate::spec_state::{State, Status, Task};
 use rv_core::Naming;
-use watch_text::spec_state::{State, Status, Task};
 
 /// How many tasks are where.
 #[derive(Clone, Copy, Debug, PartialEq, Eq)]

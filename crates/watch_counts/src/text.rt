@@ -16,10 +16,10 @@ use crate::acts::ActCounts;
 use crate::causes::CauseCounts;
 use crate::counts::{Counts, work_left};
 use crate::places::PlaceCounts;
+use crate::spec_state::State;
 use itoa::Buffer;
 use rv_core::Naming;
 use std::alloc::AllocError;
-use watch_text::spec_state::State;
 
 /// A number under a name.
 #[derive(Clone, Copy)]

@@ -14,15 +14,15 @@ ghost use Rattle.watch_play.specs.Staged.{stage_of};
 ghost use Rattle.watch_play.specs.Telling.{TellsText};
 ghost use Rattle.watch_play.specs.Texts.{are_counts_due, has_counts};
 
+use crate::spec_state::State;
 use crate::stage::Stage;
+use crate::step_script::Act;
 use crate::stop::{StoryStop, tell_text};
 use crate::telling::{Telling, are_counts_due, has_counts};
 use crate::watch::Printer;
+use crate::watch_text::CourseWord;
 use rv_core::Naming;
 use sim_io::Sink;
-use watch_counts::spec_state::State;
-use watch_counts::step_script::Act;
-use watch_counts::watch_text::CourseWord;
 use watch_counts::{Counts, put_counts};
 
 /// Counts from here on: what was counted before is forgotten.

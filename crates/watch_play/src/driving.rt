@@ -16,16 +16,16 @@ ghost use Rattle.watch_play.specs.Texts.{IsTellable};
 use crate::counting::{begin_counts, end_act, pass_act, tell_last_counts};
 use crate::playing::tell_act;
 use crate::stage::Stage;
+use crate::step_script::Act;
 use crate::stop::StoryStop;
 use crate::telling::Telling;
 use crate::watch::{Play, Printer, Watch};
+use crate::watch_text::CourseWord;
 use guest_image::Image;
 use place_policy::Placer;
 use rv_core::Naming;
 use sim_io::Sink;
 use trace_tap::Tap;
-use watch_counts::step_script::Act;
-use watch_counts::watch_text::CourseWord;
 
 /// Plays the next act of a stage, where the driver asks for it; else the act passes.
 fn play_asked<N: Naming, P: Placer, T: Tap, K: Sink>(

@@ -25,8 +25,14 @@ pub use laws::{
     lockstep_plays, moment_does, passed_is_refused, rounds_dispatch, story_is_one, story_plays,
     story_stays_sound,
 };
+use machine_run::step_script;
+use machine_run::step_script::conflict_book;
+use machine_run::step_script::conflict_book::event_move;
+use machine_run::step_script::conflict_book::event_step::event_prelude;
+use machine_run::step_script::conflict_book::event_step::event_prelude::event_def::spec_state;
+use machine_run::step_script::conflict_book::event_step::spec_access::spec_dispatch;
 pub use opening::tell_opening;
 pub use stop::{StoryStop, tell_text};
 pub use telling::Telling;
 pub use watch::{Play, Printer, SoTold, Watch};
-pub use watch_counts::{conflict_book, spec_state, step_script, watch_text};
+pub use watch_counts::watch_text;

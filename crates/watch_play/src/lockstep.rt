@@ -11,16 +11,16 @@ ghost use Rattle.watch_counts.specs.event_def.End.{IsOver};
 ghost use Rattle.watch_play.specs.Courses.{IsAskedInRound, next_draw, next_order, round_acts, shuffled};
 ghost use Rattle.watch_play.specs.Courses.{tile_acts};
 
+use crate::conflict_book::Book;
+use crate::event_move::{has_idle, least_in};
+use crate::event_prelude::{least_going, may_return};
+use crate::spec_dispatch::free_core;
+use crate::spec_state::{Settings, State, Where};
+use crate::step_script::Act;
 use place_policy::Placer;
 use rv_core::Naming;
 use std::alloc::{AllocError, Global};
 use trace_tap::Tap;
-use watch_counts::conflict_book::Book;
-use watch_counts::event_move::{has_idle, least_in};
-use watch_counts::event_prelude::{least_going, may_return};
-use watch_counts::spec_dispatch::free_core;
-use watch_counts::spec_state::{Settings, State, Where};
-use watch_counts::step_script::Act;
 
 /// Adds what a tile does at the front of a round: it dispatches, and each of its cores makes a step.
 #[tactic(auto, using(crate::proofs::Rounds::tile_step))]

@@ -7,17 +7,17 @@ ghost use Rattle.watch_counts.specs.watch_text.Opening.{head_line, placed_lines}
 ghost use Rattle.watch_play.specs.Courses.{course_word};
 ghost use Rattle.watch_play.specs.Telling.{Plan, TellsOpening, TellsText};
 
+use crate::spec_state::State;
 use crate::stop::{StoryStop, tell_text};
 use crate::telling::{has_counts, has_lines};
 use crate::watch::Watch;
+use crate::watch_text::{CourseWord, put_head, put_placed};
 use guest_image::Image;
 use place_policy::Placer;
 use rv_core::Naming;
 use sim_io::Sink;
 use std::alloc::AllocError;
 use trace_tap::Tap;
-use watch_counts::spec_state::State;
-use watch_counts::watch_text::{CourseWord, put_head, put_placed};
 
 /// Puts the lines before the first act together, or the head alone.
 fn put_opening<N: Naming>(

@@ -20,21 +20,19 @@ ghost use Rattle.watch_counts.specs.Counts.{after_attempt, after_told};
 ghost use Rattle.watch_counts.specs.Kinds.{kind_done};
 ghost use Rattle.watch_counts.specs.Work.{done_by};
 
+use crate::conflict_book::{Book, Reply};
+use crate::spec_state::State;
+use crate::step_script::{Act, Asked};
 use crate::stop::StoryStop;
 use crate::telling::{Telling, has_counts, has_lines};
 use crate::watch::{Play, Printer, SoTold};
+use crate::watch_text::{About, Answer, about_of, about_taken, put_front, put_rest, put_view};
 use guest_image::Image;
 use place_policy::Placer;
 use rv_core::{Leg, Naming};
 use sim_io::{Sink, write_all};
 use std::alloc::AllocError;
 use trace_tap::Tap;
-use watch_counts::conflict_book::{Book, Reply};
-use watch_counts::spec_state::State;
-use watch_counts::step_script::{Act, Asked};
-use watch_counts::watch_text::{
-    About, Answer, about_of, about_taken, put_front, put_rest, put_view,
-};
 use watch_counts::{Counts, Done, done_by};
 
 /// The outcome of an act.

@@ -14,16 +14,16 @@ ghost use Rattle.watch_play.specs.Courses.{at_forced, at_round, first_stage, fol
 ghost use Rattle.watch_play.specs.Staged.{stage_of};
 ghost use Rattle.watch_play.specs.Stories.{NextStage};
 
+use crate::conflict_book::Book;
+use crate::event_prelude::least_going;
 use crate::lockstep::{is_asked, next_order, round_acts};
+use crate::spec_state::{Settings, Where};
+use crate::step_script::Act;
+use crate::watch_text::CourseWord;
 use place_policy::Placer;
 use rv_core::Naming;
 use std::alloc::{AllocError, Global};
 use trace_tap::Tap;
-use watch_counts::conflict_book::Book;
-use watch_counts::event_prelude::least_going;
-use watch_counts::spec_state::{Settings, Where};
-use watch_counts::step_script::Act;
-use watch_counts::watch_text::CourseWord;
 
 /// The position of a driver: the definition's `Stage`, beside the mode.
 #[derive(Drop)]

@@ -5,6 +5,8 @@ ghost use Rattle.watch_counts.specs.conflict_book.BookViews.{machine_view};
 ghost use Rattle.watch_counts.specs.Capped.{capped_counts};
 ghost use Rattle.watch_counts.specs.Counts.{counts_at};
 
+use crate::conflict_book::Book;
+use crate::step_script::Player;
 use crate::telling::Telling;
 use guest_image::Image;
 use place_policy::Placer;
@@ -12,8 +14,6 @@ use rv_core::Naming;
 use std::alloc::Global;
 use trace_tap::Tap;
 use watch_counts::Counts;
-use watch_counts::conflict_book::Book;
-use watch_counts::step_script::Player;
 
 /// What plays: a book, and the player of its acts.
 #[derive(Drop)]

@@ -10,11 +10,11 @@ ghost use Rattle.script_text.specs.event_basis.Whereabouts.{queued_in};
 ghost use Rattle.script_text.specs.step_script.Asking.{AskedIsInRange, asks_of};
 ghost use Rattle.watch_text.specs.Moments.{IsAbout, IsAskedFor, task_of};
 
+use crate::conflict_book::Legless;
+use crate::event_step::taker;
+use crate::spec_state::{State, TaskId, Where};
+use crate::step_script::Asked;
 use rv_core::{Leg, Naming};
-use script_text::conflict_book::Legless;
-use script_text::event_step::taker;
-use script_text::spec_state::{State, TaskId, Where};
-use script_text::step_script::Asked;
 use task_request::{Request, request_of};
 
 /// What an event is about.

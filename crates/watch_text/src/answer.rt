@@ -1,6 +1,6 @@
 //! What an act was answered.
 
-use script_text::event_def::Reply;
+use crate::event_def::Reply;
 
 /// What an act was answered, as far as its line needs it.
 #[derive(Clone, Copy, Debug, PartialEq, Eq)]

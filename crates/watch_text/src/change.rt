@@ -7,7 +7,7 @@ ghost use Rattle.watch_text.specs.Changes.{aborted_text, back_text, gone_ids, li
 
 use crate::fields::put_number;
 use crate::items::{ListItem, put_list};
-use script_text::spec_state::{Creator, Effect, SpilledTask, TakenTask};
+use crate::spec_state::{Creator, Effect, SpilledTask, TakenTask};
 use std::alloc::{AllocError, Global};
 use std::fmt::Write;
 

@@ -11,14 +11,14 @@ ghost use Rattle.watch_text.specs.Requests.{leg_text, load_fields, nowhere, asks
 ghost use Rattle.watch_text.specs.Requests.{request_text, spawn_text, spot_text, store_fields};
 
 use crate::about::About;
+use crate::conflict_book::Legless;
 use crate::fields::{
     put_core, put_digits, put_field, put_number, put_start, put_text, put_word_field,
 };
+use crate::step_script::{Act, Asked};
 use crate::words::{do_word, kind_word, place_word};
 use guest_image::DATA_START;
 use rv_core::{Leg, Naming, width_of_load};
-use script_text::conflict_book::Legless;
-use script_text::step_script::{Act, Asked};
 use std::alloc::AllocError;
 use task_desc::Spawn;
 use task_request::Request;

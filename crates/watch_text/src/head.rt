@@ -7,10 +7,10 @@ ghost use Rattle.watch_text.specs.Opening.{bounds_text, contents_text, course_te
 ghost use Rattle.watch_text.specs.Opening.{limits_text, rounds_text, settings_text, sizes_text};
 
 use crate::fields::{put_number, put_word};
+use crate::spec_state::Settings;
 use crate::words::{filter_word, kind_word};
 use guest_image::Image;
 use line_table::FilterKind;
-use script_text::spec_state::Settings;
 use std::alloc::AllocError;
 use std::fmt::Write;
 

@@ -28,7 +28,10 @@ pub use front::put_front;
 pub use head::{CourseWord, put_head};
 pub use placed::put_placed;
 pub use rest::put_rest;
-pub use script_text::{
-    conflict_book, event_def, event_move, event_prelude, spec_dispatch, spec_state, step_script,
-};
+pub use script_text::step_script;
+use script_text::step_script::conflict_book;
+use script_text::step_script::conflict_book::event_step;
+use script_text::step_script::conflict_book::event_step::event_prelude::event_def;
+use script_text::step_script::conflict_book::event_step::event_prelude::event_def::spec_state;
+use script_text::step_script::conflict_book::event_step::event_prelude::event_def::spec_state::serial_machine;
 pub use view::put_view;

@@ -13,12 +13,12 @@ ghost use Rattle.watch_text.specs.Moments.{task_of};
 
 use crate::about::{About, task_of};
 use crate::change::{name_creator, name_index};
+use crate::conflict_book::Legless;
 use crate::fields::{put_core, put_field, put_hex, put_name, put_some, put_text};
+use crate::serial_machine::Entry;
+use crate::spec_state::{State, Status, Task, TaskId};
+use crate::step_script::Asked;
 use rv_core::Naming;
-use script_text::conflict_book::Legless;
-use script_text::serial_machine::Entry;
-use script_text::spec_state::{State, Status, Task, TaskId};
-use script_text::step_script::Asked;
 use std::alloc::AllocError;
 use task_request::Request;
 

@@ -9,8 +9,8 @@ ghost use Rattle.watch_text.specs.Opening.{placed_rest, placed_task, queued_line
 
 use crate::change::{name_creator, name_index};
 use crate::fields::{put_name, put_some, put_start};
+use crate::spec_state::{State, Task, TaskId};
 use rv_core::Naming;
-use script_text::spec_state::{State, Task, TaskId};
 use std::alloc::AllocError;
 use std::fmt::Write;
 use task_desc::Desc;

@@ -11,13 +11,13 @@ ghost use Rattle.watch_text.specs.Moments.{task_of};
 use crate::about::About;
 use crate::answer::Answer;
 use crate::change::put_taken;
+use crate::event_def::Reply;
 use crate::fields::{put_field, put_text, put_word_field};
 use crate::own::put_own;
+use crate::spec_state::{Effect, State};
+use crate::step_script::Asked;
 use crate::words::reply_word;
 use rv_core::Naming;
-use script_text::event_def::Reply;
-use script_text::spec_state::{Effect, State};
-use script_text::step_script::Asked;
 use std::alloc::AllocError;
 
 /// The reply, and how many events were made so far.

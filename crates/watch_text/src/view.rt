@@ -9,9 +9,9 @@ ghost use Rattle.watch_text.specs.Views.{view_line, waiting_text, working_text};
 
 use crate::fields::put_comma;
 use crate::items::put_items;
+use crate::spec_state::{State, TaskId};
 use crate::words::status_word;
 use rv_core::Naming;
-use script_text::spec_state::{State, TaskId};
 use std::alloc::AllocError;
 use std::fmt::Write;
 

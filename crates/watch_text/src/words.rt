@@ -8,14 +8,14 @@ ghost use Rattle.watch_text.specs.Requests.{act_word, do_word, place_word};
 ghost use Rattle.watch_text.specs.Views.{end_word, status_word};
 ghost use Rattle.rv_core.specs.LegValue.{LegValue};
 
+use crate::conflict_book::Legless;
+use crate::event_def::Reply;
+use crate::spec_state::Status;
+use crate::step_script::{Act, Asked};
 use guest_image::Kind;
 use line_table::FilterKind;
 use run_journal::End;
 use rv_core::Naming;
-use script_text::conflict_book::Legless;
-use script_text::event_def::Reply;
-use script_text::spec_state::Status;
-use script_text::step_script::{Act, Asked};
 use task_desc::Place;
 
 fn act_word(act: Act) -> &'static str

@@ -2,7 +2,7 @@
 
 use crate::tests::images::ENDING;
 use crate::tests::{Case, holds_with};
-use machine_run::tile_worker::Gate;
+use crate::tile_worker::Gate;
 use std::alloc::{Alloc, Global};
 use std::process::Abort;
 use std::sync::Wait;

@@ -6,7 +6,7 @@ use crate::tests::images::{MANY, READER};
 use crate::tests::reports::MANY_REPORT;
 use crate::tests::schedules::CONFLICT;
 use crate::tests::{Case, holds_with};
-use machine_run::tile_worker::OpenGate;
+use crate::tile_worker::OpenGate;
 use place_policy::Placer;
 use std::sync::Arc;
 use std::sync::atomic::{AtomicU64, Ordering};
