@@ -60,7 +60,7 @@ MOST_PHRASES = {"documents": 0, "messages": 21, "comments": 576}
 # So many files are named where a ceiling is passed.
 MOST_NAMED = 8
 # How many words of Markdown there may be by hand, which only falls, and how many are enough.
-MOST_WORDS = 45_580
+MOST_WORDS = 45_310
 GOAL = 42_000
 Lines = Iterable[tuple[int, str]]
 # A name in code, a row of the launcher's table, a text in quotes, and attributes of a page that nobody sees.
