@@ -1,4 +1,4 @@
--- A watched run is closed, and its last line is told, or the memory that it leaves.
+-- A watched run is closed, and its last line is printed, or the memory that it leaves.
 use Rattle.std.specs.Prelude.{◌≡◌, ℕ, List, length, None, Some}
 use Rattle.std.specs.declared.option.Option.{Option}
 use Rattle.guest_image.specs.ImageValue.{ImageValue}
@@ -19,7 +19,7 @@ use Rattle.program_call.specs.declared.outcome.Outcome.{Outcome}
 use Rattle.program_call.specs.Outcomes.{closed_of}
 use Rattle.fractal_watch.specs.Texts.{end_text, watch_status}
 
--- the status of a story that ended before its course did
+-- the status of a story that ended too early
 abbrev pub stop_status : StoryStop → ℕ
 stop_status stops.Memory = 5
 stop_status stops.Sink = 7
@@ -43,8 +43,7 @@ abbrev pub text_of_closed : Telling → ImageValue → Closed → End → List �
 text_of_closed telling image closed end =
     end_text telling image end closed.steps (length closed.journal) closed.output closed.memory
 
--- a book whose story was told is closed, and what comes at its end is told; or memory runs out for that, or the sink
--- fails
+-- a book whose story was printed is closed, and its end is printed; or memory runs out for that, or the sink fails
 pub data StoryFinishes (image : ImageValue) (commits budget : ℕ) (telling : Telling) (book : BookView)
     (before after : SinkState) (o : Outcome) : Type 0 where
   EndTold : (end : End) (c : IsClosedAs image commits budget book (watch_status end) (Some end) o)

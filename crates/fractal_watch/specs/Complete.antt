@@ -1,4 +1,4 @@
--- The status that is due of what comes of an image, where nothing fails and memory is there.
+-- The status that is due to an image, where nothing fails and memory suffices.
 use Rattle.std.specs.Prelude.{◌≡◌, ℕ, List, Err}
 use Rattle.guest_image.specs.ImageValue.{ImageValue}
 use Rattle.run_journal.specs.declared.end.End.{End}
@@ -11,8 +11,7 @@ use Rattle.fractal_watch.specs.Given.{front}
 use Rattle.fractal_watch.specs.Texts.{watch_status}
 use Rattle.fractal_watch.specs.Watched.{HasActs}
 
--- the status that is due to words and to bytes that are all there is; how the run stands at the end of its course the
--- outcome tells
+-- the status that is due to words and to bytes that are all there is; how the run ended is in the outcome
 pub data IsDueBehind (words : List (List ℕ)) (bytes : List ℕ) : ℕ → Type 0 where
   NoScript : (asking : Asking) (image : ImageValue) (behind : List ℕ) (line : ℕ)
       → BeginsWithImage front words bytes asking image behind → asking.course ≡ courses.Steps

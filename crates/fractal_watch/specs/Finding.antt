@@ -1,4 +1,4 @@
--- What is found before anything is told, and why.
+-- What is found before anything is printed, and why.
 use Rattle.std.specs.Prelude.{ℕ, ◌^◌, ◌<◌, List, All, MatchResult, Result, length}
 use Rattle.watch_play.specs.step_script.Ranges.{ActIsInRange}
 use Rattle.program_call.specs.declared.input.FrontFault.{FrontFault}
@@ -15,7 +15,7 @@ IsWatchFound input (finding.NoScript line) = IsWatchNoScript input line
 IsWatchFound input (finding.Ready asking image script) =
     (behind : List ℕ) × ReadsImage front input asking image behind × HasActs asking.course asking behind script.items
 
--- why it was, or why the call comes to no image
+-- why it was, or why the call has no image to run
 abbrev pub IsFoundOrFault : Input → Result Finding FrontFault → Type 0
 IsFoundOrFault input found = MatchResult found (IsWatchFound input) (IsFrontFault front input)
 

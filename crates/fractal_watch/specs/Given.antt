@@ -1,4 +1,4 @@
--- What words may ask of the program, the image that they ask for, and the script behind it.
+-- What words may ask of the program, the image that they ask for, and the script after it.
 use Rattle.std.specs.Prelude.{◌≡◌, ℕ, List, Ok, Err}
 use Rattle.guest_image.specs.ImageValue.{ImageValue}
 use Rattle.command_line.specs.Requests.{IsLimited}
@@ -40,7 +40,7 @@ abbrev pub IsWatchScript : Asking → List ℕ → List Act → Type 0
 IsWatchScript asking behind script =
     acts_of behind asking.request.settings.tiles asking.request.settings.cores ≡ Ok script
 
--- the course plays a script, and the text behind the image is none: this is its first wrong line
+-- a script is to be played, and the text after the image isn't one: this is its first wrong line
 pub record IsWatchNoScript (input : Input) (line : ℕ) : Type 0 where
   pub asking : Asking
   pub image : ImageValue

@@ -1,4 +1,4 @@
--- How a run is told.
+-- How a run is printed.
 use Rattle.std.specs.Prelude.{◌≡◌, ℕ, List, []}
 use Rattle.guest_image.specs.ImageValue.{ImageValue}
 use Rattle.place_policy.specs.Policy.{Policy}

@@ -19,7 +19,7 @@ use Rattle.program_call.specs.Given.{ReadsImage}
 use Rattle.fractal_watch.specs.Given.{IsWatchScript, front}
 use Rattle.fractal_watch.specs.Texts.{end_text}
 
--- what is to be told of an image
+-- what is to be printed of an image
 abbrev pub plan_of : Asking → ImageValue → List Act → Plan
 plan_of asking image script = record {
   course = course_of asking.course asking.request.settings script;
@@ -28,13 +28,13 @@ plan_of asking image script = record {
   telling = asking.telling;
 }
 
--- the acts of the script behind the image; none where the course has no script
+-- the acts of the script after the image; none outside mode `steps`
 abbrev pub HasActs : CourseWord → Asking → List ℕ → List Act → Type 0
 HasActs courses.Steps asking behind script = IsWatchScript asking behind script
 HasActs other asking behind script = script ≡ []
 
--- the words ask for a course, and so many acts of it, from an opening of the image that was read, gave these moments
--- and led to a book which leaves the run that the outcome holds, by as many events as it tells
+-- the words ask for a mode, and so many acts of it, from an opening of the image that was read, gave these moments
+-- and led to a book which leaves the run that the outcome holds, by as many events as it says
 pub record IsWatched (N : Type 0) (image : ImageValue) (input : Input) (o : Outcome) : Type 0 where
   pub asking : Asking
   pub behind : List ℕ
@@ -50,13 +50,13 @@ pub record IsWatched (N : Type 0) (image : ImageValue) (input : Input) (o : Outc
   pub leaves : LeavesRun book events (closed_of o)
   pub steps_is : o.steps ≡ Some events
 
--- the text of its story, as of a course that ended: the lines, or the lines of counts
+-- the text of its story, as of one played to its end: the lines, or the lines of counts
 abbrev pub lines_of_watched : {N : Type 0} {image : ImageValue} {input : Input} {o : Outcome}
     → IsWatched N image input o → List ℕ
 lines_of_watched {N} {image} w = text_of_course (plan_of w.asking image w.script) w.opening w.moments w.book w.story
 
--- and what comes at the end, where the run stands so: where its memory is told, the text is the memory that the outcome
--- holds
+-- the same with the end of the run, where it stands so: where its memory is printed, the text is the memory that the
+-- outcome holds
 abbrev pub text_of_watched : {N : Type 0} {image : ImageValue} {input : Input} {o : Outcome}
     → IsWatched N image input o → End → List ℕ
 text_of_watched {N} {image} {input} {o} w end =

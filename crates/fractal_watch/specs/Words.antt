@@ -18,7 +18,7 @@ use Rattle.watch_play.specs.Texts.{IsTellable}
 use Rattle.fractal_watch.specs.declared.words.Asking.{Asking}
 use Rattle.fractal_watch.specs.declared.words.TheConstants.{STARVED_ROUNDS}
 
--- what is told, and the words behind those that say it
+-- what is printed, and the words after those that say it
 pub record WordsBehindTelling : Type 0 where
   pub telling : Telling
   pub behind : List (List ℕ)
@@ -53,7 +53,7 @@ telling_in (word ∷ words) =
     else if bytes_eq word (codes "views") then views_number words
     else Some (record { telling = tellings.Lines; behind = word ∷ words })
 
--- a course, and the words that ask the first program for its options
+-- a mode, and the words that ask `fractal_sim` for its options
 pub record WordsOfCourse : Type 0 where
   pub course : CourseWord
   pub words : List (List ℕ)
@@ -62,7 +62,7 @@ pub record WordsOfCourse : Type 0 where
 abbrev pub words_of : CourseWord → List ℕ → List (Bor (List ℕ)) → WordsOfCourse
 words_of course command behind = record { course = course; words = command ∷ map (λ w. w.now) behind }
 
--- after how many starved rounds in a row the least task is advanced, and the words behind that
+-- after how many starved rounds in a row the least task is advanced, and the words after that
 pub record WordsBehindStarved : Type 0 where
   pub starved : ℕ
   pub behind : List (List ℕ)
@@ -104,7 +104,7 @@ course_asked words =
     telling_in words >>= λ told. course_in told.behind >>= λ leading. request_of_words leading.words >>= λ request.
     Some (record { course = leading.course; telling = told.telling; request = request })
 
--- how filters tell lines apart, and the words beside that
+-- the kind of filters, and the words beside that
 pub record WordsBesideFilter : Type 0 where
   pub filter : FilterKind
   pub words : List (List ℕ)
@@ -132,7 +132,7 @@ filter_behind before (word ∷ kind ∷ behind) =
 abbrev pub filter_among : List (List ℕ) → Option WordsBesideFilter
 filter_among words = filter_behind (take (filter_place words) words) (drop (filter_place words) words)
 
--- the same course, with filters of this kind
+-- the same request, with filters of this kind
 abbrev pub with_filter : FilterKind → Asking → Asking
 with_filter filter asking = record {
   course = asking.course;

@@ -1,4 +1,4 @@
-//! A watched run is closed, and its last line is told, or the memory that it leaves.
+//! Closes a watched run, and prints its last line, or the memory that it leaves.
 
 ghost use Rattle.std.specs.Prelude.{◌≡◌, IfSome, None, Option, length};
 ghost use Rattle.guest_image.specs.ImageValue.{IsImage};
@@ -34,7 +34,7 @@ fn stand<N: Naming, P: Placer, T: Tap>(book: &Book<N, P, T>) -> End
     }
 }
 
-/// The status of a run whose course was played to its end.
+/// The status of a run that was played to its end.
 fn status_of(end: End) -> u8
     ensures { result ≡ watch_status end }
 {
@@ -78,7 +78,7 @@ fn close_book<N: Naming, P: Placer, T: Tap>(book: Book<N, P, T>) -> Closed
     book.close()
 }
 
-/// Tells the last line of a run that was closed.
+/// Prints the last line of a run that was closed.
 fn tell_last_line<K: Sink>(
     sink: &mut K,
     line: &mut String,
@@ -98,8 +98,7 @@ fn tell_last_line<K: Sink>(
     tell_text(sink, line.as_bytes())
 }
 
-/// Tells what comes at the end of a run that was closed: its last line, or the memory that it leaves, as it stands
-/// there.
+/// Prints the end of a run that was closed: its last line, or the memory that it leaves.
 fn tell_end<K: Sink>(
     sink: &mut K,
     telling: Telling,
@@ -120,7 +119,7 @@ fn tell_end<K: Sink>(
     }
 }
 
-/// The status of a story that ended before its course did.
+/// The status of a story that ended too early.
 fn stop_status(stop: StoryStop) -> u8
     ensures { result ≡ stop_status stop }
 {
@@ -130,7 +129,7 @@ fn stop_status(stop: StoryStop) -> u8
     }
 }
 
-/// Closes a book whose story was told up to its end, and tells what comes there.
+/// Closes a book whose whole story was printed, and prints the end.
 pub(crate) fn finish<N: Naming, P: Placer, T: Tap, K: Sink>(
     sink: &mut K,
     telling: Telling,
@@ -152,7 +151,7 @@ pub(crate) fn finish<N: Naming, P: Placer, T: Tap, K: Sink>(
     }
 }
 
-/// Closes a book whose story ended before its course did.
+/// Closes a book whose story ended too early.
 pub(crate) fn break_off<N: Naming, P: Placer, T: Tap>(
     book: Book<N, P, T>,
     stop: StoryStop,

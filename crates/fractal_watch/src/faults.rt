@@ -1,4 +1,4 @@
-//! The lines that tell a fault.
+//! The lines for faults.
 
 ghost use Rattle.std.specs.Prelude.{◌≡◌, ◌≢◌, IfOk, List, ℕ};
 ghost use Rattle.std.specs.String.{string_bytes};
@@ -37,7 +37,7 @@ fn script_line(alloc: Global, wrong: u32) -> Result<String, AllocError>
     format!(in alloc; "{{\"fault\":\"script\",\"line\":{wrong}}}\n")
 }
 
-/// Tells a line that takes memory, with the status that goes with it.
+/// Prints a line that takes memory, with the status that belongs to it.
 fn tell_made<K: Sink>(
     alloc: Global,
     sink: &mut K,
@@ -54,7 +54,7 @@ fn tell_made<K: Sink>(
     }
 }
 
-/// Tells why a call comes to no image.
+/// Prints why a call has no image to run.
 pub(crate) fn tell_fault<K: Sink>(alloc: Global, sink: &mut K, fault: FrontFault) -> Outcome
     ensures { TellsFrontFault front fault (K.state sink.old) (K.state sink.new) result }
 {

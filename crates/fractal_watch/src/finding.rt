@@ -1,4 +1,4 @@
-//! What is found before anything is told.
+//! What is found before anything is printed.
 
 ghost use Rattle.std.specs.Prelude.{◌≡◌, ◌≤◌, ◌<◌, ◌^◌, [], All, Err, IfErr, IfOk, List, length};
 ghost use Rattle.place_policy.specs.Policy.{Policy};
@@ -20,16 +20,16 @@ use program_call::{FrontFault, Opened, read_input};
 use sim_io::Source;
 use std::alloc::Global;
 
-/// What is found before anything is told.
+/// What is found before anything is printed.
 #[derive(Drop)]
 pub(crate) enum Finding {
     /// The script is refused at this line.
     NoScript(u32),
-    /// What is to be watched: an image, and the acts of its script, which are none where the course has none.
+    /// What is to be watched: an image, and the acts of its script, none outside mode `steps`.
     Ready(Asking, Image, Vec<Act>),
 }
 
-/// The acts of the script behind an image, where the course has one.
+/// The acts of the script after an image, in mode `steps`.
 fn read_acts(alloc: Global, asking: &Asking, behind: &[u8]) -> Result<Vec<Act>, ScriptFault>
     requires { length behind.now ≤ input_limit }
     ensures acts { IfOk result (λ acts. HasActs asking.now.course asking.now behind.now acts.items) }

@@ -1,11 +1,11 @@
-//! Shows the inside of the speculative machine: an image is run, or a script is played on it, and each act is told by a
-//! line of JSON once it is played, with the task that it is about, what that asked for, the reply, and which tasks were
-//! taken back. Or nothing is told but, at the end, the data memory that the run leaves. The image comes from standard
-//! input, and the lines or the memory go to standard output; so does one line that says what is wrong.
+//! Shows the inside of the speculative machine: an image is run, or a script is played on it, and each act is printed
+//! as a line of JSON once it is played, with its task, what that requested, the reply, and which tasks were aborted. Or
+//! only the data memory that the run leaves is written. The image is read from standard input, and the lines or the
+//! memory go to standard output; so does one line that says what is wrong.
 //!
-//! It stands on `watch_play`, on `watch_text` for the last line, on the readers of words, images and scripts, and on
+//! It uses `watch_play`, `watch_text` for the last line, on the readers of words, images and scripts, and on
 //! the definitions of `machine_run` for what a closed book leaves. The launcher or a tool calls it. It costs what the
-//! run does, and for each act that took tasks back or may have spilled some a look at each place of the task queues.
+//! run does, and for each act that aborted tasks or may have spilled some a look at each place of the task queues.
 #![tactic(auto)]
 
 mod closing;
@@ -31,7 +31,7 @@ fn main(rt: HostRuntime) -> ExitCode {
     exit_code(answer(&rt))
 }
 
-/// Does what the words of the process ask for, on the standard streams, and tells the exit status.
+/// Does what the words of the process ask for, on the standard streams, and returns the exit status.
 fn answer<I: Read + Drop, R: Env + Alloc<A = Global> + Input<Reader = I> + Print>(
     rt: &R,
 ) -> Result<u8, AllocError> {

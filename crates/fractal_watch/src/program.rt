@@ -14,16 +14,15 @@ use sim_io::{Sink, Source};
 use std::alloc::Global;
 use std::marker::Brand;
 
-/// Does what the words ask for, on the bytes of the source, and tells what comes of it to the sink.
+/// Does what the words ask for, on the bytes of the source, and writes the result to the sink.
 ///
-/// The words are those behind the program's name: `memory`, `views K` or neither, a course, and the options of the
-/// first program. The head is told, the tasks of the image where they were placed, each act that is asked for, the view
-/// behind each K of these, and how the run stands at the end. The line of an act tells what it came to, as the machine
-/// stood before and behind it. With `memory` none of this is told, but the data memory that the run leaves, of which no
-/// copy is made.
+/// The words are those after the program's name: `memory`, `views K` or neither, a mode, and the options of
+/// `fractal_sim`. Printed are the head, the tasks of the image where they were placed, each act that is requested, the
+/// view after each K of these, and how the run ended. The line of an act has its reply and its effect, by the machine
+/// before and after it. With `memory` only the data memory that the run leaves is written, and it isn't copied.
 ///
 /// The outcome holds nothing, or the run of the serial machine from the image that was read, which the events left. The
-/// status tells what was found. Where the sink failed it took a front of the text, and the run stopped there; where
+/// status says what was found. Where the sink failed it took a front of the text, and the run stopped there; where
 /// memory ran out it took nothing, or whole lines, of all moments or of all but the last, and no end. Where the words
 /// are refused the source is left alone; else at most 67,108,864 of its bytes are taken, or one more where it has more
 /// than that.

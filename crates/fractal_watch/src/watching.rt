@@ -26,7 +26,7 @@ use std::alloc::Global;
 use trace_tap::{LastN, Tap};
 use watch_play::{Play, Printer, StoryStop, Watch, play_course, tell_opening};
 
-/// Plays a course behind its opening, and tells both.
+/// Prints an opening, plays from it, and prints that.
 fn tell_course<N: Naming, P: Placer, T: Tap, K: Sink>(
     watch: &mut Watch<N, P, T>,
     sink: &mut K,
@@ -51,7 +51,7 @@ fn tell_course<N: Naming, P: Placer, T: Tap, K: Sink>(
     play_course(watch, sink, image, course, script)
 }
 
-/// Tells the story of a book that was begun, and closes it. The run is kept, also where memory runs out or the sink
+/// Prints the story of a book that was begun, and closes it. The run is kept, also where memory runs out or the sink
 /// fails on the way.
 fn tell_book<N: Naming, P: Placer, T: Tap, K: Sink>(
     alloc: Global,
@@ -86,7 +86,7 @@ fn tell_book<N: Naming, P: Placer, T: Tap, K: Sink>(
     }
 }
 
-/// Begins a machine on an image, plays the course and tells it.
+/// Begins a machine on an image, plays, and prints what happens.
 pub(crate) fn watch_image<N: Naming, P: Placer, K: Sink>(
     alloc: Global,
     sink: &mut K,

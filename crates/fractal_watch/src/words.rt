@@ -23,29 +23,29 @@ pub const STARVED_ROUNDS: u32 = 16;
 /// What the words ask for.
 #[derive(Clone, Copy, Debug, PartialEq, Eq)]
 pub struct Asking {
-    /// Which course is played.
+    /// The mode.
     pub course: CourseWord,
-    /// What is told of it.
+    /// What is printed of it.
     pub telling: Telling,
-    /// The settings, among what the same options would ask of the first program.
+    /// The settings, among what the same options would ask of `fractal_sim`.
     pub request: Request,
 }
 
-/// What is told, as the words in front of a course say, and the words behind them.
+/// What is printed, as the words before a mode say, and the words after them.
 #[derive(Clone, Copy)]
 struct Told<'a> {
     telling: Telling,
     behind: &'a [&'a str],
 }
 
-/// `starved K` in front of other words: K, or what stands for it, and the words behind it.
+/// `starved K` in front of other words: K or its default, and the words after it.
 #[derive(Clone, Copy)]
 struct Starved<'a> {
     starved: u32,
     behind: &'a [&'a str],
 }
 
-/// A course, the command that has its options with the first program, and the words behind it.
+/// A mode, the command of `fractal_sim` that has its options, and the words after it.
 #[derive(Clone, Copy)]
 struct Leading<'a> {
     course: CourseWord,
@@ -194,7 +194,7 @@ fn in_front<'a>(
 
 /// What words without `--filter` ask for. `Usage` where they are outside the grammar: `memory`, `views K`, `counts`
 /// with `every K` or not, or none of them, then `steps`, `least`, or `lockstep ROUNDS SEED`, with `starved K` or not,
-/// and then the options of the first program.
+/// and then the options of `fractal_sim`.
 #[tactic(auto, unfolding(crate::specs::Words::course_asked))]
 fn read_course(alloc: Global, words: &[&str]) -> Result<Asking, Refusal>
     ensures value { IfOk result (λ asking. course_asked (map (λ w. w.now) words.now) ≡ Some asking) }
@@ -221,7 +221,7 @@ fn read_course(alloc: Global, words: &[&str]) -> Result<Asking, Refusal>
     }
 }
 
-/// How filters tell lines apart, and the words beside that.
+/// The kind of filters, and the words beside that.
 #[derive(Drop)]
 struct BesideFilter<'a> {
     filter: FilterKind,
@@ -303,7 +303,7 @@ fn filter_among<'a>(alloc: Global, words: &'a [&'a str]) -> Result<BesideFilter<
     Ok(BesideFilter { filter, words })
 }
 
-/// The same course, with filters of this kind.
+/// The same request, with filters of this kind.
 fn with_filter(asking: Asking, filter: FilterKind) -> Asking
     ensures { result ≡ with_filter filter asking }
 {
@@ -320,7 +320,7 @@ fn with_filter(asking: Asking, filter: FilterKind) -> Asking
 }
 
 /// What the words, without the program's name, ask for: `--filter` with `modulo`, `bloom` or `exact` anywhere among
-/// them, once or not, and a course with its options beside that. `Usage` where they are outside the grammar.
+/// them, once or not, and a mode with its options beside that. `Usage` where they are outside the grammar.
 #[tactic(auto, unfolding(crate::specs::Words::asking_of_words))]
 pub(crate) fn read_asking(alloc: Global, words: &[&str]) -> Result<Asking, Refusal>
     ensures value { IfOk result (λ asking. asking_of_words (map (λ w. w.now) words.now) ≡ Some asking) }

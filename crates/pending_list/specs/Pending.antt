@@ -30,7 +30,7 @@ name_before a b = nat_lt a.creator b.creator || ((a.creator == b.creator) && nat
 abbrev pub AllBefore : Name → List PendingTask → Type 0
 AllBefore name tasks = All (λ t. name_before t.name name ≡ true) tasks
 
--- the second task where its timestamp is smaller or there is no first, and else the first
+-- the second task where its timestamp is smaller or no first exists, and else the first
 abbrev pub earlier : Option PendingTask → Option PendingTask → Option PendingTask
 earlier None found = found
 earlier (Some a) None = Some a

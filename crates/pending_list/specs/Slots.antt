@@ -7,7 +7,7 @@ use Rattle.pending_list.specs.declared.slot.Slot.{Slot}
 use Rattle.pending_list.specs.Pending.{is_named, name_before}
 use Rattle.pending_list.specs.Tournament.{no_rank}
 
--- the tasks that are there
+-- the tasks in the slots that aren't vacant
 abbrev pub present : List Slot → List PendingTask
 present [] = []
 present (s ∷ slots) = if s.here then s.task ∷ present slots else present slots
@@ -61,7 +61,7 @@ pub record IsTrimmed (old new : List Slot) : Type 0 where
 abbrev pub rank_of : ℕ → Slot → ℕ
 rank_of k slot = if slot.here then slot.task.ts * 2 ^ 32 + k else no_rank
 
--- slots in order, and the rank of each; behind them is no task
+-- slots in order, and the rank of each; no task follows them
 pub record AreRanked (slots : List Slot) (ranks : List ℕ) (capacity : ℕ) : Type 0 where
   pub within : length slots ≤ length ranks
   pub held : length ranks ≤ capacity

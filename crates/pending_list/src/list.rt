@@ -18,9 +18,9 @@ const SLOT_NUMBERS: u64 = 1 << 32;
 
 /// The pending tasks of a domain, in the order of their arrival, which is that of their names.
 ///
-/// Each task has a slot. A slot that its task left stays vacant until no task is behind it, or until the list moves. A
-/// look by name halves the slots, whose names rise; the first task of the least timestamp is that of the root of a
-/// tournament of ranks, a timestamp with a slot's number behind it.
+/// Each task has a slot. A slot that its task left stays vacant until no task follows it, or until the list moves. A
+/// name is found by binary search over the slots, whose names rise; the first task of the least timestamp is at the
+/// root of a tournament of ranks, a timestamp followed by a slot's number.
 #[derive(Drop)]
 pub struct PendingList {
     alloc: Global,

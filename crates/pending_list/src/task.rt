@@ -11,6 +11,6 @@ pub struct PendingTask {
     pub entry: u32,
     /// Its timestamp: 0 in an unordered domain.
     pub ts: u32,
-    /// Its arguments, which stand in x10 to x12 at its start.
+    /// Its arguments, which are in x10 to x12 at its start.
     pub args: [u32; 3],
 }

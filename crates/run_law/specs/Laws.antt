@@ -26,7 +26,7 @@ turns_of name (e ∷ es) = one (is_same e.name name) + turns_of name es
 abbrev pub TurnsAreDistinct : List Entry → Type 0
 TurnsAreDistinct journal = (name : Name) → turns_of name journal ≤ 1
 
--- the entry stands in the journal right behind these entries, whose run led to this state
+-- the journal has the entry right after these entries, whose run led to this state
 pub record IsTurnOf (image : ImageValue) (budget : ℕ) (journal before : List Entry) (state : SerialState)
     (entry : Entry) : Type 0 where
   pub entries_behind : List Entry
@@ -71,8 +71,8 @@ pub record IsInsideTurns (owner : ℕ) (before : List Entry) (entry : Entry) : T
   pub number : owner ≡ length earlier + 1
   pub deeper : AllByRecursion (λ e. owner_entry.depth < e.depth) (between ++ entry ∷ [])
 
--- where a task takes its turn from a domain that another task made, all turns behind that other task's up to and
--- with this one are deeper (Subramanian et al. 2017, section 3: a task and its subdomain run as one unit)
+-- where a task takes its turn from a domain that another task made, all turns after that other task's, up to and
+-- with this one, are deeper (Subramanian et al. 2017, section 3: a task and its subdomain run as one unit)
 abbrev pub AreDeeper : ImageValue → ℕ → List Entry → Type 0
 AreDeeper image budget journal =
     (before : List Entry) → (state : SerialState) → (entry : Entry) → IsTurnOf image budget journal before state entry
@@ -90,7 +90,7 @@ AreUntied image budget journal =
     (before : List Entry) → (state : SerialState) → (entry : Entry) → IsTurnOf image budget journal before state entry
     → IsUntied (inner state.stack)
 
--- where there is no such tie, every run of the same length has this journal and leads to this state
+-- where no such tie exists, every run of the same length has this journal and leads to this state
 abbrev pub IsForced : ImageValue → ℕ → List Entry → SerialState → Type 0
 IsForced image budget journal state = AreUntied image budget journal
     → (other : List Entry) → (after : SerialState) → IsRun image budget other after → length other ≡ length journal

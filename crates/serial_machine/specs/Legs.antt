@@ -46,7 +46,7 @@ SubFits depth (Some kind) = depth ≢ MAX_DEPTH
 abbrev pub CanCount : ℕ → Type 0
 CanCount used = used < 2 ^ 32 - 1
 
--- what stands at the end of a leg can be counted, if it is executed
+-- what ends a leg can be counted, if it is executed
 abbrev pub StopCanCount : ℕ → Stop → Type 0
 StopCanCount used (stop.Load width rd addr) = CanCount used
 StopCanCount used (stop.Store width addr value) = CanCount used
@@ -87,7 +87,7 @@ pub record LegAdvances (image : ImageValue) (budget : ℕ) (ctx : Ctx) (old new 
   pub within : new.core.used ≤ budget
   pub memory : length new.memory ≡ length old.memory
 
--- where a leg, and what stands at its end, lead
+-- where a leg, and what ends it, lead
 abbrev pub LegLeads : ImageValue → ℕ → Ctx → TaskState → Flow → TaskState → Type 0
 LegLeads image budget ctx old flow.Continues new = LegAdvances image budget ctx old new
 LegLeads image budget ctx old flow.Ended new = FinishesRun (end_of_task image budget ctx old) ends.Done new

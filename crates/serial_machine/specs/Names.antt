@@ -10,12 +10,12 @@ abbrev pub one : Bool → ℕ
 one true = 1
 one false = 0
 
--- how often a name stands in a list of tasks
+-- how often a list of tasks has a name
 abbrev pub times : Name → List PendingTask → ℕ
 times name [] = 0
 times name (t ∷ ts) = one (is_named name t) + times name ts
 
--- how often a name stands in a stack
+-- how often a stack has a name
 abbrev pub times_in : Name → List BagValue → ℕ
 times_in name [] = 0
 times_in name (b ∷ bs) = times name b.tasks + times_in name bs

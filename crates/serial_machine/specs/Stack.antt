@@ -24,7 +24,7 @@ bags stack = map bag_value stack
 abbrev pub state_of : List Bag → List ℕ → List ℕ → ℕ → SerialState
 state_of stack memory output count = record { stack = bags stack; memory = memory; output = output; count = count }
 
--- the innermost bag that isn't empty stands at this place
+-- the innermost bag that isn't empty has this place
 abbrev pub IsTopAt : List Bag → ℕ → Type 0
 IsTopAt stack place = (place < length stack) × (inner (bags stack) ≡ bags (drop place stack))
 

@@ -126,15 +126,15 @@ turn image budget s name = turn_from_stack image budget s name (inner s.stack)
 abbrev pub TakesTurn : ImageValue → ℕ → SerialState → Name → SerialState → Entry → Type 0
 TakesTurn image budget before name after entry = turn image budget before name ≡ Some (after, entry)
 
--- the task of a name may take the next turn: it stands in the innermost bag that isn't empty, with a least
--- timestamp there
+-- the task of a name may take the next turn: it is in the innermost bag that isn't empty, with a least timestamp
+-- there
 pub record MayTurn (stack : List BagValue) (name : Name) (bag : BagValue) (outer : List BagValue)
     (task : PendingTask) : Type 0 where
   pub top : inner stack ≡ bag ∷ outer
   pub found : find_named name bag.tasks ≡ Some task
   pub least : is_least task.ts bag.tasks ≡ true
 
--- the name stands in a bag outside the innermost one that isn't empty, which has this depth
+-- the name is in a bag outside the innermost one that isn't empty, which has this depth
 pub record IsNotTop (stack : List BagValue) (name : Name) (depth : ℕ) : Type 0 where
   pub pending : is_pending name stack ≡ true
   pub bag : BagValue
@@ -143,7 +143,7 @@ pub record IsNotTop (stack : List BagValue) (name : Name) (depth : ℕ) : Type 0
   pub elsewhere : find_named name bag.tasks ≡ None
   pub told : depth ≡ bag.depth
 
--- the name stands in the innermost bag that isn't empty, and beside it a task with this smaller timestamp
+-- the name is in the innermost bag that isn't empty, beside a task with this smaller timestamp
 pub record IsNotLeast (stack : List BagValue) (name : Name) (ts : ℕ) : Type 0 where
   pub bag : BagValue
   pub outer : List BagValue

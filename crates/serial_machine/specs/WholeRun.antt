@@ -39,7 +39,7 @@ IsStop image serial (ends.Trap name cause pc) = TrapsSo image serial.budget seri
 IsStop image serial ends.Limit = ⊥
 IsStop image serial ends.Unfinished = ⊥
 
--- what a turn came to, from one machine and journal to another
+-- the result of a turn, from one machine and journal to another
 abbrev pub TurnAdvances : ImageValue → (old new : SerialValue) → (journal journal' : List Entry) → TurnAnswer → Type 0
 TurnAdvances image old new journal journal' advances.Taken = IsTaken image old new journal journal'
 TurnAdvances image old new journal journal' (advances.Over end) = IsStop image old end × (new ≡ old)

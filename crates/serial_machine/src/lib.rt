@@ -1,9 +1,8 @@
-//! The serial meaning of a task program: a stack of bags of pending tasks, one memory, the output and a count of
-//! turns.
+//! The serial meaning of a task program: a stack of bags of pending tasks, a memory, the output and a count of turns.
 //!
 //! A turn takes a task of least timestamp from the innermost bag that isn't empty and runs it whole. A turn costs
 //! the instructions of its task and, for itself and each child, the logarithm of the number of tasks in a bag; no
-//! data is copied, and a turn that is refused takes back its own stores. It stands on `rv_core`, `task_request`,
+//! data is copied, and the stores of a turn that is refused are rolled back. It uses `rv_core`, `task_request`,
 //! logs and pending lists; `Serial` checks reports, the laws of runs, tasks, states and events cite its
 //! definitions, and the speculative machine has its ends and limits from it.
 #![tactic(auto)]

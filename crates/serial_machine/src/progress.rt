@@ -19,7 +19,7 @@ pub(crate) enum Flow {
     Trapped { cause: u8, pc: u32 },
 }
 
-/// A task in progress. Its stores are logged, so that they can be taken back.
+/// A task in progress. Its stores are logged, so that they can be rolled back.
 #[derive(Drop)]
 pub(crate) struct Progress {
     pub core: Core,

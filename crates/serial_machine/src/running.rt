@@ -114,7 +114,7 @@ fn data_size(memory: &Memory) -> u32
     memory.as_slice().len() as u32
 }
 
-/// A leg, and what stands at its end. The data range is that of the task's memory.
+/// A leg, and what ends it. The data range is that of the task's memory.
 fn run_leg(task: &mut Progress, image: &Image, budget: u32, ctx: &Ctx) -> Result<Flow, AllocError>
     requires used { task.old.task.core.used ≤ budget }
     requires size { length task.old.task.memory < 2 ^ 32 }

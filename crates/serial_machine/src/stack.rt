@@ -51,7 +51,7 @@ fn is_empty_at(stack: &[Bag], k: usize) -> bool
     stack[k].tasks.is_empty()
 }
 
-/// The bag that stands there, and those outside it.
+/// The bag at this place, and those outside it.
 pub(crate) fn bag_at(stack: &[Bag], k: usize) -> (&Bag, &[Bag])
     requires { k < length stack.now }
     ensures { drop k stack.now ≡ result.0.now ∷ result.1.now }
@@ -166,7 +166,7 @@ fn widen(stack: &mut [Bag], more: usize) -> Result<(), AllocError>
     Ok(())
 }
 
-/// Takes the first bag off. There are at most as many bags as domains nest, so that the others move up is no cost.
+/// Takes the first bag off. Moving the others up costs little: there are at most as many bags as domains nest.
 fn take_first(stack: &mut Vec<Bag>) -> Bag
     requires { 0 < vec_len stack.old }
     ensures taken { stack.old.items ≡ result ∷ stack.new.items }

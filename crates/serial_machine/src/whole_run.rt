@@ -25,7 +25,7 @@ pub struct SerialRun {
     pub end: Option<End>,
 }
 
-/// What comes of a turn.
+/// The result of a turn.
 #[derive(Clone, Copy, Debug)]
 pub(crate) enum TurnAnswer {
     /// A task took its turn.
@@ -106,7 +106,7 @@ fn take_one(image: &Image, serial: &mut Serial, journal: &mut Vec<Entry>) -> Tur
     }
 }
 
-/// What comes of a trap, or of running out of memory.
+/// The result of a trap, or of running out of memory.
 fn stopped_by(name: Name, fault: TurnFault) -> TurnAnswer
     requires { IsTrapOrMemory fault }
     ensures { IsStopOf name fault result }
