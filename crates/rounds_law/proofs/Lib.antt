@@ -1,5 +1,8 @@
+pub mod Advances
+pub mod Commits
 pub mod Heirs
 pub mod Midway
 pub mod Nearer
 pub mod Orders
 pub mod Owed
+pub mod Starving

@@ -39,7 +39,8 @@ use Rattle.watch_counts.proofs.Below.event_basis.Holders.{finished_is_dispatched
 use Rattle.watch_counts.proofs.Below.spec_law.Proved.{least_is_one}
 use Rattle.watch_play.specs.Courses.{IsAskedInRound}
 use Rattle.watch_play.specs.Stories.{commits_of}
-use Rattle.watch_play.proofs.Forced.{made_of, one_commit}
+use Rattle.rounds_law.proofs.Commits.{one_commit}
+use Rattle.watch_play.proofs.Forced.{made_of}
 use Rattle.rounds_law.proofs.Heirs.{Still, busy, dispatch_by, split, step_leaves}
 
 -- what is left of the way of a task

@@ -29,7 +29,7 @@ use Rattle.rounds_law.specs.GettingOn.{RoundsGetOn}
 use Rattle.watch_play.specs.Lockstep.{IsLockstep}
 use Rattle.watch_play.specs.Stories.{ActComes, Makes, NextStage, Passes, StoryLeads, begun, commits_of}
 use Rattle.watch_play.proofs.Does.{came_between}
-use Rattle.watch_play.proofs.Forced.{commits_stay}
+use Rattle.rounds_law.proofs.Commits.{commits_stay}
 use Rattle.rounds_law.proofs.Heirs.{busy}
 use Rattle.rounds_law.proofs.Midway.{IsMidway, is_due, midway_on, near_at_end}
 use Rattle.rounds_law.proofs.Nearer.{IsNear, has_heir, heir_is_there, is_over, left_of, near_by_rest, own_act}
@@ -39,7 +39,7 @@ use Rattle.watch_play.proofs.SoundPlays.{IsSoundPlay}
 use Rattle.watch_play.proofs.Stages.{act_within, by_stage, few_starved}
 use Rattle.watch_play.proofs.Waiting.{not_waiting, over_not_waiting}
 
--- no act takes a commit back
+-- no act undoes a commit
 act_commits : (N : Type 0) (image : ImageValue) (rounds seed most : ℕ) (settings : Settings) (n : ℕ) (at : Stage)
     (front moments : List (Moment N)) (old last : PlayState)
     → ActComes image (OfRounds rounds seed most settings) n at front old moments last

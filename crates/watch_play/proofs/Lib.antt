@@ -4,7 +4,6 @@ pub mod Chosen
 pub mod Does
 pub mod Due
 pub mod Forced
-pub mod GetsOn
 pub mod SoundPlays
 pub mod InRound
 pub mod Leaving

@@ -1,7 +1,7 @@
 //! Laws of stories and their lines. Each is the contract of a function that does nothing.
 
 ghost use Rattle.watch_play.specs.Leaving.{LeastStoryAdvances, LeastStoryIsRun, StoryStaysSound};
-ghost use Rattle.watch_play.specs.Lockstep.{ForcedGetsOn, LockstepPlays, RoundsDispatch};
+ghost use Rattle.watch_play.specs.Lockstep.{LockstepPlays};
 ghost use Rattle.watch_play.specs.Replies.{MomentDoes, StoryPlays};
 ghost use Rattle.watch_play.specs.Rounds.{AskedIsMade, PassedIsRefused};
 ghost use Rattle.watch_play.specs.Twice.{EndIsOne, StoryIsOne};
@@ -30,20 +30,6 @@ pub fn asked_is_made<N: Naming>()
 /// as it is. On an unsound view an id might stand twice in a task queue, so that none is the least idle one.
 pub fn passed_is_refused<N: Naming>()
     ensures { PassedIsRefused N }
-{}
-
-/// From a sound book, whatever queues are full, advances of which none commits are no more than the budget and 4, less
-/// what is left of the way to the next commit or the end: so as many as that commit the next task or end the run, want
-/// of memory aside. An unsound view may have no least task, and a stopped book advances to no end.
-pub fn forced_gets_on<N: Naming>()
-    ensures { ForcedGetsOn N }
-{}
-
-/// In a story in rounds no more rounds in a row than M commit no task and end while the least task waits: of each
-/// M + 1 rounds one commits a task, or ends with the least task dispatched, or with the run. M is one at least, since
-/// after each round at least none in a row was starved.
-pub fn rounds_dispatch<N: Naming>()
-    ensures { RoundsDispatch N }
 {}
 
 /// The acts that the log of a run in rounds lists, in their order, are a script that is played so: lockstep is `steps`

@@ -21,9 +21,8 @@ mod watch;
 
 pub use driving::play_course;
 pub use laws::{
-    asked_is_made, end_is_one, forced_gets_on, least_story_advances, least_story_is_run,
-    lockstep_plays, moment_does, passed_is_refused, rounds_dispatch, story_is_one, story_plays,
-    story_stays_sound,
+    asked_is_made, end_is_one, least_story_advances, least_story_is_run, lockstep_plays,
+    moment_does, passed_is_refused, story_is_one, story_plays, story_stays_sound,
 };
 use machine_run::step_script;
 use machine_run::step_script::conflict_book;

@@ -1,4 +1,4 @@
--- A course in rounds gets on.
+-- How many rounds in a row are starved.
 use Rattle.std.proofs.Common.{◌≡◌, ◌≢◌, ◌==◌, ◌&&◌, ◌≤◌, ◌<◌, ◌+◌, ℕ, zero, suc, Bool, true, false, List, length}
 use Rattle.std.proofs.Common.{refl, sym, ap, subst, ◌∙◌, arith, eq-eqb}
 use Rattle.std.specs.Prelude.{if◌then◌else◌, not}
@@ -10,7 +10,7 @@ use Rattle.watch_counts.specs.step_script.Playing.{PlayState}
 use Rattle.watch_counts.specs.watch_text.Moments.{Moment}
 use Rattle.watch_play.specs.Courses.{OfRounds, Stage, at_forced, first_stage, following, is_starved, stage_after}
 use Rattle.watch_play.specs.Courses.{starved_after}
-use Rattle.watch_play.specs.Lockstep.{RoundsDispatch, ends_round, waited}
+use Rattle.rounds_law.specs.GettingOn.{RoundsDispatch, ends_round, waited}
 use Rattle.watch_play.specs.Stories.{StoryLeads, commits_of}
 use Rattle.watch_play.proofs.Stages.{by_stage, few_starved}
 
