@@ -1,4 +1,5 @@
-"""Work that several processes share: what came of each item as it comes, news in between, and nothing left behind."""
+"""Shares work among several processes: yields progress and the result of each item as they arrive, and ends every
+process."""
 from __future__ import annotations
 
 import signal
@@ -15,22 +16,22 @@ Tell = Callable[[Any], None]
 
 
 class News(NamedTuple):
-    """What a process tells of the item at a place: news of it, or at last its result, or why there is none."""
+    """What a process sends about the item at a place: progress, or at last its result, or why there is none."""
     place: int
     is_last: bool
     what: Any
 
 
 class Crew:
-    """So many processes at once, each for one item: `work` takes the item, and a function to tell news by."""
+    """A number of processes, each working on one item: `work` takes the item, and a function that sends progress."""
 
     def __init__(self, work: Callable[[Any, Tell], Any], jobs: int) -> None:
         self.work, self.jobs = work, jobs
         self.running: dict[Connection, tuple[int, Any]] = {}
 
     def each(self, items: Sequence[Any]) -> Iterator[News]:
-        """What is told of the items, as it comes. When it is left early, by an interrupt too, all processes are
-        ended. What an item is refused for is raised."""
+        """Yields what the processes send, as it arrives. All of them are ended when the caller leaves early, also by an
+        interrupt. Raises the refusal of an item."""
         # What imports this often needs no process, and the module takes time to import.
         from multiprocessing.connection import wait
         waiting = list(enumerate(items))[::-1]
@@ -55,7 +56,7 @@ class Crew:
         self.running[mine] = place, process
 
     def receive(self, connection: Connection) -> News:
-        """What a process tells next; refuses one that ended and reported nothing."""
+        """What a process sends next; refuses one that ended without a result."""
         place, process = self.running[connection]
         try:
             is_last, what = connection.recv()

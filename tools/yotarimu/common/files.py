@@ -43,7 +43,7 @@ def need_plain(path: FilePath) -> pathlib.Path:
 
 
 def read_text(path: FilePath) -> str:
-    """The whole of a file as text; bytes that are no text are told apart by nothing."""
+    """The whole of a file as text. Bytes that aren't valid in it are replaced, each by the same mark."""
     return read_bytes(path).decode("utf-8", "replace")
 
 
@@ -135,7 +135,7 @@ def need_outputs(outputs: Iterable[Optional[FilePath]], inputs: Iterable[Optiona
 
 
 def is_same_file(one: FilePath, other: FilePath) -> bool:
-    """Whether two paths lead to one file, also one that isn't there yet; what is written to no file is never one."""
+    """Whether two paths lead to one file, which need not exist yet; output that goes to no file is never the same."""
     with contextlib.suppress(OSError):
         found = os.stat(one)
         return stat.S_ISREG(found.st_mode) and os.path.samestat(found, os.stat(0 if str(other) == "-" else other))
@@ -148,7 +148,7 @@ def is_within(path: FilePath, folder: FilePath) -> bool:
 
 
 def encode(text: str) -> bytes:
-    """A text as a file has it; bytes in names of files that are no text are told as on standard output."""
+    """A text as bytes of a file. Bytes in file names that aren't valid text are written as on standard output."""
     return text.encode("utf-8", "backslashreplace")
 
 
