@@ -1,17 +1,17 @@
-"""Why tasks were aborted: of each one what took it, and what that goes back to.
+"""Why tasks were aborted: the direct cause of each one, and its root cause.
 
-An event takes a set of tasks back. Where it is a load or a store, those are taken whose accesses meet it; else one task
-is, which stands where an earlier one needs room, or which a script asked for. All others go with a member of the set:
-they are its children, or touched what it wrote. So each has a cause of its own, and behind it a way of causes that ends
-at the event: the root.
+An event aborts a set of tasks. If the event is a load or a store, the set begins with the tasks whose accesses conflict
+with it; otherwise with one task, which held room that an earlier task needs, or which a script asked to abort. All
+others are aborted with a member of the set: they are its children, or read or overwrote data it wrote. So each task has
+a direct cause, from which a chain of causes leads to the event: the root cause.
 
-Accesses meet where they share a byte, or only the line, or only the bit that a filter has for both lines. Filters tell
-no more than bits, so they take tasks back for each of these. One of the kind `bloom` may also tell a line by bits of
-several others together; then the task has no one access that meets it. Of several ways the one counts whose widest
-step shares the most: a task of which a way by bytes and children tells would have been aborted by any filter and any
-line.
+Two accesses conflict if they share a byte, or only the line, or only the bit that a filter has for both lines. Filters
+know no more than bits, so tasks are aborted in all three cases. A filter of the kind `bloom` may also report a line for
+which several other lines together set the bits; then no single access of the task conflicts. If several chains lead to
+a task, the one whose widest link shares the most counts: with a chain of bytes and children alone, the task would have
+been aborted with any filter and any line size.
 
-The lines are enough for it: `causes_of` takes what the reader found of an event.
+No more than the event log is needed: `causes_of` takes what the reader found about an event.
 """
 from __future__ import annotations
 
@@ -46,7 +46,7 @@ class Sharing(enum.IntEnum):
 
 
 class Kind(enum.Enum):
-    """What took a task back."""
+    """Why a task was aborted, by its direct cause."""
     ACCESS = "access"
     ROOM = "room"
     ABORT = "abort"
@@ -75,9 +75,9 @@ class Meeting:
 
 @dataclasses.dataclass(frozen=True)
 class Cause:
-    """Why one task was aborted. `by` is the task behind it: the one that asked for the event, or the member of the
-    set that this one goes with; None where no task asked. `sharing` is the widest of its whole way, `before` the cause
-    of the member that it goes with, and `event` the word of the root."""
+    """Why one task was aborted. `by` is the task that caused it: the one that made the event, or the member of the set
+    with which this one is aborted; None if no task did. `sharing` is the widest of its chain of causes, `before` the
+    cause of that member, and `event` the term for the root cause."""
     taken: TakenTask
     kind: Kind
     by: Optional[Task]
@@ -101,17 +101,17 @@ class Cause:
 
     @property
     def is_false(self) -> bool:
-        """Whether it comes of a line or a bit that is shared, on its way at least once."""
+        """Whether a link of its chain is a false conflict: a shared line or bit, and no shared byte."""
         return self.sharing is not Sharing.TRUE
 
 
 def root_word(told: ToldLine) -> str:
-    """The word for the root of what an event took back."""
+    """The term for the root cause of an event's aborts."""
     return ROOTS[told.line.get("asks", told.line["do"])]
 
 
 def causes_of(told: ToldLine, rule: LineRule) -> list[Cause]:
-    """The cause of each task that an event took back, the least task first."""
+    """The cause of each task that an event aborted, the least task first."""
     found = Cascade(told, rule)
     return [found.take(taken) for taken in sorted(told.taken, key=time_of)]
 
@@ -140,14 +140,15 @@ class Cascade:
         return cause
 
     def ways(self, taken: TakenTask) -> list[Cause]:
-        """All that takes a member back, first of all what the event itself does."""
+        """All chains that lead to a member, that of the event itself first."""
         ways = [way for way in (self.by_event(taken), self.by_creator(taken), self.by_touch(taken)) if way]
         # Lines that tell of no way, as no program writes them, leave it to a filter.
         kind = Kind.ACCESS if self.told.access else Kind.TOUCHED
         return ways or [Cause(taken, kind, self.told.task, None, Sharing.ALIAS, None, self.event)]
 
     def by_event(self, taken: TakenTask) -> Optional[Cause]:
-        """Why a task goes by the event itself: it met its access, or room was needed, or a script asked."""
+        """The cause of a task that the event itself aborts: its access conflicts, room was needed, or a script
+        asked."""
         if self.told.access is not None:
             meeting = self.meeting_with(taken.accesses, self.told.access)
             if meeting is None and self.is_told_jointly(taken, self.told.access):
@@ -197,7 +198,7 @@ class Cascade:
         return best or self.by_joint_touch(taken)
 
     def by_joint_touch(self, taken: TakenTask) -> Optional[Cause]:
-        """Its filter tells a line that another member wrote by bits of several lines together: the first such store."""
+        """The first store of another member whose line the task's filter reports because several lines set its bits."""
         if self.rule.kind is not FilterKind.BLOOM:
             return None
         told = self.rule.filter_of(taken.accesses)
@@ -208,7 +209,7 @@ class Cascade:
         return None
 
     def is_told_jointly(self, taken: TakenTask, other: Access) -> bool:
-        """Whether the filter of a task tells the line of an access by bits of several lines together."""
+        """Whether a task's filter reports the line of an access because several lines set its bits."""
         return self.rule.kind is FilterKind.BLOOM and self.rule.filter_of(taken.accesses).meets(
             self.rule.line_of(other), other.is_store)
 

@@ -1,8 +1,8 @@
-"""What the second program tells by `counts`: the head, lines of counts, and the end. docs/guest/FORMATS.md has the
-fields.
+"""The text that `fractal_watch` prints for `counts`: the head, lines of counts, and the end. docs/guest/FORMATS.md has
+the fields.
 
-`CountsText` reads such a text line by line. A number that stopped at its greatest is refused where it is asked for as a
-number, since no sum may be made of it.
+`CountsText` reads it line by line. A number that stopped at its maximum can't be summed, so asking for it as a number
+is refused.
 """
 from __future__ import annotations
 
@@ -88,7 +88,7 @@ class CountsText:
                 raise Refusal(f"{self.name}:{self.number}: {wrong}.") from None
 
     def close(self, line: Line) -> None:
-        """Takes the last line, which is held against the last counts."""
+        """Takes the last line, and checks it against the last counts."""
         if "end" not in line or self.last is None:
             raise WrongLine("behind the counts comes the end, and nothing else")
         if (line["n"], line["journal"]) != (self.last["counts"], self.last["made"]["commit"]):

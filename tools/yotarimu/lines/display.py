@@ -19,7 +19,7 @@ WIDTH = 14
 
 
 class Display:
-    """What stands behind an act: the machine, the act's line with what it did, the journal and the output so far."""
+    """The state after an act: the machine, the act's line with what it did, the journal and the output so far."""
 
     def __init__(self, machine: Machine, told: Optional[ToldLine], entries: Sequence[str], output: bytes,
                  listing: Listing) -> None:

@@ -1,7 +1,7 @@
-"""The lines in which the second program tells a run: which fields each has, in which order, and of which kind.
+"""The fields of each line of the event log, with their order and kinds.
 
-docs/guest/FORMATS.md has the table. A line whose numbers are all made 0 says which fields it has, and of which kinds
-they are. Such skeletons are remembered, and a line with one that is known isn't looked at field by field.
+docs/guest/FORMATS.md has the table. If all numbers of a line are set to 0, what remains says which fields it has and of
+which kinds. Such skeletons are remembered, so that a line with a known one isn't checked field by field.
 """
 from __future__ import annotations
 
@@ -41,7 +41,7 @@ class WrongLine(Exception):
 
 
 def is_number(value: object) -> bool:
-    """Whether a value is a number that the second program may write."""
+    """Whether a value is a number that `fractal_watch` may write."""
     return isinstance(value, int) and not isinstance(value, bool) and 0 <= value < 10 ** MOST_DIGITS
 
 
@@ -141,13 +141,13 @@ def end_fields(line: Line) -> Fields:
 
 
 def word_of(line: Line, name: str) -> str:
-    """The word that a field tells; none where it isn't there, or tells no word."""
+    """The string in a field; empty if the field is missing or isn't a string."""
     value = line.get(name)
     return value if isinstance(value, str) else ""
 
 
 def leg_fields(line: Line) -> Fields:
-    """The fields that tell the leg of a step; none where it has none."""
+    """The fields of a step's leg; empty if it has none."""
     if line["do"] != "step" or "leg" not in line:
         return ()
     asks = word_of(line, "asks")
@@ -161,7 +161,7 @@ def replies_of(line: Line) -> tuple[str, ...]:
 
 
 def change_fields(line: Line) -> Fields:
-    """The fields that tell what an act changed; none where it made no event."""
+    """The fields for what an act changed; empty if it made no event."""
     if line.get("reply") != "ok" or line["do"] not in EVENTS:
         return ()
     return (*MOVED, *OWN.get(word_of(line, "asks") if line["do"] == "step" else line["do"], ()))
@@ -251,7 +251,7 @@ class Shapes:
 
 
 def need_shape(text: str, line: object) -> None:
-    """Refuses a line whose fields or whose text aren't as the second program writes them."""
+    """Refuses a line whose fields or text aren't as `fractal_watch` writes them."""
     if not isinstance(line, dict):
         raise WrongLine("it isn't an object of JSON")
     need_fields(line)

@@ -1,10 +1,10 @@
-"""Events that are foreseen: what their lines say, letter for letter, before they are taken apart.
+"""Events that are foreseen: the exact text of a line is predicted, so that the line needn't be parsed.
 
-Little of an event has to be told. The machine knows how many there were, where a task runs and what it is called, the
-image's text where a leg stops and what is asked for there, and the memory what stands in the data. So the few numbers
-that nothing else says are picked out of a line. One that is written letter for letter as it is foreseen has these
-fields and no others, so it isn't taken apart, and what was foreseen isn't held against the machine once more. Other
-lines are taken apart: those that are wrong, and those that tell more.
+Little of an event is news. The machine has the number of events, where a task runs and its id, the image has the text
+where a leg stops and what is requested there, and the memory has the data. So only the few numbers that nothing else
+determines are picked out of a line. A line that is exactly as predicted has these fields and no others, so it is
+neither parsed nor checked against the machine once more. All other lines are parsed: wrong ones, and those that say
+more.
 """
 from __future__ import annotations
 
@@ -25,8 +25,8 @@ class OtherLine(Exception):
 
 
 def form_of(word: str, asks: str = "") -> str:
-    """What the line of an event tells behind its act, with a place for each number and for the word of a child's
-    domain; of a step by what it asks for. No task is aborted or spilled, and no output is told."""
+    """The text of an event's line after its act's number, with a place for each number and for the domain of a child;
+    for a step, by what it requests. It is that of an event that aborts and spills no task, and prints no output."""
     words = {"do": word, "asks": asks, "to": "%s", "reply": "ok"}
     parts = []
     for field, kind in act_fields({**words, "leg": 0} if asks else words)[1:]:
@@ -54,12 +54,12 @@ def number_in(text: str) -> int:
 
 
 class Foresight:
-    """Follows the events of a machine, by the legs of its image. A way to follow one raises OtherLine, with nothing
-    done, where its line is another than the foreseen one.
+    """Follows the events of a machine, using the legs of its image. Each method raises OtherLine, with nothing changed,
+    if the line isn't the predicted one.
 
-    What `Machine.act` holds of a line holds of these too. Their text has the right number of events, a task, a tile and
-    a core that are there, and nothing that is forced; a leg keeps to quantum and budget, as its core does. All else is
-    done by the machine's own methods, which refuse what can't be."""
+    What `Machine.act` checks of a line is true of these as well. Their text has the right number of events, an existing
+    task, tile and core, and nothing that is forced; a leg keeps to quantum and budget, as its core does. The rest is
+    done by the machine's own methods, which refuse what is impossible."""
 
     def __init__(self, machine: Machine, legs: Legs) -> None:
         self.machine, self.legs = machine, legs
@@ -89,7 +89,7 @@ class Foresight:
         return None
 
     def task_in(self, field: str, state: str) -> Task:
-        """The task that a field tells, which has to be in a state."""
+        """The task that a field names; it has to be in the given state."""
         task = self.machine.tasks.get(number_in(field[len('"task":'):]))
         if task is None or task.state is not state:
             raise OtherLine
@@ -133,13 +133,13 @@ class Foresight:
         core.go_on(0)
 
     def step_at(self, stop: Stop) -> str:
-        """What a step tells behind its task where a leg stops so."""
+        """The text of a step's line after its task, if the leg stops so."""
         leg, pc, asks = stop
         self.steps[stop] = STEPS[asks].replace("%d", str(leg), 1).replace("%d", str(pc), 1)
         return self.steps[stop]
 
     def child_in(self, text: str) -> dict[str, int]:
-        """What the end of a line alone tells of a child: its id, and where it goes."""
+        """What only the end of a line says about a child: its id, and its tile."""
         _, new, into = text.rsplit(",", 2)
         return {"new": number_in(new[len('"new":'):]), "in": number_in(into[len('"in":'):-len("}")])}
 

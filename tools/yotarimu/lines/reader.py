@@ -1,14 +1,14 @@
-"""A run that the second program told, read line by line, while the machine of the lines follows.
+"""Reads an event log line by line, while a model of the machine follows.
 
-`open_lines` opens a text, and a `Reader` reads it. Each turn of its loop is a line behind the head, after the machine
-has done what it tells:
+`open_lines` opens a log, and a `Reader` reads it. Each turn of its loop is a line after the head, once the machine has
+done what it says:
 
     with open_lines("lines") as watched:
-        for told in watched:
-            told.number, told.line           # the line's number in the text, and its fields by name
-            told.task, told.taken, ...       # what it did, as objects
-            watched.machine                  # as it stands behind it
-    watched.head, watched.end                # the first and the last line's fields; the end is None in a cut text
+        for entry in watched:
+            entry.number, entry.line         # the line's number in the log, and its fields by name
+            entry.task, entry.taken, ...     # what it did, as objects
+            watched.machine                  # the machine after it
+    watched.head, watched.end                # the fields of the first and the last line; the end is None in a cut log
 
 A line that can't follow is refused by its number.
 """
@@ -58,7 +58,7 @@ class Reader:
         self.foresight = foresight_of(self.machine)
 
     def read_head(self) -> Line:
-        """Reads the first line, which tells of which machine the others are; refuses what can't be one."""
+        """Reads the first line, which describes the machine; refuses an invalid one."""
         text = next(self.texts, None)
         if text is None:
             raise Refusal(f"{self.name}: it has no whole line, so it isn't an event log.")
@@ -110,7 +110,7 @@ class Reader:
 
     @contextlib.contextmanager
     def place_told(self) -> Iterator[None]:
-        """Tells what is wrong with the line that was read last, with its number."""
+        """Adds the number of the line that was read last to what is wrong with it."""
         try:
             yield
         except WrongLine as wrong:
@@ -136,7 +136,7 @@ def need_head(head: Line) -> None:
 
 @contextlib.contextmanager
 def open_lines(path: FilePath, is_cut_allowed: bool = False, image: Optional[Image] = None) -> Iterator[Reader]:
-    """Opens a text that the second program told; `-` is standard input."""
+    """Opens an event log; `-` is standard input."""
     if str(path) != "-":
         with open(path, "rb") as file:
             yield Reader(file, path, is_cut_allowed, image)

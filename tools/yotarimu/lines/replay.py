@@ -1,9 +1,8 @@
-"""The machine as the second program's lines leave it, made of the lines alone.
+"""The machine after each line of an event log, built from the log alone.
 
-`lines.reader` hands each line to `Machine.follow`. What is kept doesn't grow with the text: the uncommitted tasks, the
-bytes of memory that were touched, and nothing of a task once it has left. Each line is
-held against the machine. One that can't follow is refused: a task that isn't there, work or a name that isn't what
-counting gives.
+`lines.reader` hands each line to `Machine.follow`. Its memory doesn't grow with the log: it keeps the uncommitted tasks
+and the bytes of data that were accessed, and nothing of a task that has left. Each line is checked against the machine,
+and refused if it can't follow: because a task doesn't exist, or a count or a name isn't the one expected.
 """
 from __future__ import annotations
 
@@ -186,7 +185,7 @@ class ToldLine:
         return self.fields
 
     def is_act(self) -> bool:
-        """Whether it tells an act; other lines tell where a task was placed, or a view of the machine."""
+        """Whether it is the line of an act; others place a task or have a view of the machine."""
         return "reply" in self.line
 
 
@@ -274,12 +273,12 @@ class Machine:
         return task
 
     def need_place(self, line: Line) -> None:
-        """Refuses a tile or a core that isn't there."""
+        """Refuses a tile or a core that doesn't exist."""
         self.need_tile(line)
         need_below(line.get("core", 0), self.head["cores"], "a core")
 
     def need_tile(self, line: Line) -> int:
-        """The tile that a line tells; refuses one that the machine hasn't."""
+        """The tile of a line; refuses one that the machine doesn't have."""
         tile: int = line["tile"]
         need_below(tile, self.head["tiles"], "a tile")
         return tile
@@ -287,7 +286,7 @@ class Machine:
     # Lines.
 
     def follow(self, told: ToldLine) -> None:
-        """Does what a line tells."""
+        """Does what a line says."""
         line = told.line
         if "reply" in line:
             self.act(told, line)
@@ -299,7 +298,7 @@ class Machine:
             self.legs.note(told)
 
     def place(self, told: ToldLine, line: Line) -> None:
-        """A task of the image stands in a queue, or in a block."""
+        """Places a task of the image in a queue, or in a block."""
         if self.acts or line["at"] or line["name"][0] or self.placed == self.head["tasks"]:
             raise WrongLine("no task of the image is placed here")
         if line["hint"] != line["name"][1]:
@@ -314,7 +313,7 @@ class Machine:
             self.arrive(task, task.id)
 
     def act(self, told: ToldLine, line: Line) -> None:
-        """Follows an act: what it tells is held against the machine, and is made."""
+        """Follows an act: checks its line against the machine, and carries it out."""
         self.count_act(told, line["at"])
         word, reply = line["do"], line["reply"]
         make = MADE.get(word) if reply == "ok" else None
@@ -415,7 +414,7 @@ class Machine:
         return bool(self.blocks[tile]) and len(self.queues[tile]) == self.head["task_queue"]
 
     def count_act(self, told: ToldLine, at: int) -> None:
-        """Holds the number of an act against those before it."""
+        """Checks the number of an act against those before it."""
         if self.acts == 0:
             self.need_opening()
         is_next = at == self.acts + 1 if self.rounds is None else at > self.acts
@@ -445,7 +444,7 @@ class Machine:
             told.spilled = [self.spill_by_name(*row) for row in line["spilled"]]
 
     def take_back(self, told: ToldLine, line: Line) -> None:
-        """Takes the tasks back that a line tells, and undoes what they stored."""
+        """Aborts the tasks that a line lists, and rolls back their stores."""
         if line.get("asks", line["do"]) not in TAKING_BACK:
             raise WrongLine("such an act aborts no task")
         gone, back = set(line.get("gone", ())), {row[0] for row in line["back"]}
@@ -465,7 +464,7 @@ class Machine:
         told.gone = [taken.task for taken in told.taken if taken.is_gone]
 
     def taken_of(self, number: int, work: int, is_gone: bool) -> TakenTask:
-        """What a task that is aborted was and had done; refuses a line that tells other work."""
+        """What an aborted task was and had done; refuses a line with another count of its work."""
         task = self.task_at(number)
         if task.work != work:
             raise WrongLine(f"task {number} executed {task.work} instructions, and not {work}")
@@ -484,7 +483,7 @@ class Machine:
         return task
 
     def spill(self, task: Task, tile: int, name: Pair) -> None:
-        """A task stands in a block, by its name."""
+        """Puts a task into a block, by its name."""
         task.name = name
         if name in self.blocks[tile]:
             raise WrongLine(f"task {task.told_name()} is in that block already")
@@ -514,7 +513,7 @@ class Machine:
         self.running += 1
 
     def step(self, told: ToldLine, line: Line) -> None:
-        """Follows a step, of a task that runs where it is told."""
+        """Follows a step, of a task on the core that the line names."""
         task, asks = told.task, line.get("asks")
         if asks is None or task is None or task.state is not RUNNING:
             raise WrongLine("no task runs that takes this leg")
@@ -538,7 +537,7 @@ class Machine:
             make(self, told, task, line)
 
     def load_or_store(self, told: ToldLine, task: Task, line: Line) -> None:
-        """Follows an access. A load makes the bytes known that stand there, a store those that it leaves."""
+        """Follows an access. A load makes the bytes at its address known, a store those that it writes."""
         address, count, old = line["addr"], line["bytes"], line["old"]
         self.need_data(address, count)
         self.memory.meet(address, count, old)
@@ -608,7 +607,7 @@ class Machine:
         self.arrive(task, line["new"])
 
     def commit(self, told: ToldLine, line: Line) -> None:
-        """Follows the commit of a finished task, whose name, place and output are held against the line."""
+        """Follows the commit of a finished task, and checks its name, place and output against the line."""
         task = told.committed = told.task
         if task is None or task.state is not FINISHED:
             raise WrongLine("it commits no finished task")
@@ -640,7 +639,7 @@ class Machine:
     # The whole.
 
     def compare(self, line: Line) -> None:
-        """Holds a view against the machine."""
+        """Checks a view against the machine."""
         if line["next"] != self.numbers.next:
             raise WrongLine(f"the next dispatch number is {self.numbers.next}, and {line['next']} is printed")
         if line["view"] != self.events or len(line["tiles"]) != self.head["tiles"]:
@@ -653,7 +652,7 @@ class Machine:
                 raise WrongLine(f"in tile {tile} the view isn't what the lines before it leave")
 
     def close(self, line: Line) -> None:
-        """Holds the last line against the machine."""
+        """Checks the last line against the machine."""
         self.need_end(line)
         if (line["n"], line["journal"]) != (self.events, self.commits):
             raise WrongLine(f"it says {line['n']} events and {line['journal']} commits, and {self.events} and "
@@ -669,7 +668,7 @@ class Machine:
         memory.need_window(self.head["window"][0], line["window"])
 
     def need_end(self, line: Line) -> None:
-        """Holds how a run ended against what is left."""
+        """Checks how a run ended against the tasks that are left."""
         end, left = line["end"], len(self.tasks) + self.spilled
         if (end == "normal") != (left == 0):
             raise WrongLine(f"the end is {end}, and {left} tasks are left")
@@ -700,13 +699,13 @@ REQUESTS: dict[str, Callable[[Machine, ToldLine, Task, Line], None]] = {
 
 
 def need_below(number: int, count: int, what: str) -> None:
-    """Refuses a line that tells a number which the machine hasn't."""
+    """Refuses a number in a line that the machine doesn't have."""
     if number >= count:
         raise WrongLine(f"{number} is {what} that the machine hasn't")
 
 
 def id_of(task: Task) -> int:
-    """The id of a task that stands in a queue."""
+    """The id of a task in a queue."""
     if task.id is None:
         raise WrongLine("a task of a block is in no queue")
     return task.id

@@ -54,7 +54,7 @@ class Rounds:
         self.begun_rounds = 0
 
     def need(self, line: Dict[str, Any]) -> None:
-        """Holds an act that is told against the one that is there."""
+        """Checks the line of an act against the rounds."""
         if self.is_advanced:
             self.end_advance()
         while not self.is_advancing and line["at"] >= self.first + len(self.acts):
@@ -69,8 +69,8 @@ class Rounds:
         self.next, self.passed, self.is_commit_passed = line["at"] + 1, 0, False
 
     def pass_over(self, end: int) -> None:
-        """Holds that none of the acts up to a number was asked for. Between two that are told nothing changes, so it is
-        enough to look at one round of them."""
+        """Checks that none of the acts up to a number was due, as they are missing from the log. Between two logged
+        acts nothing changes, so it is enough to look at one round of them."""
         for number in range(self.next, end):
             act = self.acts[number - self.first]
             if self.passed < len(self.acts):
@@ -114,7 +114,7 @@ class Rounds:
         return [] if self.is_advancing else self.acts[self.next - self.first:]
 
     def need_act(self, line: Dict[str, Any]) -> None:
-        """Holds an act against the one that is at its place in the round."""
+        """Checks an act against the one at its place in the round."""
         if self.number >= self.count:
             raise WrongLine(f"act {line['at']} is of no round, as there are {self.count}")
         act: Act = self.acts[line["at"] - self.first]
@@ -125,7 +125,7 @@ class Rounds:
             raise WrongLine(f"act {line['at']} commits, and so would have one before it that isn't printed")
 
     def need_advance(self, line: Dict[str, Any]) -> None:
-        """Holds an act against those that advance the least task."""
+        """Checks an act against those that advance the least task."""
         if line["at"] != self.first or line["do"] not in ADVANCES:
             raise WrongLine(f"act {self.first} advances the least task, and another one is printed")
         self.first, self.advances = self.first + 1, self.advances + 1

@@ -1,8 +1,8 @@
-"""What a line of the second program says, in a sentence: docs/guest/FORMATS.md has the lines.
+"""Explains a line of the event log in a sentence. docs/guest/FORMATS.md has the lines.
 
-A sentence is made of a line that was read, with what it did, and of the machine behind it, as `lines.reader` gives
-them. A listing gives labels to addresses. Until the creator of a task commits, the task has a label in place of a name:
-`0.1+2` is child 2 of 0.1, counted from 0.
+A sentence is made from a line, with what it did, and from the machine after it, as `lines.reader` gives them. A listing
+gives labels to addresses. Until its creator commits, a task has a label in place of a name: `0.1+2` is child 2 of 0.1,
+counted from 0.
 """
 from __future__ import annotations
 
@@ -33,7 +33,8 @@ Naming = Callable[[ToldLine, Machine, Listing, Optional[Limits]], Values]
 
 def sentence_of(told: ToldLine, machine: Machine, listing: Listing = NO_LISTING,
                 limits: Optional[Limits] = None) -> str:
-    """What an act's line says, by the machine behind it; `limits` are those of the image's version, if known."""
+    """What an act did, in a sentence; `machine` is the machine after it, and `limits` are those of the image's version,
+    if known."""
     if told.line["reply"] != "ok":
         return refused_told(told, machine)
     word = told.line["do"]
@@ -98,7 +99,7 @@ def its(found: Optional[Thing]) -> Thing:
 
 
 def of_its_task(told: ToldLine, _machine: Machine, _listing: Listing, _limits: Optional[Limits]) -> Values:
-    """What is filled in of an act that tells its task alone."""
+    """The values to fill in for an act that names only its task."""
     return {"task": label_of(its(told.task))}
 
 
@@ -242,7 +243,7 @@ def spilled_told(told: ToldLine) -> str:
 
 
 def refused_told(told: ToldLine, machine: Machine) -> str:
-    """What an act was to do that came to nothing, and why."""
+    """What a refused act was to do, and why it didn't."""
     return fill(SENTENCES["refused"], wish=wish_told(told), reply=told.line["reply"], why=why_refused(told, machine))
 
 

@@ -1,4 +1,4 @@
-"""All tasks that a run took back, each with why: as text for people, and as rows for other programs."""
+"""All tasks that a run aborted, each with its cause: as text for people, and as rows for other programs."""
 from __future__ import annotations
 
 import collections
@@ -24,8 +24,8 @@ KINDS = {Kind.ACCESS: "met by the access itself", Kind.CHILD: "child of one of t
 
 @dataclasses.dataclass(frozen=True)
 class TakenRow:
-    """A task that an event took back, and why. `shares` is what it shares with what took it, `root` the word of the
-    event behind it all, and `root_shares` what the way there shares at its widest."""
+    """A task that an event aborted, and why. `shares` is what it shares with its direct cause, `root` the term for the
+    root cause, and `root_shares` the most that a link of the chain to the root shares."""
     event: int
     task: str
     label: str
@@ -42,7 +42,7 @@ class TakenRow:
 
 
 class Run:
-    """The tasks that a run took back, from its lines."""
+    """The tasks that a run aborted, from its event log."""
 
     def __init__(self, path: str, image: Image, listing: Listing) -> None:
         # The rows come first, as the end is noted once all of them were read.
@@ -54,7 +54,7 @@ class Run:
 
 
 def taken_rows(path: str, image: Image, listing: Listing, run: Run) -> Iterator[TakenRow]:
-    """The rows of all tasks that a text of lines takes back, in its order; the run is told how it ended."""
+    """The rows of all tasks that are aborted in an event log, in its order; sets the end of the run."""
     with open_lines(path, image=image) as watched:
         rule = rule_of(watched.head)
         sentences = CauseSentences(label_of, rule, listing)
@@ -79,7 +79,7 @@ def row_of(cause: Cause, event: int, sentences: CauseSentences) -> TakenRow:
 
 
 def text_of(run: Run) -> List[str]:
-    """What is told to people."""
+    """The text for people."""
     count = len(run.found)
     if not count:
         return [f"{run.path}: no task was aborted, and {run.end['journal']:,} committed.", "", run.unconfirmed]
