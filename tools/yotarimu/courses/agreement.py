@@ -1,5 +1,5 @@
-"""Schedules that the second program tells: with the replies, the journal's length and the end of the first one, and
-line by line as was worked out by hand where a schedule's folder has such lines."""
+"""Checks the event logs of schedules against the replies, the length of the journal and the end that `fractal_sim`
+prints, and line by line against what was worked out by hand, if a schedule's folder has that."""
 from __future__ import annotations
 
 import itertools
@@ -24,7 +24,7 @@ STEPS = "steps"
 
 
 def replies_said(said: str, name: str) -> list[tuple[str, int]]:
-    """The reply to each act, and how many tasks it took back, of what `steps` wrote before its report."""
+    """The reply to each act, and how many tasks it aborted, in what `steps` wrote before its report."""
     pairs = [line.split() for line in said.partition("fractal 1\n")[0].splitlines()]
     try:
         return [("ok" if reply in MADE else reply, int(count)) for reply, count in pairs]
@@ -33,7 +33,7 @@ def replies_said(said: str, name: str) -> list[tuple[str, int]]:
 
 
 def lines_in(told: bytes) -> Optional[list[Line]]:
-    """What each line of a text tells; None where there is none, or one that isn't an object in JSON."""
+    """The lines of an event log; None if there are none, or if one isn't a JSON object."""
     try:
         lines = [json.loads(line) for line in told.splitlines()]
     except (ValueError, RecursionError):
@@ -42,7 +42,7 @@ def lines_in(told: bytes) -> Optional[list[Line]]:
 
 
 def replies_told(lines: Iterable[Line]) -> list[tuple[str, int]]:
-    """The same of the second program's lines."""
+    """The reply to each act, and how many tasks it aborted, in an event log."""
     return [(line["reply"], line.get("aborted", 0)) for line in lines if "reply" in line]
 
 
@@ -59,8 +59,8 @@ def worked_fault(folder: pathlib.Path, told: bytes) -> Optional[str]:
 
 
 def retold_fault(calls: Calls, name: str) -> Optional[str]:
-    """What is wrong with what the second program tells of a schedule; None where it agrees with the first one, and with
-    what was worked out by hand."""
+    """What is wrong with the event log of a schedule; None if it agrees with `fractal_sim`, and with what was worked
+    out by hand."""
     folder = EXAMPLES_FOLDER / name
     said = read_text(folder / "said")
     words, given = watched_words_of(name), (folder / "image.bin").read_bytes()

@@ -1,4 +1,4 @@
-"""A console: acts are typed, and each is played and told; words beside them take acts back, save them, or show them."""
+"""A console: plays each act that is typed and shows the result; commands undo acts, save them, or show them."""
 from __future__ import annotations
 
 import io
@@ -50,7 +50,7 @@ class Console:
         return self.performance.acts
 
     def follow(self, typed: Iterable[str]) -> None:
-        """Answers each line that is typed; a line that can't be done is told, and nothing has changed."""
+        """Answers each line that is typed. For one that can't be done it prints why, and changes nothing."""
         for line in typed:
             words = line.partition("#")[0].split()
             if not words:
@@ -79,25 +79,25 @@ class Console:
         self.add([act])
 
     def add(self, acts: Sequence[str]) -> None:
-        """Plays further acts, and tells what they did."""
+        """Plays further acts, and shows what they did."""
         self.tell(self.schedule.play([*self.acts, *acts], len(self.acts)))
 
     def tell(self, performance: Performance) -> None:
-        """Tells what acts came to, which are the console's from then on."""
+        """Shows the result of acts, which are the console's from then on."""
         self.performance, self.is_saved = performance, not performance.acts
         write([*performance.text_lines(), ""])
 
     # ---- words of the console
 
     def undo(self, words: Sequence[str]) -> None:
-        """Takes the last act back, or as many as are told."""
+        """Undoes the last act, or as many as are given."""
         count = number_behind("undo", words, len(self.acts), 1) if self.acts else 0
         if not count:
             raise Refusal("no act is left to undo.")
         self.tell(self.schedule.play(self.acts[:-count]))
 
     def run(self, words: Sequence[str]) -> None:
-        """Brings the least task on so many times, or up to the end of the run."""
+        """Advances the least task so many times, or up to the end of the run."""
         count = number_behind("run", words, MOST_RUN, None)
         before = len(self.acts)
         performance = self.schedule.play([*self.acts, *["advance"] * count], before)
@@ -109,7 +109,7 @@ class Console:
         self.tell(performance)
 
     def show(self, words: Sequence[str]) -> None:
-        """Tells the machine once more."""
+        """Shows the machine once more."""
         need_none("show", words)
         write([*self.schedule.play(self.acts).text_lines(), ""])
 
@@ -123,13 +123,13 @@ class Console:
                                                                 len(tasks) == 2 else []), ""])
 
     def script(self, words: Sequence[str]) -> None:
-        """Tells all acts with their replies."""
+        """Lists all acts with their replies."""
         need_none("script", words)
         write(f"{number:>5}  {act:<14}  {reply}"
               for number, (act, reply) in enumerate(zip(self.acts, self.performance.replies), 1))
 
     def save(self, words: Sequence[str]) -> None:
-        """Writes the acts to a file that isn't there yet."""
+        """Writes the acts to a new file."""
         path = file_behind("save", words)
         if pathlib.Path(path).exists():
             raise Refusal(f"{path}: this is there already; `save! {path}` replaces it.")
@@ -140,14 +140,14 @@ class Console:
         self.write_script(file_behind("save!", words))
 
     def write_script(self, path: str) -> None:
-        """Writes the acts to a file, and tells how they are played."""
+        """Writes the acts to a file, and prints the command that plays them."""
         need_outputs([path], [self.schedule.path])
         write_whole({path: "".join(f"{act}\n" for act in self.acts).encode()})
         self.is_saved, self.name = True, name_of(pathlib.Path(path))
         write([f"{path} has {count_text(len(self.acts), 'act')}; this plays them:", self.call_told(path)])
 
     def call_told(self, path: str) -> str:
-        """The words that play a script; an option of `watch` alone wants the second program."""
+        """The command that plays a script; an option of `watch` alone needs `fractal_watch`."""
         script, image = shlex.quote(path), shlex.quote(str(self.schedule.path))
         options = "".join(f" {word}" for word in option_words(self.schedule.options))
         if self.schedule.is_of_both:
@@ -169,7 +169,7 @@ class Console:
         write([f"The page is {path}; a browser shows this act at {path.resolve().as_uri()}#{len(self.acts)}"])
 
     def help(self, words: Sequence[str]) -> None:
-        """Tells the acts, and the words of the console."""
+        """Lists the acts, and the commands of the console."""
         need_none("help", words)
         acts = ", ".join(map(form_of, ACTS))
         write([f"Acts, with a tile T and a core C: {acts}.", "", self.usage])
@@ -191,7 +191,7 @@ def write(lines: Iterable[str]) -> None:
 
 
 def number_behind(word: str, words: Sequence[str], most: int, default: Optional[int]) -> int:
-    """The number that stands behind a word, or the one that holds where none does."""
+    """The number given with a command, or the default."""
     if not words and default is not None:
         return default
     if len(words) != 1:
@@ -234,7 +234,7 @@ def new_page() -> pathlib.Path:
 
 
 def need_page(path: pathlib.Path) -> None:
-    """Refuses a file that is there and isn't a page, which the reader would miss."""
+    """Refuses an existing file that isn't a page, since it would be lost."""
     if path.is_file():
         with open(path, "rb") as file:
             if file.read(len(PAGE_START)) not in (PAGE_START, b""):

@@ -75,7 +75,7 @@ class Shard:
 
 
 def shard_of(text: Optional[str]) -> Shard:
-    """The shard that K/N means; the whole where nothing is told."""
+    """The shard that K/N means; the whole by default."""
     if text is None:
         return Shard()
     part, slash, count = text.partition("/")

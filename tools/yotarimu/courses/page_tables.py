@@ -1,7 +1,7 @@
-"""A page whose tables are made again by the commands that stand before them.
+"""Remakes the tables of a page by the commands above them.
 
-A block of code whose lines all call tools by `./fractal` is called, line by line, in a folder of its own; `> FILE` at
-the end of a line writes a file there. What the lines tell otherwise is the table, which stands in the page behind them.
+A block of code whose lines all call tools by `./fractal` is run, line by line, in a folder of its own; `> FILE` at the
+end of a line writes a file there. What the other lines print is the table, which follows the block in the page.
 """
 from __future__ import annotations
 
@@ -24,7 +24,7 @@ NAMING_CELLS = 3
 
 
 class Table(NamedTuple):
-    """A table that was made again: its first line of the page, the one behind it, and its rows."""
+    """A table that was remade: its first line in the page, the line after it, and its rows."""
     first: int
     end: int
     rows: list[str]
@@ -62,7 +62,7 @@ class Page:
         return None
 
     def differs_from(self, table: Table) -> bool:
-        """Whether a table stands in the page otherwise than it was made now."""
+        """Whether a table in the page differs from the one that was made now."""
         return self.lines[table.first:table.end] != table.rows
 
     def differences(self, table: Table) -> Iterator[str]:
@@ -110,7 +110,7 @@ def words_of(line: str) -> list[str]:
 
 
 def call_line(line: str, folder: pathlib.Path) -> list[str]:
-    """What a line tells, unless it writes that to a file."""
+    """What a command prints, unless it writes that to a file."""
     words = words_of(line)
     name = None
     if len(words) > 2 and words[-2] == INTO:
@@ -136,7 +136,7 @@ def told_lines(line: str, data: bytes) -> list[str]:
 
 
 def make_tables(page: Page, folder: pathlib.Path) -> list[Table]:
-    """Each table of a page as its commands tell it, from the last one to the first."""
+    """Each table of a page as its commands print it, from the last one to the first."""
     tables: list[Table] = []
     for first, end in page.blocks():
         told = [text for line in page.lines[first:end] for text in call_line(line, folder)]

@@ -1,4 +1,4 @@
-"""An answer that says why tasks were aborted, held against the lines of the second program."""
+"""An answer that says why tasks were aborted, checked against the event log."""
 from __future__ import annotations
 
 import io
@@ -23,7 +23,7 @@ SHARED = {Sharing.TRUE: "byte", Sharing.LINE: "line", Sharing.ALIAS: "bit"}
 
 
 class Reason(NamedTuple):
-    """Why an act took a task back: a word, and the task that it goes back to, or a dash where none asked."""
+    """Why an act aborted a task: a term, and the task that caused it, or a dash if none did."""
     act: str
     task: str
     word: str

@@ -120,7 +120,7 @@ class BarPicture:
 
 
 def label_of(name: str, row: Mapping[str, str]) -> str:
-    """What tells a row apart by a column: the image's name, or an option with its value."""
+    """How a column distinguishes a row: the image's name, or an option with its value."""
     if name in INPUTS:
         return row[name].removesuffix(".bin").removesuffix("/image")
     return f"{name} {row[name]}"

@@ -61,7 +61,7 @@ class Study:
                 raise told
 
     def row(self, choice: Choice, tell: Tell) -> Row:
-        """What comes of a choice. How many rounds were played is told now and then."""
+        """The row of a choice. Reports now and then how many rounds were played."""
         words = lockstep_words(self.rounds, choice)
         if self.is_counted:
             words = ["counts", "every", str(ROUNDS_BETWEEN), *words]
@@ -76,7 +76,7 @@ class Study:
         return row_of_figures(end, figures, COUNTED if self.is_counted else COLUMNS)
 
     def figures(self, file: BinaryIO, tell: Tell) -> Figures:
-        """The figures of a run as it is told; acts or rounds are told as they come."""
+        """The figures of a run, made while its log is read. Reports acts or rounds now and then."""
         if self.is_counted:
             return figures_of_counts(CountsText(file, "fractal_watch"), tell)
         watched = Reader(file, "fractal_watch")

@@ -32,7 +32,7 @@ class Choice:
     options: Mapping[str, Value]
 
     def key(self, **others: Value) -> tuple[object, ...]:
-        """What tells it apart, with other values of some options."""
+        """What distinguishes it from others, with other values of some options."""
         return self.image, *{**self.options, **others}.items()
 
 

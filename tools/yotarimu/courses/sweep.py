@@ -60,7 +60,7 @@ class Runner(Calls):
 
 
 def result_of(written: bytes) -> Result:
-    """What a report tells: how many commits, and digests of the output and of the window; nothing of other texts."""
+    """The result in a report: how many commits, and digests of the output and of the window; empty for other texts."""
     found = REPORT.search(written)
     if not found:
         return {"commits": "", "output": "", "window": ""}
@@ -114,8 +114,8 @@ def sweep_rows(request: Request, table: Table) -> Iterator[list[object]]:
 
 
 def written_rows(request: Request, table: Table) -> list[dict[str, str]]:
-    """Runs all, writes each row as it comes, or all to a file in the end, and gives them back. Where the file can't be
-    written, or the sweep is ended early, the rows that are there go to standard output."""
+    """Runs all, and returns the rows. Each is written as it is made, or all to a file in the end. If the file can't be
+    written, or the sweep is ended early, the rows made so far go to standard output."""
     text = io.StringIO()
     rows: list[dict[str, str]] = []
     file = text if request.output else sys.stdout
