@@ -13,12 +13,11 @@ from yotarimu.reports.report import Name
 
 
 class Attempt:
-    """A task from one dispatch on, up to its commit or until it is aborted: a thread. `which` counts those of a
-    task.
+    """A task from one dispatch until it commits or is aborted: a thread. `which` counts the attempts at a task.
 
-    `stretches` has its stretches by their numbers, and `counts` how many instructions are executed behind each.
-    `loaded` has what its loads found, by which it can be run once more without the memory. From the position `gone` on
-    it isn't there: it commits as a `turn`, or is aborted for a `cause` by an `event`."""
+    `stretches` has the numbers of its stretches, and `counts` how many instructions are executed by the end of each.
+    `loaded` has what its loads found, so that it can be run once more without the memory. From the position `gone` on
+    it no longer exists: it commits as a `turn`, or is aborted for a `cause` by an `event`."""
 
     def __init__(self, number: int, task: Task, which: int, born: Position) -> None:
         self.number, self.task, self.which, self.born = number, task, which, born
@@ -37,7 +36,7 @@ class Attempt:
         return self.task.timestamp if self.task.domain.kinds[-1] else 0
 
     def note(self, stretch: int, executed: int) -> int:
-        """It goes on by a stretch, behind which so many instructions are executed; how many were before."""
+        """Adds a stretch, by whose end so many instructions are executed; returns how many were executed before it."""
         before = self.counts[-1] if self.counts else 0
         self.counts.append(executed)
         self.stretches.append(stretch)
@@ -75,7 +74,7 @@ class AttemptCore(Core):
         self.attempt, self.taken = attempt, 0
 
     def load(self, kind: int, address: int) -> int:
-        """Loads of data find what the lines tell; those of text and stack are carried out."""
+        """Loads of data find what the event log has; those of text and stack are carried out."""
         if not DATA <= address < STACK:
             return super().load(kind, address)
         value, width = self.attempt.loaded[self.taken], 1 << (kind & 3)
@@ -84,11 +83,12 @@ class AttemptCore(Core):
         return value if kind & 4 else machine.signed_number(value, 8 * width)
 
     def store(self, width: int, address: int, value: int) -> None:
-        """Stores to data are told and not made, as the memory follows the lines; those to the stack are made."""
+        """Stores to data are noted and not made, because the memory follows the event log; those to the stack are
+        made."""
         if not DATA <= address < STACK:
             super().store(width, address, value)
         self.touched = Touch(True, address, width)
 
     def call(self) -> None:
-        """What a call does beside, the lines tell."""
+        """Does nothing else for a call, because its effects are in the event log."""
         self.is_over = self.registers[machine.CALL] == 0

@@ -42,7 +42,7 @@ def find_gdb(named: Optional[str]) -> str:
 
 @contextlib.contextmanager
 def interrupts_passed() -> Iterator[None]:
-    """An interrupt at the terminal is gdb's, which tells it over the connection."""
+    """Leaves interrupts at the terminal to gdb, which reports them over the connection."""
     before = signal.signal(signal.SIGINT, passed_over)
     try:
         yield

@@ -1,7 +1,7 @@
-"""The first way through the second program's lines, on which it is noted what each leg did.
+"""The first reading of the event log, which notes what each leg did.
 
-The reader holds each leg against the image: where it stops, what it asks for, what it finds and what it stores. So what
-is gone along later is the run that the lines tell, act for act.
+The reader checks each leg against the image: where it stops, what it requests, what it finds and what it stores. So the
+run that is debugged later is that of the event log, act for act.
 """
 from __future__ import annotations
 
@@ -28,8 +28,8 @@ class Origin(NamedTuple):
 
 
 class LegNotes:
-    """What the lines tell, in the order of the legs: `stretches`, and of each the attempt that it is of (`owners`), how
-    many instructions of that were executed before it (`starts`), and its event (`events`)."""
+    """What the event log has, in the order of the legs: `stretches`, and for each its attempt (`owners`), how many
+    instructions of that attempt were executed before it (`starts`), and its event (`events`)."""
 
     def __init__(self, image: Image, path: str) -> None:
         self.memory = Memory(image)
@@ -90,7 +90,7 @@ class LegNotes:
         attempt.gone, attempt.turn = Position(len(self.stretches), 0), self.turns
 
     def leg(self, told: ToldLine, task: Task, asks: str) -> None:
-        """Notes a leg, what its event takes back, and then the access or the call at its end."""
+        """Notes a leg, the tasks that its event aborts, and then the access or the call at its end."""
         attempt, stores, number = self.running[task], self.memory.stores, len(self.stretches)
         first, start = len(stores), attempt.note(number, task.work)
         length, core = task.work - start, self.cores[task]

@@ -1,8 +1,8 @@
-"""The track of the second program's lines: each leg as it was made, of each attempt, also of those that are taken
-back.
+"""The track of an event log: each leg of each attempt in the order they were executed, including attempts that are
+aborted.
 
-A thread is an attempt. The memory at a position is that of the machine, with the stores of tasks that haven't
-committed, and of those that never will.
+A thread is an attempt. The memory at a position is that of the machine, with the stores of all uncommitted tasks, also
+of those that will be aborted.
 """
 from __future__ import annotations
 
@@ -214,8 +214,8 @@ class LinesTrack(Track):
                 f"depth {task.depth}  {self.listing.task_words(task.entry, task.arguments)}")
 
     def attempt_named(self, word: Optional[str]) -> Attempt:
-        """The attempt of a thread's number, of a task's name (the last one), or of NAME#N; the one that runs where
-        none is told."""
+        """The attempt with a thread's number, a task's name (its last attempt), or NAME#N; by default the one that
+        runs."""
         if word is None:
             return self.owner
         if word.isdigit() and 1 <= int(word) <= len(self.attempts):
@@ -307,7 +307,7 @@ class LinesTrack(Track):
         return Position(stretch, min(done, max(self.stretches[stretch].length - 1, 0)))
 
     def at_event(self, word: str, event: int) -> Position:
-        """The last instruction of the first leg that is handed in by this event or behind it."""
+        """The last instruction of the first leg whose event is this one or a later one."""
         stretch = bisect.bisect_left(self.notes.events, event)
         if stretch == len(self.stretches):
             raise Refusal(f"{word}: no leg is handed in by this event or after it.")
@@ -323,7 +323,7 @@ class LinesTrack(Track):
         return [*more, *rows] or [f"no store touches {self.listing.address_text(address)}"]
 
     def write_told(self, at: int) -> str:
-        """A store of a leg, or one that is undone before the leg's own or behind it."""
+        """Describes a store: that of a leg, or one that undoes another."""
         stretch = bisect.bisect_right(self.notes.firsts, at) - 1
         access, event = self.notes.accesses.get(at), f"event {self.notes.events[stretch]:>6}"
         if access is None:
