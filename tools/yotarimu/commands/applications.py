@@ -1,5 +1,5 @@
-"""Makes the programs of the folder applications/ with their input, runs them, and holds what they leave against plain
-programs.
+"""Makes the programs of the folder applications/ with their input, runs them, and compares what they leave with the
+results of plain programs.
 
 usage: ./fractal applications list
        ./fractal applications make NAME [FOLDER] [--size SIZE] [--seed N] [--clang]
@@ -60,7 +60,7 @@ def main(words: Sequence[str]) -> Optional[int]:
 
 
 def list_all(words: list[str]) -> None:
-    """Tells each application with its sizes."""
+    """Lists each application with its sizes."""
     if words:
         raise Refusal("`list` takes no further words.")
     rows = [(it.name, it.size_told, f"{it.size_range[0]:,} to {it.size_range[-1]:,}",
@@ -113,7 +113,7 @@ def check_all(words: list[str]) -> None:
 
 
 def table_of_all(words: list[str]) -> Optional[int]:
-    """Plays each application in lockstep, and tells its figures: a study of images that are named as they are."""
+    """Plays each application in lockstep, and prints its figures: a study whose images have the applications' names."""
     asked = read_words(words)
     path, rest = take_option(asked.rest, "--csv")
     if "," in asked.size or len(asked.compilers) > 1 or any(word.startswith("--plot") for word in rest):

@@ -17,10 +17,10 @@ assembler or linker is ended after 120 seconds of a processor, 300 seconds, or a
 
 Comments of the sources describe the image; in C they begin with //:
 
-    # image: root ordered           or unordered; ordered unless told
+    # image: root ordered           or unordered; by default ordered
     # image: data BYTES             the data size; else that of the sections of data
-    # image: data LABEL FILE        what stands from a label on: bytes, or numbers where the name ends in .csv
-    # image: window LABEL [WORDS]   the words that the report tells, else none; a variable of C knows its size
+    # image: data LABEL FILE        the data from a label on: bytes, or numbers if the name ends in .csv
+    # image: window LABEL [WORDS]   the words in the report, else none; a variable of C has a size
     # image: task LABEL [ts N] [args A [B [C]]]
     # image: tasks FILE             a row for each task, as docs/guest/SOURCES.md says
     # image: version 1              or 2; 2 where a compiler made a source, else 1

@@ -1,10 +1,10 @@
-"""Runs an image under many settings, and holds what each run leaves against the serial run, or against expected bytes.
+"""Runs an image under many settings, and compares what each run leaves with the serial run, or with expected bytes.
 
 usage: ./fractal compare IMAGE [--runs N] [--seed N] [--parts LIST] [--OPTION VALUES]... [FURTHER]...
 
 A program whose tasks have all the order that they need leaves the same memory and output, and ends in the same way,
-under each setting. N runs are made (64 unless told), of four kinds in turn, and the first that differs is told: where,
-who stored to it last in both runs, and the turn at which their orders part. The status is 1 then.
+under each setting. N runs are made, of four kinds in turn, and the first that differs is reported: where, which tasks
+stored there last in both runs, and the turn at which their orders part. The status is 1 then.
 
   serial      in another order of the tasks with equal timestamps: that of creation, the reverse, or shuffled
   lockstep    rounds shuffled by a seed, with a filter and options, as ./fractal watch lockstep makes them

@@ -2,27 +2,27 @@
 
 usage: ./fractal console IMAGE [--script FILE] [--OPTION VALUE]...
 
-IMAGE may be a folder that has an image.bin; then the options that its file words has hold too. The options are those of
+IMAGE may be a folder that has an image.bin; then the options in its file words are set too. The options are those of
 fractal_watch. A listing beside the image gives labels to addresses.
 
   --script FILE  begins with the acts of a script
 
 Each line of the input is an act of a script, as in docs/guest/FORMATS.md, or one of these. `#` begins a comment.
 
-  undo [N]     takes the last N acts back; 1 unless given
-  run N        does N acts `advance`, each the event for the least task, or fewer where the run ends
+  undo [N]     undoes the last N acts (default 1)
+  run N        does N acts `advance`, each the event for the least task, or fewer if the run ends
   show         shows the machine once more
   order A B    says which of two tasks comes first, and why, by their labels
   script       lists the acts so far, with their replies
-  save FILE    writes the acts so far as a script, to a file that isn't there yet
-  save! FILE   the same, and replaces a file that is there
-  open [FILE]  writes the page that shows all acts, and tells its path; a FILE that is there has to be a page
-  help         tells these words and the acts
+  save FILE    writes the acts so far as a script, to a new file
+  save! FILE   the same, and replaces an existing file
+  open [FILE]  writes the page that shows all acts, and prints its path; an existing FILE must be a page
+  help         lists these commands and the acts
   quit         leaves; also the end of the input
 
 A task without a name yet has a label: `0.1+2` is child 2 of 0.1. `>` marks the task and the word of the last act. Each
-act is played by `./fractal watch steps`, from the start. A line that can't be done is told and changes nothing; where
-the input isn't a terminal, the status is then 1.
+act is played by `./fractal watch steps`, from the start. A line that can't be done is reported and changes nothing; the
+status is then 1, unless the input is a terminal.
 """
 from __future__ import annotations
 

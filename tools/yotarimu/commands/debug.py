@@ -1,12 +1,12 @@
-"""Goes along a run with gdb, forth and back: breakpoints, steps, variables, watchpoints, tasks as threads.
+"""Debugs a run with gdb, forwards and backwards: breakpoints, steps, variables, watchpoints, tasks as threads.
 
 usage: ./fractal debug IMAGE [REPORT | LINES] [--gdb PROGRAM | --port N | --pipe] [--elf FILE]
                        [--gcc PATH] [--clang PATH]
 
-LINES is what `./fractal watch` told: each dispatch is a thread, those too that are aborted, and each leg is held
-against its line. REPORT is what `run` or `steps` wrote: the tasks run whole, in its order. Where none is named, the
-image is run by `./fractal watch least`. The sources beside the image are made anew, with what gdb wants, and refused
-where they make another image.
+LINES is an event log of `./fractal watch`: each dispatch is a thread, also of tasks that are aborted, and each leg is
+checked against its line. REPORT is what `run` or `steps` wrote: the tasks run whole, in its order. If neither is named,
+the image is run by `./fractal watch least`. The sources beside the image are compiled again, with what gdb needs, and
+refused if they make another image.
 
   --gdb PROGRAM      starts this gdb, in place of gdb-multiarch or riscv64-unknown-elf-gdb
   --port N           waits for a gdb at this port of this machine; 0 takes a free one, and prints it (0 to 65,535)
@@ -15,8 +15,8 @@ where they make another image.
   --gcc PATH         the compiler that made the image, if it isn't the one in the path
   --clang PATH       the same for clang
 
-Beside gdb's own words, `goto 3.1` goes to a task's start and `goto e17` to an event, `writes distance[3]` tells all
-stores to a word, and `monitor help` what else may be asked.
+Besides gdb's own commands, `goto 3.1` goes to a task's start and `goto e17` to an event, `writes distance[3]` lists all
+stores to a word, and `monitor help` the other commands.
 """
 from __future__ import annotations
 
@@ -76,7 +76,7 @@ def track_of(image: Image, path: str, listing: Listing) -> Track:
 
 
 def track_of_run(image: Image, path: str, listing: Listing) -> Track:
-    """The track of the image's run, brought on for the least task."""
+    """The track of the image's run, in which the least task is advanced."""
     status, lines = calls_at(which=SECOND).call(["least"], read_bytes(path))
     if not lines:
         raise Refusal(why_no_answer(status))

@@ -8,7 +8,7 @@ check mark if it commits, red with slanted lines if it is aborted; a thin bar be
 waits to commit. An arrow goes from the access to each task that it aborts, dashed to those aborted along with these.
 Each bar shows its task in words when pointed at. The page draws the same picture.
 
-  --by AXIS          what the axis counts; rounds for lockstep, acts otherwise, unless given (rounds or acts)
+  --by AXIS          what the axis counts: rounds or acts (default rounds for lockstep, otherwise acts)
   --cut              draws a log that breaks off before its end; otherwise such a log is refused
 
     cat IMAGE SCRIPT | ./fractal watch steps --tiles 2 --cores 1 > lines

@@ -12,7 +12,7 @@ evaluation that was ended goes on with the shards that are missing, or that anot
 
   --size SIZE           the size of all inputs (small, medium or large; default small). Only for small ones is the
                         speed-up in instructions, because a run has at most 1,000,000 rounds
-  --seeds VALUES        seeds over which the spread is taken, as ./fractal study has them; 0..9 unless given
+  --seeds VALUES        seeds over which the spread is taken, as ./fractal study has them (default 0..9)
   --applications NAMES  only these applications, with commas between
   --jobs N              so many shards are made at once (1 to 1,024; default 1)
   --watch FILE          a built fractal_watch in place of the one that answers here

@@ -13,24 +13,23 @@ usage: ./fractal explain IMAGE REPORT [SOURCE] [--picture | --json | --csv | --r
   --sim FILE   a built fractal_sim in place of the one that answers here
 
 REPORT may be - for standard input; it may be what `steps` wrote, replies and all. SOURCE is a listing of
-./fractal build, a source, or the folder of the sources; where none is named the listing beside the image serves, if
-there is one. What isn't in the report is found by running its tasks again, with the registers of one that traps. A
-report of another image is refused; ./fractal check judges whether one is a run's.
+./fractal build, a source, or the folder of the sources; by default it is the listing beside the image, if there is one.
+What isn't in the report is found by running its tasks again, with the registers of one that traps. A report of another
+image is refused; ./fractal check judges whether one is a run's.
 
---poison changes nothing: it lists each instruction that reads a register
-or a word of the stack before the task wrote it, and each access that leaves the label its address started from. Saving
-a register in the stack isn't a read, and an argument counts for the child that reads it. The hint of a child, addresses
-that were loaded from data, and those that instructions alone make aren't checked. The status is 1 if something was
-found. A listing gives the labels and source lines.
+--poison changes nothing: it lists each instruction that reads a register or a word of the stack before the task wrote
+it, and each access that leaves the label its address started from. Saving a register in the stack isn't a read, and an
+argument counts for the child that reads it. The hint of a child, addresses that were loaded from data, and those that
+instructions alone make aren't checked. The status is 1 if something was found. A listing gives the labels and source
+lines.
 
-With --task it lists what one task asked for: loads and stores of the data,
-children, a subdomain, bytes, and its trap. The built program makes the run again by the OPTIONs, which are those of
-`run` that the report comes from, and saves it as near before the task as it can; only the turns from there on are run
-again here. Where no program answers here, or it makes another run or can't save it, all turns before the
-task are, and that is told.
+With --task it lists what one task did: loads and stores of the data, children, a subdomain, bytes, and its trap. The
+built program makes the run again with the OPTIONs, which must be those of the `run` that wrote the report, and saves it
+as shortly before the task as it can; only the turns from there on are run again here. If no program answers here, or
+it makes another run or can't save it, all turns before the task are run again, and a remark says so.
 
-LINES is what `./fractal watch` told; of these it tells each task that was aborted, and why: the access or the need
-of room behind it, and what both share.
+LINES is an event log of `./fractal watch`; for each task that was aborted it prints the cause: the access or the need
+of room, and what both share.
 """
 from __future__ import annotations
 
@@ -173,7 +172,7 @@ def need_same_run(report: Report, machine: Machine, of: str) -> None:
 
 
 def begins_as_lines(path: str) -> bool:
-    """Whether a file is what the second program told; standard input is a report."""
+    """Whether a file is an event log; standard input is a report."""
     if path == "-":
         return False
     with open(path, "rb") as file:

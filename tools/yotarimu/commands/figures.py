@@ -74,7 +74,7 @@ def read_request(given: GivenWords) -> Request:
 
 
 def read_runs(request: Request) -> dict[str, Figures]:
-    """The figures of each text; a terminal is told how long reading took."""
+    """The figures of each event log. Prints on a terminal how long reading took."""
     start = time.monotonic()
     image = None if request.image is None else read_image(read_bytes(request.image), request.image)
     runs = {name: read_figures(name, image) for name in request.names}

@@ -5,11 +5,11 @@ usage: ./fractal study IMAGE... [--OPTION VALUES]... [WORDS]
        ./fractal study --join CSV... [--csv FILE] [--columns NAMES] [--plot COLUMN,OPTION,FILE] [--bars FILE]
        ./fractal study --page PAGE [--write]
 
-OPTION is one of the second program's, as `./fractal help watch` lists them, or one of
+OPTION is one of `fractal_watch`, as `./fractal help watch` lists them, or one of
 
   --seed VALUES              seeds that shuffle the acts of each round; 0, the default, shuffles nothing. With several
                              seeds a line has the mean and the sample standard deviation
-  --starved VALUES           starved rounds after which the least task is advanced by force; 16 unless given
+  --starved VALUES           starved rounds after which the least task is advanced by force (default 16)
 
 VALUES are numbers with commas between, or FROM..TO, or FROM..TO..STEP; of --filter they are words with commas between.
 The table has a line for each image and each choice of one value for each option, which is printed as soon as it is
@@ -18,18 +18,18 @@ known. Each choice is played by `./fractal watch lockstep`. Further words:
   --machines LIST            TILESxCORES with commas between, such as 1x1,1x4,4x4,16x4, in place of --tiles and --cores
   --time UNIT                what takes a round: `rounds`, a step of each core, which is the default; or `instructions`,
                              one instruction of each core, which is the same as --quantum 1
-  --rounds N                 at most so many rounds; 1,000,000 unless given
+  --rounds N                 at most so many rounds (default 1,000,000)
   --columns NAMES            columns of the table, with commas between
   --counts                   reads counts instead of the event log, for columns that need no more
   --csv FILE                 all columns as CSV, a row for each run. If the study is ended early, FILE has the rows that
                              were known by then. With --counts the columns that need the log are empty
-  --jobs N                   so many choices are played at once, in processes; 1 unless given
+  --jobs N                   so many choices are played at once, in processes (default 1)
   --shard K/N                only each N-th choice, from the K-th on
   --plot COLUMN,OPTION,FILE  a plot of a column against an option, or against all-cores; a line for each choice of the
                              rest, with error bars of one standard deviation over seeds. FILE ends in .svg or, if
                              rsvg-convert is installed, in .pdf. Of several images each has a panel of its own
   --bars FILE                stacked bars of where core time went, a bar for each choice
-  --log AXES                 the plot's axes that are logarithmic: x, y or xy; none unless given
+  --log AXES                 the plot's axes that are logarithmic: x, y or xy (default none)
   --watch FILE               a built fractal_watch in place of the one that answers here
   --join                     joins the CSV of shards 1 to N, given in this order, or takes that of a whole study
 
@@ -104,7 +104,7 @@ def need_paths(words: Sequence[str], what: str) -> list[str]:
 
 
 def number_of(seen: Mapping[str, Optional[str]], name: str, least: int, most: int, default: int) -> int:
-    """The number of an option within its range, or what it is unless given."""
+    """The number of an option within its range, or its default."""
     text = seen[name]
     return default if text is None else need_number(f"--{name}", text, least, most)
 

@@ -64,7 +64,7 @@ def compare(path: pathlib.Path) -> int:
 
 
 def hold(count: int) -> int:
-    """Holds the modules against the built programs, and says what came of it; the status is 1 where they differ."""
+    """Compares the modules with the built programs, and prints the result; the status is 1 if they differ."""
     outcome = compare_all(count, SEED)
     for kind, times in outcome.counts.items():
         print(f"{times:,} calls: {kind}")

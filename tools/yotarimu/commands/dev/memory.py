@@ -12,9 +12,9 @@ meets its commit limit: where it can save the run, and where it can't. `stack` r
   --all       all of them, which takes a minute or more
   --sim FILE  a built fractal_sim in place of this clone's
 
-A line for each name says how many runs gave the whole answer, how many ended with status 5, and how many never came to
-answer: they weren't started, by the system or by its loader, or a signal ended them. A thread that can't be started
-shows nowhere, since the caller does its work. The status is 1 if a run answered anything else, or if status 5 never
+A line for each name says how many runs gave the whole answer, how many ended with status 5, and how many never
+answered: they weren't started, by the system or by its loader, or a signal ended them. A thread that can't be started
+shows nowhere, since its caller does its work. The status is 1 if a run answered anything else, or if status 5 never
 came. It needs Linux.
 """
 from __future__ import annotations
