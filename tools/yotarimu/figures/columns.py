@@ -157,7 +157,7 @@ class Reach(NamedTuple):
 
 
 def wasted_share(it: Figures) -> float:
-    """How many of a hundred executed instructions were wasted; 0 where none were executed."""
+    """Wasted instructions in percent of all that were executed; 0 if none were."""
     return 100 * it.taken_back.all_wasted() / it.executed if it.executed else 0.0
 
 
@@ -227,7 +227,7 @@ UNLESS_TOLD = ("rounds", "acts", "round", "thousand", "dispatches", "taken", "ac
 
 @dataclasses.dataclass
 class Row:
-    """What came of a choice: how its run ended, and its numbers by the names of columns, if it has any."""
+    """The result of a choice: how its run ended, and its numbers by the names of columns, if it has any."""
     end: str
     numbers: dict[str, Plain] = dataclasses.field(default_factory=dict)
 

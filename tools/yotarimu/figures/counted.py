@@ -18,7 +18,7 @@ STALLS = {"task_queue": "step, for a task queue", "commit_queue": "step, for the
 
 
 def figures_of_counts(watched: CountsText, progress: Optional[Callable[[int], None]] = None) -> Figures:
-    """The figures of a text of counts, read to its end. How many rounds ended is told with each line of counts."""
+    """The figures of a text of counts, read to its end. Each line of counts reports how many rounds ended."""
     for line in watched:
         if progress is not None:
             progress(number_of(line, "run", "rounds"))

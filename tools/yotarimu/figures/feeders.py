@@ -1,4 +1,4 @@
-"""Chains of feeders: tasks that do nothing but make others, each of which makes the next."""
+"""Chains of spawners: tasks that only enqueue others, each of which enqueues the next."""
 from __future__ import annotations
 
 from collections.abc import Hashable
@@ -11,13 +11,13 @@ FEWEST = 8
 
 
 class Chain(NamedTuple):
-    """So many feeders, one after another, and their instructions."""
+    """The number of spawners in a chain, and their instructions."""
     tasks: int
     instructions: int
 
 
 class Feeders:
-    """The longest chain of feeders of a run."""
+    """The longest chain of spawners of a run."""
 
     def __init__(self) -> None:
         # The chain that ends with the creator of a child that hasn't committed.
@@ -36,7 +36,7 @@ class Feeders:
 
 
 def sentence(longest: Chain, limits: list[Limit]) -> Optional[str]:
-    """What is told where a chain of feeders is most of the longest way by whole tasks."""
+    """What to report if a chain of spawners is most of the critical path at task granularity."""
     time = next((limit.time for limit in limits
                  if (limit.manner, limit.unit, limit.window) == (Manner.WHOLE, Unit.INSTRUCTION, UNBOUNDED)), 0)
     if longest.tasks < FEWEST or 2 * longest.instructions <= time:

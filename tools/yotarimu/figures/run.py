@@ -1,4 +1,4 @@
-"""A run that the second program told, in figures: docs/machine/FIGURES.md says what each is."""
+"""The figures of a run, from its event log: docs/machine/FIGURES.md defines each."""
 from __future__ import annotations
 
 import collections
@@ -58,7 +58,7 @@ class Figures:
         self.unconfirmed: list[str] = []
 
     def rounds(self) -> Optional[int]:
-        """How many rounds of a course in lockstep were begun; None of another course."""
+        """How many rounds were begun in lockstep; None in another mode."""
         if not self.is_in_rounds:
             return None
         # A run that stays open had all its rounds. Acts that weren't asked for aren't told, so the lines may miss the
@@ -88,7 +88,7 @@ class RunSums:
         self.trapped: set[Task] = set()
 
     def note(self, told: ToldLine, machine: Machine) -> None:
-        """Takes a line, and the machine behind it."""
+        """Takes a line, and the machine after it."""
         line, it = told.line, self.figures
         if not told.is_act():
             if line.get("do") == "place":
@@ -145,7 +145,7 @@ class RunSums:
             self.figures.tasks.note_access(task, told.access)
 
     def note_taken(self, told: ToldLine) -> None:
-        """Notes the tasks that an event took back."""
+        """Notes the tasks that an event aborted."""
         it = self.figures
         it.taken_back.note(told, it.core_time.note_abort)
         it.occupancy.count("aborted", len(told.taken))
@@ -155,7 +155,7 @@ class RunSums:
             self.trapped.discard(taken.task)
 
     def note_commit(self, task: Task) -> None:
-        """Notes a commit: its work, and what limits and feeders have of it."""
+        """Notes a commit: its work, and what the limits and the chains of spawners need of it."""
         it = self.figures
         it.useful += task.work
         it.core_time.rounds[Use.COMMITTED] += task.steps
@@ -217,7 +217,7 @@ def need_possible(it: Figures) -> None:
 
 
 def committed_task(task: Task, cells: Cells) -> CommittedTask:
-    """A task that committed, as limits are told of it."""
+    """A committed task, in the form that the limits take."""
     before = len(cells.split)
     points = points_of(task, cells)
     if len(cells.split) > before:
@@ -248,7 +248,7 @@ def no_search_for_cycles() -> Iterator[None]:
 
 
 def figures_of(watched: Reader, progress: Optional[Progress] = None) -> Figures:
-    """The figures of a run, from its whole text. How many acts were read is told now and then."""
+    """The figures of a run, from its whole log. Reports now and then how many acts were read."""
     summing = RunSums(watched.head)
     if watched.machine.rounds is not None:
         watched.machine.rounds.note_passed = functools.partial(summing.figures.core_time.note_passed, watched.machine)
@@ -264,6 +264,6 @@ def figures_of(watched: Reader, progress: Optional[Progress] = None) -> Figures:
 
 
 def read_figures(path: str, image: Optional[Image] = None) -> Figures:
-    """The figures of a text of lines; with an image each leg is held against it."""
+    """The figures of an event log; with an image each leg is checked against it."""
     with open_lines(path, image=image) as watched:
         return figures_of(watched)

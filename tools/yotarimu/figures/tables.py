@@ -91,7 +91,7 @@ def most_of(counts: Mapping[Any, int]) -> list[tuple[Any, int]]:
 
 
 def places(it: Figures, listing: Listing = NO_LISTING) -> list[str]:
-    """Where loads and stores took tasks back: the lines and the addresses where most were, with their labels."""
+    """Where loads and stores aborted tasks: the lines and the addresses with most of them, with their labels."""
     lines = [[with_label(f"{line:,}", DATA + line * it.head["line"], listing), count_cell(count)]
              for line, count in most_of(it.taken_back.lines)]
     addresses = [[with_label(f"{address:08x}", address, listing), count_cell(count)]
