@@ -1,7 +1,7 @@
-"""Runs the tasks of a report again, in its order, to know what the report doesn't tell: where each task enters.
+"""Runs the tasks of a report again, in its order, to learn what isn't in the report: where each task enters.
 
-This isn't a second judge: `./fractal check` says whether a report is that of a run. Here is the plain reading of RV32I
-(RISC-V Unprivileged ISA 20191213, chapter 2), and of the six calls and the traps of docs/guest/TASKS.md.
+This doesn't judge: `./fractal check` says whether a report is that of a run. It follows RV32I (RISC-V Unprivileged ISA
+20191213, chapter 2), and the six calls and the traps of docs/guest/TASKS.md.
 """
 from __future__ import annotations
 
@@ -62,7 +62,7 @@ class Task:
     turn: int = 0
 
     def is_told_by(self, entry: Entry) -> bool:
-        """Whether a line of a report tells the task's depth and timestamp."""
+        """Whether an entry of a report has the task's depth and timestamp."""
         return (self.domain.depth, self.timestamp) == (entry.depth, entry.timestamp)
 
 
@@ -113,7 +113,7 @@ class Machine:
         return task.domain is domain and task.timestamp == domain.pending[0]
 
     def task_of(self, entry: Entry) -> Optional[Task]:
-        """The task that an entry tells, which may take the next turn; None where no such task."""
+        """The task of an entry, if it may take the next turn; else None."""
         task = self.tasks.get(entry.name)
         if task is None or task.turn or not self.is_next(task) or not task.is_told_by(entry):
             return None
@@ -213,7 +213,7 @@ class Run:
         return (STACK, self.stack) if address >= STACK else (DATA, self.machine.memory)
 
     def call(self) -> None:
-        """Makes the call that the registers tell; raises TaskTrap where it traps."""
+        """Makes the call that the registers ask for; raises TaskTrap if it traps."""
         number, registers = self.registers[CALL], self.registers
         if number == 0:
             self.is_over = True
@@ -346,7 +346,7 @@ def stop(_run: Run) -> None:
 
 
 def call(run: Run) -> None:
-    """Makes the call that the registers tell."""
+    """Makes the call that the registers ask for."""
     run.call()
     run.pc += 4
 
@@ -435,7 +435,7 @@ def upper(instruction: Instruction) -> Operation:
 
 
 def jump(instruction: Instruction) -> Operation:
-    """What JAL does, and JALR, which goes by a register in place of the address of the instruction."""
+    """What JAL does, and JALR, which adds to a register in place of the address of the instruction."""
     opcode, target, first, _, _, offset, _ = instruction
     is_far = opcode == JALR
 
@@ -464,7 +464,7 @@ OPERATIONS: dict[int, Callable[[Instruction], Operation]] = {
 
 
 def arithmetic(kind: int, is_other: bool) -> Callable[[int, int], int]:
-    """What a register instruction computes, or one with an immediate, up to the bits of a register; `is_other` tells
+    """What a register instruction computes, or one with an immediate, up to the bits of a register; `is_other` selects
     SUB and SRA."""
     return OTHERS[kind] if is_other and kind in OTHERS else ARITHMETIC[kind]
 

@@ -125,7 +125,7 @@ class Assembly:
         return [label for label in self.labels if label.name == name]
 
     def is_entry_of_c(self, address: int) -> bool:
-        """Whether the instructions stand here that TASK makes of a task of C."""
+        """Whether the instructions at an address are those that TASK makes for a task of C."""
         place = address - TEXT
         return (self.text[place:place + 1] == bytes([CALL_OPCODE])
                 and self.text[place + 4:place + ENTRY_BYTES] == END_CALL)
@@ -171,7 +171,7 @@ def tool_prefix() -> str:
 
 
 def run_tool(words: Sequence[str], folder: str, sources: Sequence[Source]) -> str:
-    """Runs a tool; what it complains of is told with the sources' paths for the objects' names."""
+    """Runs a tool. Its complaints are reported with the sources' paths in place of the objects' names."""
     done = run_bounded(words, folder)
     bound = f"takes longer than {MOST_SECONDS} seconds" if done is None else done.met_bound()
     if done is None or bound is not None:
@@ -257,7 +257,7 @@ def assemble(sources: Sequence[Source], how: Compilers = Compilers()) -> Assembl
 
 
 def tell_entries(assembled: Assembly, sources: Sequence[Source]) -> None:
-    """Gives the instructions of each entry that TASK made the line of that TASK, which no compiler tells."""
+    """Gives the instructions of each entry that TASK made the line of that TASK, since no compiler does."""
     for label in assembled.tasks_of_c():
         lines = ((source.name, number) for source in sources if source.is_c
                  for number, text in enumerate(source.lines, 1)
@@ -335,9 +335,8 @@ def refuse_other_instructions(assembled: Assembly) -> None:
 
 
 def linker_script(contents: Sequence[Sequence[str]], has_libraries: bool) -> str:
-    """Where each section of each object goes: those of one source after those of the one before, at multiples of 4.
-
-    What comes of libraries stands after all sources."""
+    """Where each section of each object goes: those of one source after those of the one before, at multiples of 4, and
+    those of libraries after all sources."""
     def placed(output: str) -> str:
         inputs = [f". = ALIGN(4); {number}.o({section_pattern(name)})" for place in PLACES[output]
                   for number, names in enumerate(contents) for name in names if is_part(name, place)]
@@ -358,9 +357,9 @@ def section_pattern(name: str) -> str:
 
 
 def instructions_in(listed: str) -> dict[int, Instruction]:
-    """The instructions of a disassembly by address, with the source line that stands above each.
+    """The instructions of a disassembly by address, with the source line that precedes each.
 
-    Where a function of the library stands in place of its call, the line is that of the call."""
+    For an inlined function of the library, the line is that of the call."""
     instructions, own, callers = {}, ("", 0), []
     for text in listed.splitlines():
         if found := re.fullmatch(r"inlined by (.+):(\d+) \(.*\)", text):
