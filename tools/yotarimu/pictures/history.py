@@ -25,7 +25,8 @@ DIRECT = (Kind.ACCESS, Kind.ABORT, Kind.ROOM)
 
 @dataclasses.dataclass
 class Arrival:
-    """How a task came to a task queue: the tile, the act, the attempt that created it, and how often it was tried."""
+    """How a task entered a task queue: the tile, the act, the attempt that created it, and how often it was
+    dispatched."""
     tile: int
     start: int
     parent: Optional[Attempt] = None

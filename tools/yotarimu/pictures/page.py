@@ -1,7 +1,7 @@
-"""A page that shows a run act by act: lines of the second program, a sentence for each, and the machine before them.
+"""A page that shows a run act by act: the event log, a sentence for each line, and the machine before it.
 
-The page replays the lines in the browser, from the machine as it stands where the page begins. Its parts stand in
-`web/page`, where the page with the machine inside has them from too.
+The page replays the log in the browser, from the state of the machine where the page begins. Its parts are in
+`web/page`, which the page with the programs inside uses too.
 """
 from __future__ import annotations
 
@@ -37,7 +37,7 @@ class Totals:
         self.entries: collections.deque[list[object]] = collections.deque(maxlen=MOST_ENTRIES)
 
     def follow(self, told: ToldLine) -> None:
-        """Counts what a line tells."""
+        """Counts what a line reports."""
         self.wasted += sum(taken.work for taken in told.taken)
         if told.committed is not None:
             line = told.line
@@ -58,7 +58,7 @@ class Excerpt:
         self.sentences: list[str] = []
 
     def follow(self, told: ToldLine, machine: Machine, listing: Listing) -> None:
-        """Takes a line that was read: it is passed, or the page begins behind it, or it is one of the page's acts."""
+        """Takes a line that was read: it is passed, or the page begins after it, or it is one of the page's acts."""
         if not told.is_act():
             if self.first == 0 and machine.placed == self.head["tasks"] and self.opening is None:
                 self.begin(machine, opening_told(self.head))
@@ -151,7 +151,7 @@ def read_rows(path: Optional[FilePath], head: Line) -> tuple[Listing, list[list[
 
 
 def row_address(line: str) -> Optional[int]:
-    """The address of a row of a listing; None where it tells no instruction."""
+    """The address of a row of a listing; None if it has no instruction."""
     found = re.match("([0-9a-f]{8})  [0-9a-f]{8}  ", line)
     return int(found[1], 16) if found else None
 
@@ -177,5 +177,5 @@ def page_of(path: FilePath, listing_path: Optional[FilePath], first: int = 0, la
 
 
 def in_page(text: str) -> str:
-    """A text as it stands in a page, in whatever encoding that is written."""
+    """A text as a page has it, in any encoding."""
     return html.escape(text).encode("ascii", "xmlcharrefreplace").decode()

@@ -1,7 +1,7 @@
 """Plots of points in series, as SVG that can be printed: one panel, or a panel for each of several names.
 
-Series differ by colour, mark and dashes, so that they can be told apart in grey too. Several points of a series at one
-place are drawn as their mean, with an error bar of one sample standard deviation.
+Series differ by colour, mark and dashes, so that they differ in grey too. Several points of a series at one place are
+drawn as their mean, with an error bar of one sample standard deviation.
 """
 from __future__ import annotations
 

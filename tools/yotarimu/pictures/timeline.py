@@ -151,7 +151,7 @@ class Picture:
         return f'fill="{INK[colour]}"'
 
     def ground(self) -> Iterator[str]:
-        """A band behind each second tile."""
+        """A stripe in the background of each second tile."""
         for tile in range(0, self.tiles, 2):
             yield box(0, self.y(tile * self.cores) - self.rows.gap / 2, self.width, self.rows.pitch * self.cores,
                       self.paint("band"))
