@@ -167,7 +167,7 @@ def of_scripts() -> Iterator[Case]:
 
 
 def of_ends() -> Iterator[Case]:
-    """Scripts after which the run is over: in a trap, and at its limit. `trace` tells no end."""
+    """Scripts after which the run is over: in a trap, and at its limit. `trace` prints no end."""
     hello, two = stored_file("hello"), stored_file("schedules/commit_queue")
     trap = "end trap 17 0001000c 0.0"
     yield answer("steps: to a trap", "steps --budget 3", hello + b"advance\nadvance\nadvance\n", 3,
@@ -218,8 +218,9 @@ def of_traces() -> Iterator[Case]:
 
 
 def of_placers() -> Iterator[Case]:
-    """A chain of four tasks beside a task in tile 0, each with the hint 3: the first stands in tile 1 by its place in
-    the image, and makes the second before any commit, that the third after one commit, and that the last after two."""
+    """A chain of four tasks beside a task in tile 0, each with the hint 3: the first is placed in tile 1 by its place
+    in the image, and makes the second before any commit, that the third after one commit, and that the last after
+    two."""
     text = b"".join(word.to_bytes(4, "little") for word in CHAIN)
     tasks = [InitialTask(TEXT, 100, (0, 0, 0)), InitialTask(TEXT, 0, (3, 0, 0))]
     chain = image_bytes(Image(True, text, b"", 0, 0, 0, tasks)) + b"advance\n" * 15

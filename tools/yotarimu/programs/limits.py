@@ -46,7 +46,7 @@ def answer(program: FilePath, words: Sequence[str], data: bytes, limit: Optional
 
 
 class Outcome(NamedTuple):
-    """What came of a call, None where that may not be, and its answer where the system could start it."""
+    """How a call ended, None if that is a fault, and its answer if the system could start it."""
     kind: Optional[str]
     said: Optional[Answer]
 
@@ -63,7 +63,7 @@ class Call:
         (self.status, self.written), self.answers = first, {first}
 
     def fall(self) -> Iterator[tuple[int, Outcome]]:
-        """Each limit, from an ample one to none, with what came of the call under it."""
+        """Each limit, from an ample one to none, with the outcome of the call under it."""
         least = self.least()
         step = max(PAGE, least // MOST_STEPS // PAGE * PAGE)
         # Stacks of threads take what is above the least, and then memory runs out while threads run.
@@ -87,7 +87,7 @@ class Call:
         return ample
 
     def outcome(self, limit: int, stack: int = STACK) -> Outcome:
-        """What came of the call under these limits."""
+        """The outcome of the call under these limits."""
         said = answer(self.program, self.words, self.data, limit, stack)
         if said is None or said == (NOT_LOADED, b""):
             return Outcome(NOT_STARTED, said)

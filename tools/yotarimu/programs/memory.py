@@ -62,7 +62,7 @@ def schedule_of(name: str, schedule: str) -> NamedCall:
 
 
 def fall_of(name: str, program: pathlib.Path) -> tuple[collections.Counter[Optional[str]], list[str]]:
-    """How many runs of a name's calls came to what, and what was wrong, a text each."""
+    """How many runs of a name's calls had each outcome, and what was wrong, a text each."""
     if name == "stack":
         return on_least_stack(program)
     counts: collections.Counter[Optional[str]] = collections.Counter()

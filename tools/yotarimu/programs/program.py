@@ -32,15 +32,15 @@ EMULATION = pathlib.Path("/proc/sys/fs/binfmt_misc/qemu-x86_64")
 
 
 class Answer(NamedTuple):
-    """What a call of a program came to: its status, and what it wrote."""
+    """The answer of a program to a call: its status, and what it wrote."""
     status: int
     written: bytes
 
 
 @dataclasses.dataclass(frozen=True)
 class Program:
-    """A program that answers: how it is called, what kind it is (proved, translation, unproved or named), the digest of
-    its bytes, the commit that it was built from, and what a person is told of it."""
+    """A program that answers: how it is called, its kind (proved, translation, unproved or named), the digest of its
+    bytes, the commit that it was built from, and a remark for the user."""
     command: Command
     kind: str
     digest: str
@@ -72,7 +72,7 @@ def answering_program(which: str = FIRST) -> Program:
 
 
 def need_launcher() -> None:
-    """Refuses where no clone or archive is, as where an installed package isn't told of one."""
+    """Refuses to go on without a clone or an archive, as when an installed package isn't given one."""
     if not LAUNCHER.is_file():
         raise Refusal(f"{HOME} has no programs; set YOTARIMU_HOME to a clone or an archive of the repository.")
 

@@ -1,4 +1,4 @@
-"""What the launcher's table tells of the program: commands, options and statuses; and what words it has itself."""
+"""The launcher's table: the programs' commands, options and statuses, and the launcher's own commands."""
 from __future__ import annotations
 
 import dataclasses
@@ -37,7 +37,7 @@ class Option:
         return value if value in self.values else None
 
     def need(self, text: str) -> Value:
-        """The value that a text is; else a refusal that tells which there are."""
+        """The value of a text; else a refusal that lists the possible ones."""
         value = self.value_in(text)
         if value is None:
             raise Refusal(f"--{self.name} takes {self.range_text()}, and not `{text}`.")
@@ -51,9 +51,9 @@ class Option:
 
 
 class Table:
-    """What the launcher's table tells: the program's commands, options and statuses, the kinds of generated images, the
-    second program's courses with all their options and the numbers among their words, the launcher's own words and
-    those of the tools, and which of all words belong together."""
+    """What the launcher's table has: the commands, options and statuses of `fractal_sim`, the kinds of generated
+    images, the modes of `fractal_watch` with all their options and the numbers among their arguments, the commands of
+    the launcher and of the tools, and which of all commands belong together."""
 
     def __init__(self) -> None:
         self.commands: dict[str, str] = {}
@@ -121,12 +121,13 @@ def option_in(name: str, values: str, default: str, purpose: str) -> Option:
 
 
 def size_of(name: str, options: Mapping[str, Value], table: Table) -> int:
-    """The number that an option has among those given, or unless given."""
+    """The number of an option, given or by default."""
     return int(options.get(name, table.options[name].default))
 
 
 def option_words(options: Mapping[str, Value]) -> list[str]:
-    """Options as words of a call, each value as a word of its own: those of `watch` alone stand in no other way."""
+    """Options as arguments of a call, each value as one of its own: this is the only form that the options of `watch`
+    take."""
     return [word for name, value in options.items() for word in (f"--{name}", str(value))]
 
 

@@ -1,7 +1,7 @@
-"""The serial machine as it stands before a turn of a report.
+"""The serial machine before a turn of a report.
 
-Where the built program can save the run a little before, only the turns from there on are run again; else all of them.
-A saved image tells no names, so its tasks are held against those that pend by the report.
+If the built program can save the run a little before, only the turns from there on are run again; else all of them. A
+saved image has no names, so its tasks are matched with those that are pending by the report.
 """
 from __future__ import annotations
 
@@ -24,7 +24,7 @@ TURNS_TOLD = 10_000
 
 
 class Reached(NamedTuple):
-    """The machine before a turn, the turn behind which it began, and why that is the start where it is."""
+    """The machine before a turn, the turn after which it began, and why it began there."""
     machine: Machine
     start: int
     why: str
@@ -38,9 +38,9 @@ class Pending(NamedTuple):
 
 @dataclasses.dataclass(frozen=True)
 class WrittenRun:
-    """An image as bytes and as read, and a report of a run of it as text and as read. The program's calls and options
-    are those by which the run is made again; where it is told why there isn't a program, all turns are run again. The
-    options have the budget too."""
+    """An image as bytes and as read, and a report of a run of it as text and as read. The run is made again by the
+    program's calls with the options; if `calls` is the reason why none is available, all turns are run again. The
+    options include the budget."""
     data: bytes
     image: Image
     text: str
@@ -73,7 +73,7 @@ class WrittenRun:
         return OneTask(run, len(report.entries), turns, way_text(start, turn, why))
 
     def need_end(self, run: AskingRun) -> None:
-        """Refuses a run of a task that ends otherwise than the report tells."""
+        """Refuses a run of a task that doesn't end as the report says."""
         found = None if run.trap is None else Trap(run.trap.cause, run.pc, run.task.name)
         if found != (self.report.trap if run.turn > len(self.report.entries) else None):
             raise Refusal(f"with these options the task {run.task.name} doesn't end as the report says; "
@@ -125,8 +125,8 @@ class WrittenRun:
 
 
 def pending_in(report: Report, turns: int, saved: Image) -> list[Pending]:
-    """The tasks that pend after so many turns, as far as a report tells, by their names. A task that traps after the
-    last of them is the least."""
+    """The tasks that are pending after so many turns, as far as a report has them, by their names. A task that traps
+    after the last of them is the least."""
     found = [Pending(entry.name, entry.timestamp) for entry in report.entries[turns:] if entry.name.creator <= turns]
     if report.trap is not None and turns == len(report.entries):
         found.append(Pending(report.trap.name, min(timestamps_in(saved), default=0)))
@@ -135,8 +135,8 @@ def pending_in(report: Report, turns: int, saved: Image) -> list[Pending]:
 
 def starts_before(entries: Sequence[Entry], turn: int) -> list[int]:
     """After how many turns below `turn` the run may be saved, by its report, the best first. The next task is of the
-    root domain, so that no subdomain is left, and not too many tasks pend. Of a task that traps the report doesn't tell
-    its domain."""
+    root domain, so that no subdomain is left, and not too many tasks are pending. For a task that traps the report has
+    no depth."""
     creators = sorted(entry.name.creator for entry in entries)
     made, start = 0, 0
     for count, entry in enumerate(entries[:turn]):
@@ -154,8 +154,8 @@ def timestamps_in(saved: Image) -> list[int]:
 
 
 def names_in(saved: Image, known: Sequence[Pending]) -> Optional[list[Name]]:
-    """The names of saved tasks, which stand in the order of their names. Some of them may never commit, so that the
-    report doesn't tell of them: these get names that no task has. None where it isn't sure which ones they are."""
+    """The names of saved tasks, which are in the order of their names. Some of them may never commit, so that they
+    aren't in the report: these get names that no task has. None if it isn't certain which ones they are."""
     timestamps, wanted = timestamps_in(saved), [it.timestamp for it in known]
     first, last = places_of(timestamps, wanted), places_of(timestamps[::-1], wanted[::-1])
     if first is None or last is None or [len(timestamps) - 1 - place for place in last[::-1]] != first:
@@ -180,7 +180,7 @@ def places_of(timestamps: Sequence[int], wanted: Sequence[int]) -> Optional[list
 
 
 def shown(entries: Sequence[Entry]) -> Iterator[Entry]:
-    """The entries; a terminal is told how many were taken."""
+    """The entries; a terminal shows how many were taken."""
     is_told = is_at_terminal() and len(entries) > TURNS_TOLD
     for first in range(0, len(entries), TURNS_TOLD):
         if is_told:
