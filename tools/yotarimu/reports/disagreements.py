@@ -1,5 +1,5 @@
-"""Why a line of a report is none of a run, though the grammar allows it: its turns are taken again, up to the one thing
-that speaks against it. `./fractal check` is the judge; this only tells a person what it found."""
+"""Why a line of a report can't be that of a run, though the grammar allows it: its turns are taken again, up to the
+first contradiction. `./fractal check` is the judge; this only explains to a person what it found."""
 from __future__ import annotations
 
 from collections.abc import Iterable, Iterator
@@ -28,7 +28,7 @@ class Disagreement:
         return all(self.machine.steps < MOST_STEPS and self.machine.follow([entry]) is None for entry in entries)
 
     def with_entry(self, entry: Entry) -> Optional[str]:
-        """Why no run has a task there; None where that can't be told."""
+        """Why no run has a task there; None if that isn't known."""
         if self.is_lost:
             return None
         if self.machine.turns == self.commits:
@@ -36,7 +36,7 @@ class Disagreement:
         return self.with_turn(entry.name, entry) or self.with_end_of(entry.name)
 
     def with_turn(self, name: Name, entry: Optional[Entry]) -> Optional[str]:
-        """Why a task doesn't come next, or not as an entry tells; None where it does."""
+        """Why a task doesn't come next, or isn't as an entry says; None if it does and is."""
         task = self.machine.tasks.get(name)
         if task is None:
             return self.missing(name)
@@ -72,7 +72,7 @@ class Disagreement:
                 if not task.turn and (domain is None or task.domain is domain))
 
     def with_end_of(self, name: Name) -> Optional[str]:
-        """That the task which comes next traps; None where it doesn't, or where that can't be told."""
+        """Says that the next task traps; None if it doesn't, or if that isn't known."""
         trap = self.trap_of(name)
         return None if trap is None else f"it traps, with {trap_text(trap, self.image)}"
 

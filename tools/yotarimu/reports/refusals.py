@@ -62,7 +62,7 @@ def quote(line: bytes) -> str:
 
 
 def layout_fault(line: bytes) -> Optional[str]:
-    """What is wrong with a line, whatever stands in it; None where nothing is."""
+    """What is wrong with a line, whatever its content; None if nothing is."""
     if not line.strip(b" \t\r"):
         return "the line is empty" if not line else "the line has blanks alone"
     if line.endswith(b"\r"):
@@ -160,7 +160,7 @@ def kind_of(line: bytes) -> Optional[str]:
 
 
 def wanted_at(text: bytes, number: int) -> Optional[str]:
-    """What may stand at a line of a report, by the line before it; None where nothing may."""
+    """What a line of a report may be, after the line before it; None if nothing may follow."""
     if number == 1:
         return "`fractal 1`"
     before = line_of(text, number - 1)
@@ -229,15 +229,15 @@ def why(told: str, words: Sequence[str], data: bytes) -> str:
 
 
 def run_fault(data: bytes, text: bytes, number: int, words: Sequence[str]) -> Optional[str]:
-    """The one thing that speaks against a line of a report, though the grammar allows it; None where running the tasks
-    again doesn't tell it."""
+    """What contradicts a line of a report, though the grammar allows it; None if running the tasks again doesn't find
+    it."""
     image, told = read_image(data, "the input"), text.decode("ascii", "replace")
     return disagreement(image, read_front(told, number - 1), read_front(told, number), count_of("commits", words),
                         count_of("budget", words))
 
 
 def count_of(name: str, words: Sequence[str]) -> int:
-    """The number that an option has in the words, or else unless given."""
+    """The number of an option among the arguments, or its default."""
     table = Table()
     value, _ = take_option(words, f"--{name}")
     return size_of(name, {} if value is None else {name: table.options[name].need(value)}, table)
