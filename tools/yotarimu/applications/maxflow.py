@@ -70,8 +70,8 @@ def net_of(nodes: int, arcs: list[tuple[int, int, int]]) -> Net:
 
 
 def check(net: Net, memory: Memory) -> str:
-    """Holds that what came to the sink is all that can pass a cut, which no flow exceeds. The cut is between the nodes
-    from which the sink can still be reached and the others."""
+    """Checks that what reached the sink is all that can pass a cut, which no flow exceeds. The cut separates the nodes
+    from which the sink can still be reached from the others."""
     room, excess = memory.words("room"), memory.words("excess")
     flows = flows_of(net, room)
     for node in range(1, net.nodes):
