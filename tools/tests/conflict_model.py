@@ -1,5 +1,5 @@
-"""Which tasks an event takes back, worked out from the definitions: the conflicts of an access by the filters of all
-later tasks, and what goes with each of them by its creator or by the stores of an earlier one's log."""
+"""The tasks that an event aborts, worked out from the definitions: the conflicts of an access by the filters of all
+later tasks, and the cascade of each of them, by its creator or by the stores in an earlier one's log."""
 from __future__ import annotations
 
 from typing import NamedTuple
@@ -18,7 +18,8 @@ class Member(NamedTuple):
 
 
 def members_before(told: ToldLine, machine: Machine) -> list[Member]:
-    """The dispatched tasks before an event, those that it took back too, the least first; by the machine behind it."""
+    """The dispatched tasks before an event, including those that it aborted, the least first; `machine` is the one
+    after it."""
     taken = [Member(it.task, it.time, it.accesses) for it in told.taken if it.state != "idle"]
     others = [Member(task, task.time(), task.accesses) for task in machine.tasks.values() if task.state != "idle"]
     gone = {id(it.task) for it in taken}
@@ -61,8 +62,8 @@ def children_before(told: ToldLine, machine: Machine) -> dict[int, list[int]]:
 
 
 def conflicts_held(watched: Reader) -> int:
-    """Holds each event of lines against the model: exactly those tasks are aborted that it tells. How many events
-    took some back."""
+    """Checks each event of a log against the model: exactly the tasks that the model expects are aborted. Returns how
+    many events aborted some."""
     rule, count = rule_of(watched.head), 0
     for told in watched:
         if told.access is None and not told.taken:

@@ -83,7 +83,7 @@ def by_command(main: Callable[[list[str]], object], *ways: Sequence[str]) -> Rea
 
 
 def images() -> list[Right]:
-    """Images, which `explain` holds against their reports."""
+    """Images, which `explain` compares with their reports."""
     found = []
     for name in REPORTED:
         report = str(EXAMPLES_FOLDER / name / "report")
@@ -114,7 +114,7 @@ def named_command(words: list[str]) -> object:
 
 
 def reports() -> list[Right]:
-    """Reports, which are told in each form, followed by the debugger, and looked at where one was refused."""
+    """Reports, which are explained in each form, followed by the debugger, and examined if one was refused."""
     found = []
     for name in REPORTED:
         folder = EXAMPLES_FOLDER / name
@@ -133,7 +133,7 @@ def follow_report(image: pathlib.Path, path: pathlib.Path, _chance: random.Rando
 
 
 def refuse_report(image: pathlib.Path, path: pathlib.Path, chance: random.Random) -> None:
-    """What is told of a report that the program refused at a line."""
+    """Explains a report that the program refused at a line."""
     with mock.patch.object(refusal, "read_bytes", lambda _: image.read_bytes() + path.read_bytes()):
         refusal.main([f"fault journal {chance.randint(1, 9)}", "check"])
 
@@ -192,7 +192,7 @@ def sweep_plot(path: pathlib.Path) -> None:
 
 
 def exercise_files() -> list[Right]:
-    """Answers to exercises, and what one of one's own wants."""
+    """Answers to exercises, and the `wanted` file of an exercise of your own."""
     ran = read_report((EXAMPLES_FOLDER / "hello" / "report").read_text(), "hello")
     table = Table()
 

@@ -43,14 +43,15 @@ def member(it: Any, timestamp: int, dispatch: float, *accesses: Access, is_gone:
 
 
 def event(members: list[TakenTask], asker: Any = None, access: Optional[Access] = None, **line: Any) -> Any:
-    """A line that takes members back, as causes read it."""
+    """A line that aborts members, as causes read it."""
     if access is not None:
         line["asks"] = "store" if access.is_store else "load"
     return types.SimpleNamespace(line={"do": "step", **line}, taken=members, task=asker, access=access)
 
 
 def told_of(told: Any, rule: LineRule = RULE) -> Any:
-    """Of each task its kind, what its way shares, the task behind it, and the task at its root."""
+    """For each task the kind of its cause, what its chain of causes shares, the task that caused it, and the task of
+    the root cause."""
     return [(it.task.name, it.kind, it.sharing, it.by.name if it.by else None, it.root.task.name)
             for it in causes_of(told, rule)]
 

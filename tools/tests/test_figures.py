@@ -42,7 +42,7 @@ class Spreads(unittest.TestCase):
 class Means(unittest.TestCase):
     """Means over rounds and over events."""
     def test_rounds_count_alike(self) -> None:
-        """The first round has events behind which one and three run, so two on the mean; the second has none, and three
+        """The first round has events after which one and three run, so two on the mean; the second has none, and three
         run still; in the third one runs, four times."""
         occupancy = Occupancy(True)
         for number, running in ((0, 1), (0, 3), (2, 1), (2, 1), (2, 1), (2, 1)):
@@ -75,7 +75,7 @@ class Means(unittest.TestCase):
 class Columns(unittest.TestCase):
     """Columns of a study."""
     def fewer(self, *runs: tuple[str, int, int]) -> list[object]:
-        """What is told of two runs, the second of which is held against the first, by end, commits and rounds."""
+        """The cells of two runs, given by end, commits and rounds; the second is compared with the first."""
         first, second = (Reach(*run) for run in runs)
         return [plain_cell(it.fewer_than(first)) for it in (first, second)]
 

@@ -1,5 +1,5 @@
-"""Filters: Bloom's hashes by vectors and by digits of pi that are worked out anew, what each kind tells, and the model
-of conflicts on lines."""
+"""Filters: Bloom's hashes by vectors and by digits of pi that are worked out anew, what each kind reports, and the
+model of conflicts on event logs."""
 from __future__ import annotations
 
 import io
@@ -60,7 +60,7 @@ class Hashes(unittest.TestCase):
 
 
 class Kinds(unittest.TestCase):
-    """What a filter of each kind tells."""
+    """What a filter of each kind reports."""
     def noted(self, kind: FilterKind) -> TaskFilter:
         """The lines 0, 7, 14 and so on up to 1,393, which are stored to and loaded in turn."""
         made = TaskFilter(kind)
@@ -98,7 +98,7 @@ class Kinds(unittest.TestCase):
 
 
 class Conflicts(unittest.TestCase):
-    """Lines that are held against the model."""
+    """Event logs that are checked against the model."""
     def test_stored_lines(self) -> None:
         for name, count in (("conflict/lines", 1), ("by_hand/worked", 1), ("domains_by_hand/worked", 0),
                             ("rounds_by_hand/worked", 1)):

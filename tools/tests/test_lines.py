@@ -1,4 +1,4 @@
-"""Lines of the second program: what is held of them, and the texts that were worked out by hand."""
+"""Event logs: the checks of each line, and the logs that were worked out by hand."""
 from __future__ import annotations
 
 import io
@@ -157,7 +157,7 @@ def told_of(told: ToldLine) -> list[object]:
 
 
 def what_comes_of(kind: Type[Reader], text: bytes, image: Image, is_cut_allowed: bool = False) -> list[object]:
-    """What each line of a text did; then why the text is refused, where it is, and the machine behind it."""
+    """What each line of a log did; then why the log is refused, if it is, and the machine after it."""
     found: list[object] = []
     reader: Optional[Reader] = None
     try:
@@ -234,7 +234,7 @@ UNFORESEEN = ("back", "spilled", "output")
 
 
 class Foreseen(unittest.TestCase):
-    """Lines that are foreseen: what comes of them is what comes of taking them apart."""
+    """Lines that are foreseen: they have the same effect as when they are parsed."""
 
     def texts(self) -> Iterator[tuple[bytes, Image]]:
         """Whole texts, and their images."""
@@ -243,7 +243,7 @@ class Foreseen(unittest.TestCase):
             yield (SCHEDULES / folder / name).read_bytes(), read_image(image.read_bytes(), folder)
 
     def hold(self, text: bytes, image: Image, is_cut_allowed: bool = False) -> object:
-        """Expects of a text what comes of its fields; what comes last of that, before the machine."""
+        """Expects the same of a log, whether foreseen or parsed; returns its last result before the machine."""
         wanted = what_comes_of(ByFields, text, image, is_cut_allowed)
         self.assertEqual(what_comes_of(Reader, text, image, is_cut_allowed), wanted, text)
         return wanted[-2]
@@ -349,7 +349,7 @@ def core_of(*words: int) -> Core:
 
 
 def leg_of(core: Core, quantum: int, budget: int) -> Line:
-    """The fields that tell the leg which a core runs."""
+    """The fields for the leg that a core runs."""
     core.run(quantum, budget)
     return core.leg
 

@@ -134,7 +134,7 @@ MISTAKES = {
 
 
 def sentence_of(mistake: Mistake) -> str:
-    """What is told when the folder of a mistake is built."""
+    """What is printed when the folder of a mistake is built."""
     with tempfile.TemporaryDirectory() as place:
         folder = pathlib.Path(place)
         for name, text in mistake.files.items():

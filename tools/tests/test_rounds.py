@@ -16,7 +16,7 @@ def rounds(count: int, starved: int, is_least_waiting: bool = True) -> Rounds:
 
 
 def line(at: int, word: str) -> Dict[str, Any]:
-    """An act as a line tells it."""
+    """The line of an act."""
     places: Dict[str, Dict[str, int]] = {"commit": {}, "step": {"tile": 0, "core": 0}}
     return {"at": at, "do": word, **places.get(word, {"tile": 0})}
 
@@ -63,7 +63,7 @@ class Starved(unittest.TestCase):
             play(rounds(2, 2), (2, "step", 0), (6, "step", 0), (9, "dispatch", 0))
 
     def test_steps_that_are_passed_over_are_noted(self) -> None:
-        """The step of the first round is told, those of the next three aren't."""
+        """The step of the first round is in the log, those of the next three aren't."""
         of, passed = rounds(9, 9), list[Act]()
         of.note_passed = passed.append
         play(of, (2, "step", 0), (17, "dispatch", 0))
@@ -72,7 +72,7 @@ class Starved(unittest.TestCase):
 
 
 class Asked(unittest.TestCase):
-    """Which acts are held to be told."""
+    """Which acts must be in the log."""
     def test_what_was_asked_for_is_told(self) -> None:
         """A step that a running task wants isn't passed over, nor a commit where a later one is made."""
         of = rounds(5, 9)
