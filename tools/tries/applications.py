@@ -82,7 +82,7 @@ def applications_are_compared(place: Place) -> None:
 
 
 def other_results_are_told(place: Place) -> None:
-    """memory that is wrong, runs that end otherwise and reports that are refused are told in a sentence"""
+    """wrong memory, runs that end otherwise and refused reports are reported in a sentence"""
     folder = place.root / "made"
     expect(place.call(CALL, "make", "mis", str(folder), "--size", "100").status == 0, "it is made")
     size = struct.unpack_from("<I", (folder / "image.bin").read_bytes(), 16)[0]
@@ -102,7 +102,7 @@ def other_results_are_told(place: Place) -> None:
 
 
 def applications_refuse_bad_words(place: Place) -> None:
-    """words that are no application, sizes out of range, and folders that are there are told in a sentence"""
+    """unknown applications, sizes out of range, and existing folders are refused in a sentence"""
     for program in (place.program, place.second_program):
         place.stub(program, "exit 5\n")
     empty = str(place.root / "empty")
@@ -138,7 +138,7 @@ def applications_refuse_bad_words(place: Place) -> None:
 
 
 def applications_want_tools(place: Place) -> None:
-    """where a compiler or a program is missing that is told, and no folder is left"""
+    """a missing compiler or program is reported, and no folder is left"""
     place.nothing_answers()
     folder = place.root / "made"
     place.call(CALL, "run", "mis").sentence("isn't built")
@@ -150,7 +150,7 @@ def applications_want_tools(place: Place) -> None:
 
 
 def interrupted_applications_leave_nothing(place: Place) -> None:
-    """an interrupt while an application is built is told in a sentence, and leaves no folder"""
+    """an interrupt while an application is built is reported in a sentence, and leaves no folder"""
     before, mark = written_tree(place.root), place.root / "started"
     place.stub_tool("riscv64-unknown-elf-gcc", f"touch '{mark}'; exec sleep 100\n")
     stubs = written_tree(place.root) - before
@@ -163,7 +163,7 @@ def interrupted_applications_leave_nothing(place: Place) -> None:
 
 
 def values_have_names(place: Place) -> None:
-    """variables are told by their names, whole and in pieces, as words, halves and bytes, from a memory in a file"""
+    """variables are shown by their names, whole and in pieces, as words, halves and bytes, from a memory in a file"""
     folder = folder_with(place, "pair", task=PAIR)
     expect(place.call("fractal build", str(folder)).status == 0, "an image")
     image, memory = folder / "image.bin", place.root / "memory"
@@ -185,7 +185,7 @@ def values_have_names(place: Place) -> None:
 
 
 def values_refuse_bad_words(place: Place) -> None:
-    """a name that isn't there, a place beyond it, and a memory of another size are told in a sentence"""
+    """an unknown name, a place beyond it, and a memory of another size are refused in a sentence"""
     place.nothing_answers()
     folder = folder_with(place, "pair", task=PAIR)
     expect(place.call("fractal build", str(folder)).status == 0, "an image")

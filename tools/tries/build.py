@@ -106,7 +106,7 @@ def folders_are_anywhere(place: Place) -> None:
 
 
 def sources_are_linked(place: Place) -> None:
-    """several sources become one image, in the order of their names, and the listing tells each address"""
+    """several sources become one image, in the order of their names, and the listing has each address"""
     first = "# image: task main\n    .globl main\nmain:\n    call other\n    li a7, 0\n    ecall\n"
     first += "    .data\n    .byte 7\n"
     second = "    .globl other\nother:\n    ret\n    .data\nword:\n    .word 5\n"
@@ -209,7 +209,7 @@ def odd_tasks_are_refused(place: Place) -> None:
 
 
 def missing_tasks_are_told(place: Place) -> None:
-    """where no line tells a task it says where"""
+    """if no line names a task, the refusal says where to add one"""
     for name, text in (("no line", ""), ("no text", DATA)):
         place.call("fractal build", str(folder_with(place, name, task=text))).sentence("no line gives an initial task")
     folder = folder_with(place, "none", task=END)
@@ -218,7 +218,7 @@ def missing_tasks_are_told(place: Place) -> None:
 
 
 def names_of_sources_are_told(place: Place) -> None:
-    """a label that another source keeps to itself, and one that stands twice, are told with their lines"""
+    """a label that another source keeps to itself, and one that is defined twice, are reported with their lines"""
     for name, sources, parts in (
             ("kept", {"a": GOOD + "    j other\n", "b": "other:\n    ret\n"},
              ("a.s:5: `other` is defined at ", "b.s:1, without a line `.globl other`")),
@@ -231,7 +231,7 @@ def names_of_sources_are_told(place: Place) -> None:
 
 
 def faults_of_the_source_are_told(place: Place) -> None:
-    """what the assembler or the linker refuses is told with the source's path and line"""
+    """what the assembler or the linker refuses is reported with the source's path and line"""
     folder = folder_with(place, "fault", task=GOOD + "    mul a0, a0, a0\n")
     answer = place.call("fractal build", str(folder))
     answer.tells("fault/task.s:5:", "mul")
@@ -295,7 +295,7 @@ def claimed_sizes_are_bounded(place: Place) -> None:
 
 
 def bad_words_are_refused(place: Place) -> None:
-    """words that are no folder, folders without a source, and options are told in a sentence"""
+    """paths without a folder, folders without a source, and unknown options are refused in a sentence"""
     empty = folder_with(place, "empty")
     one_sentence_each([
         (place.call("fractal build", "nowhere"), ["nowhere", "no such folder"]),
@@ -317,7 +317,7 @@ def missing_assembler_is_told(place: Place) -> None:
 
 
 def unwritable_folders_are_told(place: Place) -> None:
-    """a folder that can't be read or written is told in a sentence, and nothing is left"""
+    """a folder that can't be read or written is reported in a sentence, and nothing is left"""
     place.make_unwritable()
     place.call("fractal build", "hello").sentence("permission denied")
     hidden = folder_with(place, "hidden", task=GOOD)
@@ -328,7 +328,7 @@ def unwritable_folders_are_told(place: Place) -> None:
 
 
 def interrupts_leave_nothing(place: Place) -> None:
-    """an interrupt is told in a sentence, and leaves neither an image nor a temporary file"""
+    """an interrupt is reported in a sentence, and leaves neither an image nor a temporary file"""
     folder = folder_with(place, "slow", task=GOOD)
     mark = place.root / "started"
     place.stub_tool("riscv64-linux-gnu-as", f"touch '{mark}'; exec sleep 100\n")

@@ -396,7 +396,7 @@ TASK(unknown) { }
 
 
 def arguments_in_cpp_are_refused(place: Place) -> None:
-    """in C++ too an argument of 64 bits, one with a point, and one too many are told with their lines"""
+    """in C++ too an argument of 64 bits, a floating-point one, and one too many are reported with their lines"""
     for words in COMPILERS:
         for number, (call, part) in enumerate((
                 ("enqueue(one, 0, wide)", "a child is given numbers of 32 bits"),
@@ -414,7 +414,7 @@ def arguments_in_cpp_are_refused(place: Place) -> None:
 
 
 def names_of_several_sources_are_told(place: Place) -> None:
-    """a name that another source keeps to itself, and one that two define, are told with their places"""
+    """a name that another source keeps to itself, and one that two define, are reported with their places"""
     sources = {
         "task.c": FIRST_LINES + "extern task_entry other, kept;\nvoid own(void);\n"
                                 "TASK(start) { enqueue(other, 0); enqueue(kept, 0); own(); }\n",
@@ -443,7 +443,7 @@ def names_of_several_sources_are_told(place: Place) -> None:
 
 
 def doubts_in_c_are_noted(place: Place) -> None:
-    """what may be wrong is told in a note, and built all the same"""
+    """what may be wrong is reported in a note, and built all the same"""
     for words in COMPILERS:
         for name, (text, *parts) in NOTED.items():
             _, answer = build_source(place, "-".join([name, *words]), FIRST_LINES + text, words)
@@ -451,7 +451,7 @@ def doubts_in_c_are_noted(place: Place) -> None:
 
 
 def traps_in_c_are_explained(place: Place) -> None:
-    """a trap in C is told with its task, arguments, file, line, address and registers"""
+    """a trap in C is explained with its task, arguments, file, line, address and registers"""
     place.needs_program()
     for words in COMPILERS:
         for name, (text, *parts) in TRAPS.items():
@@ -463,7 +463,7 @@ def traps_in_c_are_explained(place: Place) -> None:
 
 
 def silent_mistakes_are_silent(place: Place) -> None:
-    """mistakes that nothing tells come out as the guide says"""
+    """mistakes that nothing detects have the result that the guide describes"""
     place.needs_program()
     for words in COMPILERS:
         for name, (text, output, word) in SILENT.items():

@@ -1,4 +1,4 @@
-"""Tries of why tasks were aborted, as ./fractal explain tells it of lines."""
+"""Integration tests of the causes of aborts that ./fractal explain finds in event logs."""
 from __future__ import annotations
 
 import csv
@@ -36,7 +36,7 @@ def paths(place: Place, name: str) -> tuple[str, str]:
 
 
 def causes_are_explained(place: Place) -> None:
-    """of stored lines it is told who was aborted and why, in words, as JSON and as CSV"""
+    """for stored event logs each aborted task is listed with its cause, in words, as JSON and as CSV"""
     image, lines = paths(place, "conflict")
     answer = place.call("fractal explain", image, lines)
     text = answer.output.decode()
@@ -52,7 +52,7 @@ def causes_are_explained(place: Place) -> None:
 
 
 def causes_of_schedules_are_those_of_their_pages(place: Place) -> None:
-    """each schedule takes back what its page says, for the reason that it says, by a filter of each kind"""
+    """each schedule aborts the tasks that its page lists, for the causes given there, with a filter of each kind"""
     place.needs_second_program()
     for kind, name in itertools.product(FILTERS, SCHEDULES):
         folder = place.clone / "examples" / name
@@ -68,14 +68,14 @@ def causes_of_schedules_are_those_of_their_pages(place: Place) -> None:
 
 
 def lines_of(place: Place, folder: pathlib.Path, kind: str) -> bytes:
-    """What the second program tells of a schedule by a filter of a kind."""
+    """The event log of a schedule with a filter of a kind."""
     data = (folder / "image.bin").read_bytes() + (folder / "script").read_bytes()
     return place.call("fractal watch", *(folder / "words").read_text().split(), "--filter", kind, stdin=data).output
 
 
 def filters_take_back_what_the_model_tells(place: Place) -> None:
-    """by a filter of each kind exactly those tasks are aborted that the model of filters tells, on each schedule and
-    on a walk in rounds"""
+    """with a filter of each kind exactly those tasks are aborted that the model of filters expects, on each schedule
+    and on a walk in rounds"""
     place.needs_second_program()
     walk = place.call("fractal generate", *WALK).output
     taking = {}
@@ -88,7 +88,7 @@ def filters_take_back_what_the_model_tells(place: Place) -> None:
 
 
 def hold_conflicts(lines: bytes, what: str) -> int:
-    """Holds lines against the model; how many events took tasks back."""
+    """Checks an event log against the model; returns how many events aborted tasks."""
     try:
         return conflicts_held(Reader(io.BytesIO(lines), "fractal_watch"))
     except AssertionError as differing:

@@ -61,7 +61,7 @@ def images_of_other_languages_conform(place: Place) -> None:
 
 
 def runs_here_are_the_programs(place: Place) -> None:
-    """what the small programs leave here is what the program's report tells"""
+    """what the small programs leave here is what the program's report says"""
     place.needs_program()
     need_compiler(GCC, GCC)
     for case in cases_in(place.clone / "examples" / "conformance"):
@@ -95,7 +95,7 @@ def programs_of_the_page_are_built(place: Place) -> None:
 
 
 def compilers_are_named(place: Place) -> None:
-    """--gcc and --clang name compilers, whose versions are in the listing; other programs are told in a sentence"""
+    """--gcc and --clang name compilers, whose versions are in the listing; other programs are refused in a sentence"""
     need_compiler(GCC, GCC)
     need_compiler(CLANG, CLANG)
     folder = place.root / "named"
@@ -119,7 +119,7 @@ def compilers_are_named(place: Place) -> None:
 
 
 def conform_refuses_bad_words(place: Place) -> None:
-    """unknown cases, levels and folders are told in a sentence"""
+    """unknown cases, levels and folders are refused in a sentence"""
     one_sentence_each([
         (place.call(CALL, "call_7"), ["no case `call_7`", "call_5"]),
         (place.call(CALL, "--levels", "O9"), ["--levels", "`O9`"]),

@@ -81,7 +81,7 @@ REFUSED_IN_CPP = {
 
 
 def initial_data(folder: pathlib.Path) -> tuple[bytes, bytes]:
-    """The initial data of an image, and all behind it."""
+    """The initial data of an image, and the bytes after it."""
     image = (folder / "image.bin").read_bytes()
     text, initial = struct.unpack_from("<2I", image, 8)
     start = HEADER + 4 * text
@@ -232,7 +232,7 @@ def odd_objects_are_refused(place: Place) -> None:
 
 
 def llvm_wants_clang(place: Place) -> None:
-    """without clang a source of LLVM is told to want it, also where gcc compiles C"""
+    """without clang a source of LLVM is refused with that reason, also if gcc compiles C"""
     folder = folder_with(place, "llvm")
     (folder / "task.ll").write_text("; image: task main\n")
     place.without("clang")

@@ -1,4 +1,4 @@
-"""Tries of the counts that the second program tells: each is what its lines add up to."""
+"""Integration tests of the counts that `fractal_watch` prints: each is the sum over its event log."""
 from __future__ import annotations
 
 import io
@@ -21,15 +21,15 @@ GENERATED = 200
 
 
 def told(place: Place, image: bytes, *words: str) -> bytes:
-    """What the second program tells."""
+    """What `fractal_watch` prints."""
     answer = place.call("fractal", "watch", *words, stdin=image)
     expect(answer.status in (0, 3, 4), "a run that was printed to its end", answer)
     return answer.output
 
 
 def counts_of_lines(text: bytes, each: int, script: Sequence[str]) -> list[str]:
-    """The lines of counts that lines add up to: behind each so many rounds, or acts where there are none, and at the
-    end."""
+    """The lines of counts that an event log adds up to: one after every so many rounds, or acts in a log without
+    rounds, and one at the end."""
     watched = Reader(io.BytesIO(text), "lines")
     sums = LineCounts(watched.machine, each, script)
     for line in watched:
@@ -62,7 +62,7 @@ def hold(place: Place, image: bytes, course: Sequence[str], options: Sequence[st
 
 
 def schedules_are_counted(place: Place) -> None:
-    """of each schedule the counts are what its lines add up to, behind each third act and at the end"""
+    """the counts of each schedule are what its event log adds up to, after every third act and at the end"""
     place.needs_second_program()
     for schedule in SCHEDULES:
         folder = place.clone / "examples" / schedule
@@ -93,7 +93,7 @@ def runs_are_counted(place: Place) -> None:
 
 
 def words_of_counts(place: Place) -> None:
-    """words that can't stand with counts, or behind them, are refused by one line"""
+    """arguments that can't be combined with counts, or can't follow it, are refused in a line"""
     place.needs_second_program()
     for words in (["counts"], ["counts", "every", "0", "least"], ["counts", "counts", "least"],
                   ["counts", "memory", "least"], ["counts", "views", "2", "least"], ["views", "2", "counts", "least"],

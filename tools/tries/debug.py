@@ -45,7 +45,7 @@ def gdbs() -> List[str]:
 
 
 def version_of(gdb: str) -> int:
-    """The first number of a gdb's version; 0 where it tells none."""
+    """The first number of a gdb's version; 0 if it prints none."""
     said = subprocess.run([gdb, "--version"], capture_output=True, text=True, stdin=subprocess.DEVNULL).stdout
     found = re.search(r"(\d+)\.\d+", said.partition("\n")[0])
     return int(found[1]) if found else 0
@@ -61,7 +61,7 @@ def play_in_gdb(place: Place, gdb: str, image: str, other: Optional[str], typed:
 
 
 def in_order(shown: str, *parts: str) -> None:
-    """Holds parts to stand in a text, one behind the other."""
+    """Expects parts in a text, one after the other."""
     at = 0
     for part in parts:
         found = shown.find(part, at)
@@ -73,7 +73,7 @@ def in_order(shown: str, *parts: str) -> None:
 
 
 def bad_words_of_the_debugger_are_told(place: Place) -> None:
-    """wrong words, a port in use, no gdb and files that aren't there are a sentence each, and nothing is left"""
+    """invalid arguments, a port in use, a missing gdb and missing files get a sentence each, and nothing is left"""
     image, report = example(place, "trap", "image.bin"), example(place, "trap", "report")
     with socket.create_server(("127.0.0.1", 0)) as taken:
         port = str(taken.getsockname()[1])
@@ -134,7 +134,7 @@ def debug(place: Place, *words: str) -> Answer:
 
 
 def images_without_sources_are_gone_along(place: Place) -> None:
-    """where no sources are beside an image that is told, and gdb gets no linked file"""
+    """without sources beside an image a note says so, and gdb gets no linked file"""
     image, lines = example(place, "schedules/stale_leg", "image.bin"), example(place, "schedules/conflict", "lines")
     answer = debug(place, image, lines, "--pipe")
     answer.tells("no sources are beside")
@@ -146,7 +146,7 @@ def images_without_sources_are_gone_along(place: Place) -> None:
 
 
 def tracks_go_both_ways(place: Place) -> None:
-    """of every example and every schedule the second program's lines are one run forth, back and at random"""
+    """the event log of every example and schedule is the same run forwards, backwards and at random"""
     place.needs_second_program()
     for name in (*EXAMPLES, *SCHEDULES):
         folder = place.clone / "examples" / name
@@ -193,7 +193,7 @@ writes distance[3]
 
 
 def gdb_goes_along_lines(place: Place) -> None:
-    """each gdb is told why a task is about to be aborted, sees both attempts, and the store that is undone"""
+    """each gdb shows why a task is about to be aborted, both attempts, and the store that is undone"""
     typed = """info threads
 break *reader+12
 continue
@@ -237,7 +237,7 @@ def gdb_stops_at_traps(place: Place) -> None:
 
 
 def debug_images_have_all_variables(place: Place) -> None:
-    """an image of `build --debug` stands beside the other, and gdb sees what was optimized out in that"""
+    """the image of `build --debug` is separate from the other, and gdb sees what was optimized out in that"""
     folder = place.clone / "examples" / "c" / "quicksort"
     before = (folder / "image.bin").read_bytes()
     answer = place.call("fractal", "build", "--debug", str(folder))

@@ -47,7 +47,7 @@ ANSWERS = {"./fractal exercise journal /tmp/journal": "journal", "./fractal exer
 
 
 class Block(NamedTuple):
-    """A block of a document: at which line it begins, what stands behind its fence, and its lines."""
+    """A block of a document: the line at which it begins, the language after its fence, and its lines."""
     document: str
     line: int
     language: str
@@ -58,7 +58,7 @@ class Block(NamedTuple):
         return not self.language and self.lines[0].startswith(COMMANDS)
 
     def is_left_out(self) -> bool:
-        """Whether the block can't be called here, for a reason that is told."""
+        """Whether the block is left out, for a reason that is printed."""
         return self.lines[0].startswith(tuple(LEFT_OUT)) or self.document in STUDIES
 
 
@@ -159,7 +159,7 @@ def whole_programs_are_built(place: Place) -> None:
 
 
 def ways_in_are_told(place: Place) -> None:
-    """README says that there is no licence as long as there is none, and links to how a change or a fault is sent"""
+    """README says that there isn't a licence as long as none exists, and links to how a change or a fault is sent"""
     readme, page = ((place.clone / name).read_text() for name in ("README.md", "docs/maintain/CONTRIBUTING.md"))
     _, _, licence = readme.partition("\n## Licence\n")
     has_one = any(path.name.upper().startswith(("LICEN", "COPYING")) for path in place.clone.iterdir())

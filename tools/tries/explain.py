@@ -24,7 +24,7 @@ def reports_are_explained(place: Place) -> None:
 
 
 def traps_are_explained(place: Place) -> None:
-    """a trap's cause is told in words, with the source line of its pc, from the listing or from a source"""
+    """a trap's cause is explained in words, with the source line of its pc, from the listing or from a source"""
     image, report = files_of(place, "trap")
     folder = place.clone / "examples" / "trap"
     for source in ((), (folder,), (folder / "task.s",), (folder / "listing",)):
@@ -34,7 +34,8 @@ def traps_are_explained(place: Place) -> None:
 
 
 def reasons_of_traps_are_told(place: Place) -> None:
-    """a timestamp in the past is told with the least that may stand there, and a task that begins at no instruction"""
+    """a timestamp in the past is explained with the least possible one, and so is a task whose entry has no
+    instruction"""
     head = "# image: root ordered\n# image: task main ts 5\nmain:\n"
     end = "    li a7, 0\n    ecall\n"
     below_floor = ("    li a7, 4\n    li a0, 1\n    ecall\n    la a0, inner\n    li a1, 2\n    li a7, 2\n    ecall\n"
@@ -63,7 +64,7 @@ def reasons_of_traps_are_told(place: Place) -> None:
 
 
 def all_registers_are_told(place: Place) -> None:
-    """with --registers each register of a trap is told, by its number and its name; else those that aren't 0"""
+    """with --registers each register of a trap is listed, by its number and its name; else those that aren't 0"""
     image, report = files_of(place, "trap")
     text = place.call("fractal explain", image, report, "--registers").output.decode()
     told = dict(re.findall(r"\b(x[0-9]+) +[a-z0-9]+ +([0-9a-f]{8})\b", text))
@@ -107,7 +108,7 @@ def pictures_are_drawn(place: Place) -> None:
 
 
 def faults_are_explained(place: Place) -> None:
-    """what the program writes in a report's place is told in words"""
+    """a fault that the program writes in place of a report is explained in words"""
     image = files_of(place, "hello")[0]
     for line, part in (("check ok 8", "8 tasks took their turns"), ("fault image 5 8", "above its limit"),
                        ("fault journal 3", "line 3"), ("fault script 2", "line 2 is the first outside"),
@@ -148,7 +149,7 @@ def played_scripts_are_explained(place: Place) -> None:
 
 
 def explanations_are_for_programs(place: Place) -> None:
-    """--json has all that is told, with registers and address of a trap, and --csv a row for each task"""
+    """--json has all that is explained, with registers and address of a trap, and --csv a row for each task"""
     image, report = files_of(place, "trap")
     told = json.loads(place.call("fractal explain", image, report, "--json").output)
     end = told["end"]
@@ -170,7 +171,7 @@ def explanations_are_for_programs(place: Place) -> None:
 
 
 def one_task_is_explained(place: Place) -> None:
-    """--task tells what one task asked for, from where the program saves the run, or else by all turns before it"""
+    """--task lists what one task did, from where the program saves the run, or else after all turns before it"""
     explain, (image, report) = "fractal explain", files_of(place, "nested")
     parts = ("The task 7.0 is note 0 2 0.", "turn 8 of 8; timestamp 0, depth 3, in an unordered domain",
              "load  10000008 logged, 4 bytes: 1  ", "store 10000008 logged, 4 bytes: 2  ", "task.s:55")
@@ -197,7 +198,7 @@ def one_task_is_explained(place: Place) -> None:
 
 
 def one_task_has_its_budget(place: Place) -> None:
-    """--task with the budget of the run tells a trap by it, and refuses one that ends otherwise than told"""
+    """--task with the budget of the run explains a trap by it, and refuses one that doesn't end as the report says"""
     explain, (image, _) = "fractal explain", files_of(place, "trap")
     report = b"fractal 1\noutput -\nend trap 17 00010004 0.0\n"
     words = explain, image, "-", "--task", "0.0"
@@ -208,7 +209,7 @@ def one_task_has_its_budget(place: Place) -> None:
 
 
 def one_task_wants_right_words(place: Place) -> None:
-    """beside --task bad names, options, programs and files are told in a sentence"""
+    """with --task bad names, options, programs and files are refused in a sentence"""
     explain, (image, report) = "fractal explain", files_of(place, "nested")
     one_sentence_each([
         (place.call(explain, image, report, "--task"), ["needs a value"]),
@@ -224,7 +225,7 @@ def one_task_wants_right_words(place: Place) -> None:
 
 
 def explain_refuses_bad_files(place: Place) -> None:
-    """bad words, missing, endless and other files, and another image's source are told in a sentence"""
+    """invalid arguments, missing, endless and other files, and another image's source are refused in a sentence"""
     image, report = files_of(place, "hello")
     other = place.clone / "examples" / "trap"
     explain = "fractal explain"
@@ -259,7 +260,7 @@ def endless_windows_are_refused(place: Place) -> None:
 
 
 def closed_pipes_are_borne(place: Place) -> None:
-    """a full disk and a closed standard output are told in a sentence; a reader that goes away is borne in silence"""
+    """a full disk and a closed standard output are reported in a sentence; a reader that goes away is ignored"""
     image, report = files_of(place, "nested")
     for target, part in ((">/dev/full", "no space"), (">&-", "closed")):
         place.by_shell(f'"$0" explain "$1" "$2" {target}; exit 1', image, report).sentence(part)

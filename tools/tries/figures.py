@@ -14,8 +14,8 @@ from tries.lines_text import LinesText
 
 
 def shared_words() -> LinesText:
-    """A task that comes first and stores twice, and three later ones that have run ahead: the first store takes all
-    three and a child back, each for another reason, and the second one two, one of them in a cascade."""
+    """A task that comes first and stores twice, and three later ones that ran speculatively: the first store aborts all
+    three and a child, each for another cause, and the second one two, one of them in a cascade."""
     told = LinesText([1, 5, 6, 7, 8], [0, 0, 1, 1, 0], task_queue=4)
     for number, (task, tile, core) in enumerate(((0, 0, 0), (1, 0, 1), (2, 1, 0), (3, 1, 1))):
         told.dispatch(task, tile, core, number)
@@ -106,7 +106,7 @@ def runs_stand_side_by_side(place: Place) -> None:
 
 
 def other_lines_are_refused(place: Place) -> None:
-    """a text that is cut, has no end, or tells what can't follow is refused with the number of the line"""
+    """a log that is cut, has no end, or has an impossible line is refused with the number of the line"""
     whole = shared_words().end()
     lines = whole.splitlines(keepends=True)
 
@@ -150,7 +150,7 @@ def other_lines_are_refused(place: Place) -> None:
 
 
 def odd_acts_are_refused(place: Place) -> None:
-    """acts that no machine tells, and numbers that are too long, are refused by figures and by the page"""
+    """acts that no machine reports, and numbers that are too long, are refused by figures and by the page"""
     def odd(word: str, change: Optional[dict[str, Any]] = None, reply: str = "ok", **fields: Any) -> bytes:
         told = LinesText([1], [0])
         if word == "step":
@@ -177,7 +177,7 @@ def odd_acts_are_refused(place: Place) -> None:
 
 
 def no_text_is_lost(place: Place) -> None:
-    """a text that is read isn't replaced, nor are two written to one file; a name that isn't text is told in both"""
+    """a log that is read isn't replaced, nor are two written to one file; a name that isn't text is shown in both"""
     data = shared_words().end()
     text = write_file(place, "lines", data)
     (place.root / "link").symlink_to("lines")
@@ -242,7 +242,7 @@ def long_runs_are_replayed(place: Place) -> None:
 
 
 def addresses_have_labels(place: Place) -> None:
-    """with a listing, lines and addresses where tasks were aborted are told with their labels"""
+    """with a listing, lines and addresses where tasks were aborted are shown with their labels"""
     lines = write_file(place, "lines", shared_words().end())
     listing = place.root / "listing"
     listing.write_text("00010000  00000073  ecall\n10000000 <first>:\n10000020 <other>:\n")

@@ -1,4 +1,4 @@
-"""Tries of ./fractal test, and of what the gate runs beside the proofs."""
+"""Integration tests of ./fractal test, and of what CI runs besides the proofs."""
 from __future__ import annotations
 
 import pathlib
@@ -32,7 +32,7 @@ def accepted_examples_are_named(place: Place) -> None:
 
 
 def small_applications_are_played(place: Place) -> None:
-    """small applications are played where they can be, each fault is told by its name, else what is missing"""
+    """small applications are played where they can be: each fault is reported by its name, else what is missing"""
     place.stub(place.program, "cat >/dev/null\n")
     place.stub(place.second_program, "cat >/dev/null; exit 5\n")
     answer = place.call("fractal test", "applications")
@@ -78,7 +78,7 @@ def other_reports_fail(place: Place) -> None:
 
 
 def worked_lines_are_held(place: Place) -> None:
-    """the first line that the second program tells otherwise than was worked out by hand is named by its number"""
+    """the first line of an event log that differs from the one worked out by hand is named by its number"""
     worked = (place.clone / "examples" / "schedules" / "by_hand" / "worked").read_bytes()
     place.stub(place.program, "cat >/dev/null\n")
     place.stub(place.second_program, f"cat >/dev/null; cat '{place.root}/told'\n")
@@ -101,7 +101,7 @@ def lying_programs_fail(place: Place) -> None:
 
 
 def each_fails_the_gate(place: Place) -> None:
-    """the gate runs plain `rt ci`, then the lint, then the examples where the program was built; each may fail it"""
+    """CI runs plain `rt ci`, then the lint, then the examples if the program was built; each may fail it"""
     place.stub_tool("rt", f'echo "$@" >>"{place.root}/words"; exit $(cat "{place.root}/proved")\n')
     # No unit test reads what was said to a schedule, so the examples alone fail where it is another one's.
     schedules, stored = place.clone / "examples" / "schedules", pathlib.Path("conflict", "said")
@@ -182,7 +182,7 @@ def generated_pages_are_held(place: Place) -> None:
 
 
 def limits_are_held(place: Place) -> None:
-    """a limit that is another one in a document, or stands there no more, fails the lint"""
+    """a limit that differs in a document, or is missing there, fails the lint"""
     path = place.clone / "docs" / "guest" / "TASKS.md"
     text = path.read_text()
     for row, told in (("| data bytes | 16,777,215 |", "TASKS.md: the bytes of data are 16,777,215, and 16,777,216 in "),
@@ -235,7 +235,7 @@ def named_files_are_held(place: Place) -> None:
 
 
 def odd_sources_are_told(place: Place) -> None:
-    """the lint takes no words, and tells a source that isn't text, and an edit or a version that isn't whole"""
+    """the lint takes no arguments, and reports a source that isn't text, and an edit or a version that isn't whole"""
     expect(b"WIDE_LINES" in place.call(".ci/lint", "--help").output, "a help page")
     place.call(".ci/lint", "crates").sentence("`crates`")
     edit = next(iter(sorted((place.clone / "crates").glob("*/must-fail/*.edit"))))
@@ -253,8 +253,7 @@ def odd_sources_are_told(place: Place) -> None:
 
 
 def lists_are_held(place: Place) -> None:
-    """an act, an option, a command, a course, a filter or a status that one list has and another hasn't fails the
-    lint"""
+    """an act, an option, a command, a mode, a filter or a status that one list has and another lacks fails the lint"""
     for path, old, new, told in (
             ("docs/guest/FORMATS.md", "| `coalesce t` |", "| `coalesced t` |", "has no `coalesce`, which is an act"),
             ("docs/guest/FORMATS.md", "| `--quantum` (plain instructions of a leg) | 1 to 1,024 |",
@@ -284,7 +283,7 @@ def lists_are_held(place: Place) -> None:
 
 
 def clones_that_fail_are_told(place: Place) -> None:
-    """where no clone can be made, the tries say so and leave nothing"""
+    """if no clone can be made, `dev tries` says so and leaves nothing"""
     shutil.rmtree(place.clone / ".git")
     place.call("fractal dev tries", "help_is").sentence("can't be cloned")
     expect(not any(place.temporary.iterdir()), "no temporary file")

@@ -1,5 +1,5 @@
-"""Tries of the instruction set, held against GNU binutils and qemu: tasks on the built program leave what a process of
-Linux leaves that runs the same bytes, and legal words are those that objdump knows."""
+"""Integration tests of the instruction set against GNU binutils and qemu: tasks of the built program leave what a
+process of Linux leaves that runs the same bytes, and legal words are those that objdump knows."""
 from __future__ import annotations
 
 import json
@@ -56,13 +56,13 @@ TILES, CORES = 16, 4
 
 
 def need_emulator() -> None:
-    """Leaves a try out where the emulator or the assembler isn't there."""
+    """Leaves an integration test out if the emulator or the assembler is missing."""
     if not shutil.which(EMULATOR):
         raise Omission(f"it wants {EMULATOR}: Debian's package qemu-user has it")
 
 
 def held_against_the_emulator(place: Place, name: str, programs: Sequence[Program]) -> None:
-    """Holds what programs leave as tasks against what they leave as a process of Linux, word by word."""
+    """Compares what programs leave as tasks with what they leave as a process of Linux, word by word."""
     source = place.root / f"{name}.s"
     source.write_text(text_of(programs))
     sources = [source_at(source)]
@@ -124,8 +124,8 @@ def words_of_each_kind(chance: random.Random) -> list[int]:
 
 
 def is_told_otherwise(word: int) -> bool:
-    """Whether objdump tells something else of a word than the manual: a FENCE with fields that have no meaning yet,
-    which a machine ignores, or a shift by 32 or more, which machines of 64 bits have."""
+    """Whether objdump prints something else for a word than the manual: for a FENCE with fields that have no meaning
+    yet, which a machine ignores, or a shift by 32 or more, which machines of 64 bits have."""
     return word & 0x707F == 0x0F or word & 0x7F == 0x13 and word & 0x3000 == 0x1000 and word >> 25 & 1 == 1
 
 

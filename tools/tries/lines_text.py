@@ -1,4 +1,4 @@
-"""Lines as the second program tells them, put together one after another for tries."""
+"""Event logs as `fractal_watch` prints them, put together line by line for integration tests."""
 from __future__ import annotations
 
 import json
@@ -37,7 +37,7 @@ class Words:
 
 
 class LinesText:
-    """Lines as the second program tells them. Loads and stores are of words, and each store is of 9 unless told. The
+    """An event log as `fractal_watch` prints it. Loads and stores are of words, and each store is of 9 by default. The
     image has the tasks of each tile at places that lead there, since a task's place is its hint."""
 
     def __init__(self, timestamps: Sequence[int], where: Sequence[int], **settings: Any) -> None:
@@ -72,7 +72,7 @@ class LinesText:
 
     def store(self, task: int, tile: int, core: int, leg: int, offset: int, back: Sequence[Sequence[int]] = (),
               gone: Sequence[int] = (), value: int = 9) -> None:
-        """Adds a step that stores a word, and takes tasks back where some are told."""
+        """Adds a step that stores a word, and aborts the tasks in `back`."""
         self.memory.take_back([row[0] for row in back])
         change = {"aborted": len(back), "back": back, "gone": gone, "old": self.memory.at(offset)}
         change = {name: it for name, it in change.items() if it or name == "old"}

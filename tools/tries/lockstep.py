@@ -1,4 +1,4 @@
-"""Tries of rounds in lockstep: one shuffle for scripts and for the second program, and the script of a run."""
+"""Integration tests of rounds in lockstep: one shuffle for scripts and for `fractal_watch`, and the script of a run."""
 from __future__ import annotations
 
 import json
@@ -14,7 +14,7 @@ Line = Dict[str, Any]
 
 
 def told_lines(place: Place, image: bytes, *words: str, settings: Sequence[str] = SETTINGS) -> List[Line]:
-    """What the second program tells, without the head."""
+    """The event log of a run, without the head."""
     answer = place.call("fractal", "watch", *words, *settings, stdin=image)
     return [json.loads(line) for line in answer.output.splitlines()][1:]
 

@@ -31,7 +31,7 @@ STUB_BUILD = """cat >/dev/null; mkdir -p out; cp '{}'/"${{PWD##*/}}"/out/"${{PWD
 
 
 def build(place: Place) -> None:
-    """Builds both programs in the clone, by a toolchain that hands out those that are there."""
+    """Builds both programs in the clone, with a toolchain that copies existing ones."""
     need_built(PROGRAM, SECOND_PROGRAM)
     place.stub_tool("rt", STUB_BUILD.format(PROGRAM.parents[2]))
     expect(place.call("fractal", "prove").status == 0, "a build")
@@ -232,7 +232,8 @@ def shells_are_helped(place: Place) -> None:
 
 
 def exercises_are_judged(place: Place) -> None:
-    """the answer to each exercise is right, what it begins with is wrong, and other files are told in a sentence"""
+    """the answer to each exercise is right, the one it begins with is wrong, and other files are refused in a
+    sentence"""
     place.needs_program()
     place.needs_second_program()
     exercise, folder = "fractal exercise", place.clone / "examples" / "exercises"
@@ -261,7 +262,7 @@ def exercises_are_judged(place: Place) -> None:
 
 
 def wrong_files(place: Place, exercise: str) -> None:
-    """Holds wrong journals and scripts to be told so, with why."""
+    """Expects wrong journals and scripts to be judged wrong, with the reason."""
     stepped = "dispatch 0\ndispatch 1\nstep 1 0\nstep 0 0\nstep 0 0\n"
     for name, text, part in (
             ("journal", "1 0.0 1 0\n2 1.2 2 0\n", "line 2: the timestamp"),
@@ -284,7 +285,7 @@ def wrong_files(place: Place, exercise: str) -> None:
 
 
 def own_exercises(place: Place, exercise: str) -> None:
-    """Holds an exercise of one's own to be judged by its file `wanted`."""
+    """Expects an exercise of your own to be judged by its file `wanted`."""
     folder, mine = place.clone / "examples" / "exercises", place.root / "mine"
     shutil.copytree(folder / "abort", mine)
     right = str(folder / "answers" / "abort")

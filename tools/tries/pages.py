@@ -1,4 +1,5 @@
-"""Tries of ./fractal show: what a browser shows of a run is held against the reader of lines, which knows no page."""
+"""Integration tests of ./fractal show: what a browser shows of a run is compared with the reader of event logs, which
+doesn't use the page."""
 from __future__ import annotations
 
 import html.parser
@@ -82,7 +83,7 @@ class Body(html.parser.HTMLParser):
 
 
 def browser() -> str:
-    """A browser that is installed; the try is left out where there is none."""
+    """An installed browser; without one the test is left out."""
     for name in BROWSERS:
         if (found := shutil.which(name)) is not None:
             return found
@@ -90,7 +91,7 @@ def browser() -> str:
 
 
 def open_page(place: Place, page: Union[str, pathlib.Path], act: object = None) -> dict[str, Optional[str]]:
-    """The attributes of a page's body, once a browser has opened it, at an act if one is told."""
+    """The attributes of a page's body, once a browser has opened it, at an act if one is given."""
     url = pathlib.Path(page).as_uri() + ("" if act is None else f"#{act}")
     # The browser's sandbox isn't for root.
     words = ["--no-sandbox"] if os.getuid() == 0 else []
@@ -121,7 +122,7 @@ def seen_on(place: Place, page: bytes, script: str) -> Any:
 
 
 def walk_page(place: Place, page: bytes, lines: str, first: int) -> None:
-    """Holds each act of a page against the reader, on the way forwards and on the way back."""
+    """Compares each act of a page with the reader, forwards and backwards."""
     forwards, back = seen_on(place, page, WALK)
     compare(lines, first, forwards)
     expect(forwards == back, f"the same of {lines} on the way back")
@@ -165,7 +166,7 @@ def page_state(machine: Machine, passed: Totals) -> PageState:
 
 
 def page_states(lines: str) -> list[PageState]:
-    """The same behind the opening and behind each act of a text."""
+    """What a page has to show after the opening and after each act of an event log."""
     found: list[PageState] = []
     passed = Totals()
     with open_lines(lines) as watched:
@@ -178,7 +179,7 @@ def page_states(lines: str) -> list[PageState]:
 
 
 def compare(lines: str, first: int, seen: Sequence[Any]) -> None:
-    """Holds what a browser showed behind each act from the first on against the reader."""
+    """Compares what a browser showed after each act, from the first on, with the reader."""
     wanted = page_states(lines)[first:]
     expect(len(seen) == len(wanted), f"{len(wanted)} acts of {lines}", len(seen))
     for (*shown_there, words, entries), ((*told, commits), memory) in zip(seen, wanted):
@@ -193,7 +194,7 @@ def compare(lines: str, first: int, seen: Sequence[Any]) -> None:
 
 
 def watched_lines(place: Place, words: Sequence[str], given: bytes, name: str) -> str:
-    """Writes what `./fractal watch` tells to a file."""
+    """Writes what `./fractal watch` prints to a file."""
     path = place.root / name
     answer = place.call("fractal", "watch", *words, stdin=given)
     path.write_bytes(answer.output)
@@ -242,7 +243,8 @@ def runs_are_shown(place: Place) -> None:
 
 
 def page_tells_orders(place: Place) -> None:
-    """which of two tasks comes first, and why, is told as the tools tell it, also on a page that begins within a run"""
+    """which of two tasks comes first, and why, is shown as the tools print it, also on a page that begins within a
+    run"""
     place.needs_second_program()
     browser()
     for name in ("schedules/domains_by_hand", "schedules/by_hand"):
@@ -256,7 +258,7 @@ def page_tells_orders(place: Place) -> None:
 
 
 def orders_of(lines: str, listing: Listing) -> list[list[str]]:
-    """Behind the opening and behind each act of a text, what each task is and which of each two comes first."""
+    """After the opening and after each act of an event log, what each task is and which of each two comes first."""
     found: list[list[str]] = []
     with open_lines(lines) as watched:
         for told in watched:
@@ -312,7 +314,7 @@ def long_runs_want_a_range(place: Place) -> None:
 
 
 def other_texts_are_refused(place: Place) -> None:
-    """a text that isn't whole lines of the second program, other listings and bad words are told in a sentence"""
+    """a text that isn't a whole event log, other listings and invalid arguments are refused in a sentence"""
     show = "fractal show"
     lines, listing = stored_page(place)
     text = pathlib.Path(lines).read_bytes()

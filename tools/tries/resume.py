@@ -38,7 +38,7 @@ def pieces_join_to_one_run(place: Place) -> None:
 
 
 def uncut_runs_are_told(place: Place) -> None:
-    """where a run can't be cut the fault is told, with the next count of commits at which it can"""
+    """if a run can't be cut the fault is reported, with the next count of commits at which it can"""
     place.needs_program()
     answer = place.call("fractal resume", example(place, "nested"), place.root / "pieces", "--every", "2")
     expect(answer.status == 0, "a joined report", answer)
@@ -47,7 +47,7 @@ def uncut_runs_are_told(place: Place) -> None:
 
 
 def interrupted_pieces_go_on(place: Place) -> None:
-    """an interrupt leaves whole pieces, the same words go on with them, and other words are refused"""
+    """an interrupt leaves whole pieces, the same arguments go on with them, and others are refused"""
     place.needs_program()
     image, folder = written_walk(place), place.root / "pieces"
     words = ("fractal resume", image, folder, "--every", "50")
@@ -139,7 +139,7 @@ def ended_calls_leave_no_program(place: Place) -> None:
 
 
 def resume_refuses_bad_words(place: Place) -> None:
-    """bad words, images and folders get one sentence, and no folder comes of them"""
+    """invalid arguments, images and folders get one sentence, and no folder is made"""
     place.needs_program()
     image, folder = example(place, "hello"), place.root / "pieces"
     other = place.root / "other"

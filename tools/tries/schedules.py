@@ -90,7 +90,8 @@ def schedules_are_summed_up(place: Place) -> None:
 
 
 def other_outputs_are_refused(place: Place) -> None:
-    """an output that isn't a script's, a script that is none, bad words and missing files are told in a sentence"""
+    """an output that isn't a script's, an invalid script, invalid arguments and missing files are refused in a
+    sentence"""
     script, said = schedule(place, "conflict")
     name = "fractal figures --script"
     one_sentence_each([
@@ -143,7 +144,7 @@ def inputs_are_kept(place: Place) -> None:
 
 
 def odd_names_are_borne(place: Place) -> None:
-    """a name with bytes that are no text, or with controls, stands escaped in tables, CSV and a well-formed plot"""
+    """a name with bytes that aren't text, or with controls, is escaped in tables, CSV and a well-formed plot"""
     script, said = schedule(place, "conflict")
     other = write_file(place, "said\udcff\x01", pathlib.Path(said).read_bytes())
     answer = place.call("fractal figures", "--script", script, said, other, "--csv", "t.csv", "--plot", "p.svg")
@@ -155,7 +156,7 @@ def odd_names_are_borne(place: Place) -> None:
 
 
 def odd_stored_words_are_told(place: Place) -> None:
-    """stored words or outputs that are none are told in a sentence by all that play them"""
+    """invalid stored words or outputs are reported in a sentence by all that play them"""
     place.stub(place.program, "cat >/dev/null\n")
     place.stub(place.second_program, "cat >/dev/null; echo '[1'\n")
     answer = place.call("fractal test", "answers")
@@ -197,7 +198,7 @@ def lockstep_is_written(place: Place) -> None:
 
 
 def images_are_generated(place: Place) -> None:
-    """a generated image runs as the load of the same words does, and other words are refused"""
+    """a generated image runs as the load with the same arguments does, and other arguments are refused"""
     place.needs_program()
     for words in (("walk", "7", "200"), ("nest", "0", "8"), ("walk", "1", "1")):
         image = place.call("fractal generate", *words).output
@@ -251,7 +252,7 @@ def studies_are_made(place: Place) -> None:
 
 
 def studies_have_the_acts_of_schedules(place: Place) -> None:
-    """a study of a course in lockstep counts what the first program says to the script of the same acts"""
+    """a study in lockstep counts the replies of `fractal_sim` to the script of the same acts"""
     place.needs_program()
     place.needs_second_program()
     image = write_file(place, "image", place.call("fractal generate", "nest", "0", "30").output)
@@ -312,7 +313,7 @@ All of it:
 
 
 def pages_are_made_again(place: Place) -> None:
-    """the tables of a page are held against what its commands tell, and replaced where that is asked for"""
+    """the tables of a page are compared with what their commands print, and replaced if that is asked for"""
     place.needs_second_program()
     path = write_file(place, "page.md", PAGE.encode())
     place.call("fractal study", "--page", path).sentence("1 of 1 tables differ")
@@ -335,7 +336,8 @@ def pages_are_made_again(place: Place) -> None:
 
 
 def odd_pages_are_refused(place: Place) -> None:
-    """a page whose lines can't be called, that isn't text or that can't be written is told, and nothing is changed"""
+    """a page whose lines can't be called, that isn't text or that can't be written is refused, and nothing is
+    changed"""
     study, block = "fractal study", "```\n{}\n```\n\n| A |\n"
     other = place.root / "other"
     for line, part in (("./fractal lockstep '1 1 1", "quotation marks"), ("./fractal lockstep 1\0", "byte 0"),
@@ -449,7 +451,8 @@ def refused_allocations_are_answered(place: Place) -> None:
 
 
 def benches_are_told(place: Place) -> None:
-    """the bench tells its words, refuses others, wants the built program, and tells what is worse in a second file"""
+    """the bench lists its arguments, refuses others, needs the built program, and lists what is worse in a second
+    file"""
     expect(b"--lockstep" in place.call("bench/run", "--help").output, "a help page")
     before = place.clone / "bench" / "before"
     old, new, head = str(before / "version_1.csv"), str(before / "version_2.csv"), b"table,case,figure,value\n"
@@ -478,7 +481,8 @@ WATCHING = """cat >/dev/null; printf '{{"at":1,"back":{back}}}\\n{{"end":"normal
 
 
 def programs_are_held_against_each_other(place: Place) -> None:
-    """two programs that say the same are told so, by kinds; at the first difference both answers are kept"""
+    """two programs that answer the same are reported as equal, by kinds; at the first difference both answers are
+    kept"""
     one = str(place.stub(place.root / "one", "cat >/dev/null; echo fault usage; exit 1\n"))
     lying = "cat >/dev/null; echo fault usage; [ $1 = trace ]; exit $((2 - $?))\n"
     other = str(place.stub(place.root / "other", lying))

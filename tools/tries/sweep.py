@@ -95,7 +95,7 @@ def shards_are_joined(place: Place) -> None:
 
 
 def progress_is_shown(place: Place) -> None:
-    """on a terminal one line tells how many runs are done"""
+    """on a terminal one line shows how many runs are done"""
     place.needs_program()
     answer = place.on_terminal("fractal sweep", files_of(place, "trap")[0], "--commits", "1..5")
     answer.tells("1 of 5 runs, 1 with", "5 of 5 runs, 5 with")
@@ -103,7 +103,7 @@ def progress_is_shown(place: Place) -> None:
 
 
 def sweeps_keep_their_own_files(place: Place) -> None:
-    """what a sweep reads isn't written over, nor one file written twice, and names that are no text are escaped"""
+    """what a sweep reads isn't written over, nor one file written twice, and names that aren't text are escaped"""
     report = "cat >/dev/null; printf '\\n1 0.0 1 0\\noutput -\\nend normal\\n'\n"
     program = place.stub(place.root / "program", report)
     image = place.root / os.fsdecode(b"\xff.bin")
@@ -137,7 +137,7 @@ def odd_rows_are_plotted_or_refused(place: Place) -> None:
 
 
 def sweep_refuses_bad_words(place: Place) -> None:
-    """bad words, values outside an option's range and missing files are told in a sentence"""
+    """invalid arguments, values outside an option's range and missing files are refused in a sentence"""
     place.nothing_answers()
     image, report = files_of(place, "hello")
     sweep = "fractal sweep"
@@ -172,7 +172,7 @@ def sweep_refuses_bad_words(place: Place) -> None:
 
 
 def interrupted_sweeps_leave_nothing(place: Place) -> None:
-    """a sweep that is interrupted says so, ends its runs, leaves no file, and tells what was finished"""
+    """a sweep that is interrupted says so, ends its runs, leaves no file, and prints what was finished"""
     mark = place.root / "started"
     image = files_of(place, "hello")[0]
     words = ["fractal sweep", image, "--jobs", "2", "--budget", "1..9", "--output", "x.csv"]

@@ -134,7 +134,8 @@ SENTENCES = {
 
 
 def watch_words_are_told(place: Place) -> None:
-    """wrong words behind `watch` are refused at once, built or not, with the second program's line of a fault"""
+    """invalid arguments after `watch` are refused at once, built or not, with the line of a fault from
+    `fractal_watch`"""
     place.nothing_answers()
     for is_built in (False, True):
         if is_built:
@@ -148,7 +149,7 @@ def watch_words_are_told(place: Place) -> None:
 
 
 def watch_hands_on(place: Place) -> None:
-    """words behind `watch` go to the second program as they are, and output and status are its own"""
+    """arguments after `watch` go to `fractal_watch` as they are, and output and status are its own"""
     place.stub(place.second_program, 'for word in "$@"; do echo "[$word]"; done\nexit 4\n')
     for leading in (["views", "2"], ["memory"]):
         words = [*leading, "lockstep", "5", "--filter", "bloom", "7", "--tiles=3"]
@@ -157,7 +158,7 @@ def watch_hands_on(place: Place) -> None:
 
 
 def random_watch_words_agree(place: Place) -> None:
-    """of 4,000 random calls of `watch` the launcher refuses those that the second program refuses, and no other"""
+    """of 4,000 random calls of `watch` the launcher refuses those that `fractal_watch` refuses, and no others"""
     need_built(SECOND_PROGRAM)
     place.nothing_answers()
     table = Table()
@@ -171,7 +172,7 @@ def random_watch_words_agree(place: Place) -> None:
 
 
 def judgements(place: Place, words: Sequence[str]) -> tuple[bool, bool]:
-    """Whether the launcher and the second program refuse the words; without an image it does no more than that."""
+    """Whether the launcher and `fractal_watch` refuse the arguments; without an image it does no more than that."""
     launched = place.call("fractal", "watch", *words)
     expect((launched.status, launched.output) in ((1, USAGE), (69, b"")), "a refusal, or that rt is missing", launched)
     # The launcher takes a value behind `=` apart, which the program doesn't where an option is that of `watch` alone.
@@ -201,7 +202,8 @@ def random_call(chance: random.Random, table: Table) -> list[str]:
 
 
 def options_of_watch_alone_may_be_words(place: Place) -> None:
-    """an option of `watch` alone, whose values are words, is told, judged, completed and handed on by all tools"""
+    """an option of `watch` alone, whose values aren't numbers, is listed, checked, completed and handed on by all
+    tools"""
     launcher = place.clone / "fractal"
     row = "course-option|taste|sweet,sour,salt|sour|how it tastes\n"
     launcher.write_text(launcher.read_text().replace("seed|any|", f"{row}seed|any|"))
@@ -236,7 +238,8 @@ def options_of_watch_alone_may_be_words(place: Place) -> None:
 
 
 def schedules_are_watched(place: Place) -> None:
-    """each schedule is told with the replies of `steps`, and a refused script's line is told with what is wrong"""
+    """each schedule is logged with the replies of `steps`, and a refused script's line is reported with what is
+    wrong"""
     place.needs_second_program()
     for name in SCHEDULES:
         folder = place.clone / "examples" / name
@@ -254,7 +257,7 @@ def schedules_are_watched(place: Place) -> None:
 
 
 def memories_are_told(place: Place) -> None:
-    """`memory` tells all that a schedule or a run leaves, as windows of the first program do, and nothing else"""
+    """`memory` prints all that a schedule or a run leaves, as windows of `fractal_sim` do, and nothing else"""
     place.needs_program()
     place.needs_second_program()
     for name in SCHEDULES:
@@ -342,7 +345,7 @@ def schedules_are_typed(place: Place) -> None:
 
 
 def pages_are_opened(place: Place) -> None:
-    """`open` writes the page of the acts so far, and tells where a browser shows this act"""
+    """`open` writes the page of the acts so far, and prints where a browser shows this act"""
     place.needs_second_program()
     image = str(place.clone / "examples" / "hello" / "image.bin")
     answer = place.call("fractal console", image, stdin=b"run 2\nopen a.html\nopen nowhere/a.html\n")
@@ -356,7 +359,8 @@ def pages_are_opened(place: Place) -> None:
 
 
 def no_file_is_lost(place: Place) -> None:
-    """the console replaces no image that it plays, and no file by a page but a page; odd names and words are told"""
+    """the console replaces no image that it plays, and no file by a page but a page; odd names and commands are
+    reported"""
     place.needs_second_program()
     folder = place.root / "a folder"
     folder.mkdir()
@@ -379,7 +383,7 @@ def no_file_is_lost(place: Place) -> None:
 
 
 def console_refuses_bad_words(place: Place) -> None:
-    """bad words, other files, a program that is missing and long lines are told in a sentence"""
+    """invalid arguments, other files, a missing program and long lines are refused in a sentence"""
     console, image = "fractal console", str(place.clone / "examples" / "hello" / "image.bin")
     place.stub(place.second_program, "cat >/dev/null; echo nothing\n")
     one_sentence_each([
@@ -406,7 +410,7 @@ def console_refuses_bad_words(place: Place) -> None:
 
 
 def consoles_are_interrupted(place: Place) -> None:
-    """at a terminal an interrupt and the end of the input lose no act, and the first is told in a sentence"""
+    """at a terminal an interrupt and the end of the input lose no act, and the first is reported in a sentence"""
     place.needs_second_program()
     image = str(place.clone / "examples" / "hello" / "image.bin")
     saved = place.root / "saved"

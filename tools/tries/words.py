@@ -83,7 +83,7 @@ LONG_ENOUGH = 2
 
 
 def refused_words_are_told(place: Place) -> None:
-    """wrong words are refused at once in a clone that isn't built, and told in a sentence, built or not"""
+    """invalid arguments are refused at once in a clone that isn't built, and in a sentence, built or not"""
     place.nothing_answers()
     for is_built in (False, True):
         if is_built:
@@ -234,7 +234,7 @@ def change(chance: random.Random, words: list[str], table: Table) -> None:
 
 
 def refused_scripts_are_told(place: Place) -> None:
-    """a script's refusal tells the line and what is wrong with it, from a file or a pipe"""
+    """a script's refusal names the line and what is wrong with it, from a file or a pipe"""
     place.needs_program()
     image = (place.clone / "examples" / "pipeline" / "image.bin").read_bytes()
     for line, parts in LINES:
@@ -252,7 +252,7 @@ def refused_scripts_are_told(place: Place) -> None:
 
 
 def refused_reports_are_told(place: Place) -> None:
-    """a report's refusal tells the line, and what the grammar or the run wants there"""
+    """a report's refusal names the line, and what the grammar or the run wants there"""
     place.needs_program()
     folder = place.clone / "examples" / "nested"
     image, report = (folder / "image.bin").read_bytes(), (folder / "report").read_bytes()
@@ -325,7 +325,7 @@ def refusals_want_both(place: Place) -> None:
 
 
 def each_word_is_told(place: Place) -> None:
-    """`help WORD` tells how each word is called, and a word that isn't known is refused in a sentence"""
+    """`help COMMAND` shows how each command is called, and an unknown one is refused in a sentence"""
     table = Table()
     for word in (*table.commands, *table.own):
         answer = place.call("fractal", "help", word)
@@ -357,7 +357,7 @@ def scripts_are_played_beside_their_lines(place: Place) -> None:
 
 
 def play_refuses_bad_words(place: Place) -> None:
-    """a line that is none is told by its number in the file, and so are bad words and missing files"""
+    """an invalid line is reported by its number in the file, and so are invalid arguments and missing files"""
     folder = place.root / "mine"
     folder.mkdir()
     play, image = "fractal play", str(place.clone / "examples" / "pipeline" / "image.bin")
