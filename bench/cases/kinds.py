@@ -1,5 +1,5 @@
-"""What came of the calls, counted by kind: how runs ended, what acts were answered, what was aborted, which
-instructions the tasks executed. Each kind is there from the start, so that one that never came shows as 0."""
+"""The outcomes of the calls, counted by kind: how runs ended, how acts were answered, what was aborted, which
+instructions the tasks executed. Each kind is counted from the start, so that one that never occurred shows as 0."""
 from __future__ import annotations
 
 import collections
@@ -68,7 +68,7 @@ def missing_kinds(counts: Counts) -> list[str]:
 
 
 def count(counts: Counts, call: Call, said: bytes) -> None:
-    """Adds what came of one call."""
+    """Counts the outcome of one call."""
     command = call.command if call.command in counts["Calls"] else "other words"
     counts["Calls"][command] += 1
     for name in OPTIONS:
@@ -189,7 +189,7 @@ def count_steps(counts: Counts, call: Call, text: str) -> None:
 
 
 def words_played(data: bytes) -> list[str]:
-    """The word of each act of the script that stands behind an image."""
+    """The first word of each act in the script that follows an image."""
     script = data[len(image_bytes(read_image(data, "image"))):]
     return [line.partition(b" ")[0].decode("ascii", "replace") for line in script.split(b"\n")]
 
