@@ -9,8 +9,6 @@ from yotarimu.common.pages import FOLDERS, command_names, declared_in, entries_o
 from yotarimu.figures.tasks import SPREADS
 from yotarimu.programs.table import Table
 
-# Options that a page describes in a sentence of their own.
-IN_PROSE = {"study": ("page", "write")}
 COMMANDS = [*command_names(), *(f"{folder} {name}" for folder in FOLDERS for name in command_names(folder))]
 
 
@@ -46,7 +44,7 @@ class Pages(unittest.TestCase):
             page = page_of(name)
             for call in re.findall(rf"\./fractal {name}(?! \w+ --help| --help)\b(.*)", page):
                 used = set(re.findall(r"--([a-z-]+)", call))
-                self.assertLessEqual(used, {*declared_in(page), *known, "output", *IN_PROSE.get(name, ())}, name)
+                self.assertLessEqual(used, {*declared_in(page), *known, "output"}, name)
 
     def test_histograms_are_all_named(self) -> None:
         self.assertIn(f": {', '.join(SPREADS)}", declared_in(page_of("figures"))["histogram"].purpose)

@@ -48,7 +48,7 @@ class MemoryLimits(unittest.TestCase):
         path = pathlib.Path(self.place.name, "stub")
         path.write_text("#!/bin/sh\nulimit -s\n")
         path.chmod(0o755)
-        for stack, wanted in ((memory.LEAST_STACK, b"256\n"), (limits.STACK, b"1024\n")):
+        for stack, wanted in ((memory.LEAST_STACK, b"512\n"), (limits.STACK, b"1024\n")):
             self.assertEqual(limits.answer(path, [], b"", limits.MOST, stack), (0, wanted))
 
     def test_too_little_is_said(self) -> None:

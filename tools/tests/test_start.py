@@ -52,6 +52,18 @@ class Starts(unittest.TestCase):
                 self.assertEqual((done.returncode, done.stderr), (0, ""))
                 self.assertIn(part, done.stdout)
 
+    def test_too_little_address_space_is_said(self) -> None:
+        with tempfile.TemporaryDirectory() as folder:
+            program = pathlib.Path(folder, "crates", "fractal_sim", "out", "fractal_sim")
+            program.parent.mkdir(parents=True)
+            program.write_text("#!/bin/sh\nkill -s SEGV $$\n")
+            program.chmod(0o755)
+            shutil.copy(LAUNCHER, folder)
+            words = ["/bin/sh", "-c", 'ulimit -v 4000000 && exec "$0" run', f"{folder}/fractal"]
+            done = subprocess.run(words, capture_output=True, text=True, stdin=subprocess.DEVNULL)
+        self.assertEqual((done.returncode, done.stdout), (139, ""))
+        self.assertIn("can't be loaded or run in 4000000 KiB of address space (ulimit -v): status 139.", done.stderr)
+
     def test_checks_of_python_want_python(self) -> None:
         if not CHECKS.is_file():
             self.skipTest("an archive has no such script")

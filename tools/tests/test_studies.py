@@ -131,7 +131,6 @@ class Grids(unittest.TestCase):
         grid = grid_options(Table())
         cases: list[tuple[Dict[str, str], Dict[str, Optional[str]], str]] = [
             ({"quantum": "4"}, {"time": "instructions", "machines": None}, "quantum of 1"),
-            ({}, {"time": "hours", "machines": None}, "rounds or instructions"),
             ({"tiles": "4"}, {"time": None, "machines": "1x1"}, "neither --tiles nor --cores"),
             ({}, {"time": None, "machines": "4"}, "TILESxCORES")]
         for texts, seen, told in cases:

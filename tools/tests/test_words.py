@@ -4,7 +4,7 @@ from __future__ import annotations
 import unittest
 
 from yotarimu.common.outcome import Refusal
-from yotarimu.common.words import Words, need_number, need_words, number_in, take_option
+from yotarimu.common.words import Words, need_number, number_in, take_option
 
 WORDS = Words("sweep", ["csv", "jobs"], ["check"])
 
@@ -62,8 +62,12 @@ class WordsTest(unittest.TestCase):
 
     def test_one_option_is_taken_and_the_rest_is_left(self) -> None:
         self.assertEqual(take_option(["--a", "1", "b", "--c", "2"], "--a"), ("1", ["b", "--c", "2"]))
-        with self.assertRaisesRegex(Refusal, "--c"):
-            need_words(["b", "--c"], 1, "draw", "one")
+
+    def test_options_of_another_mode_are_refused(self) -> None:
+        given = WORDS.read(["--csv", "x", "--check"])
+        given.need_only(("csv", "check"), "`run`")
+        with self.assertRaisesRegex(Refusal, "^`make` takes no --check; ./fractal sweep --help has more.$"):
+            given.need_only(("csv",), "`make`")
 
 
 class Numbers(unittest.TestCase):

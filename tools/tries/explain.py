@@ -166,7 +166,7 @@ def explanations_are_for_programs(place: Place) -> None:
     expect("depth 2" in json.loads(answer.output)["meaning"], "a fault in words", answer)
     one_sentence_each([
         (place.call("fractal explain", image, "-", "--csv", stdin=b"fault nested 2\n"), ["has no tasks", "depth 2"]),
-        (place.call("fractal explain", image, report, "--csv", "--json"), ["--picture, --json, --csv and --registers"]),
+        (place.call("fractal explain", image, report, "--csv", "--json"), ["one of --picture, --json, --csv, --registers"]),
     ])
 
 
@@ -219,7 +219,8 @@ def one_task_wants_right_words(place: Place) -> None:
         (place.call(explain, image, report, "--task", "7.0", "--tiles", "17"), ["--tiles takes 1 to 16"]),
         (place.call(explain, image, report, "--task", "7.0", "--commits", "7"), ["--commits has no place"]),
         (place.call(explain, image, report, "--task", "7.0", "--sim", "nowhere"), ["isn't built"]),
-        (place.call(explain, image, report, "--tiles", "4"), ["IMAGE REPORT"]),
+        (place.call(explain, image, report, "--tiles", "4"), ["unknown option --tiles"]),
+        (place.call(explain, image, report, "--sim", "x"), ["without --task it takes no --sim"]),
         (place.call(explain, files_of(place, "hello")[0], report, "--task", "7.0"), ["isn't a report of a run of the"]),
     ])
 
@@ -232,7 +233,7 @@ def explain_refuses_bad_files(place: Place) -> None:
     one_sentence_each([
         (place.call(explain), ["IMAGE REPORT"]),
         (place.call(explain, image), ["IMAGE REPORT"]),
-        (place.call(explain, image, report, "--pictures"), ["IMAGE REPORT"]),
+        (place.call(explain, image, report, "--pictures"), ["unknown option --pictures; did you mean --picture?"]),
         (place.call(explain, "nowhere", report), ["nowhere", "no such file"]),
         (place.call(explain, image, "nowhere"), ["nowhere", "no such file"]),
         (place.call(explain, str(other), report), ["is a directory"]),

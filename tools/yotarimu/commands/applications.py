@@ -13,17 +13,18 @@ usage: ./fractal applications list
 not exist. `run` makes them elsewhere, runs the image with the program's options, and has the report checked.
 
 `check` takes all applications if none is named, and compares the memory that the run leaves with what a plain program
-finds. Then it runs the image with each of the NUMBERS of workers (default 0), and has each report checked.
+finds. Then it runs the image with each of the NUMBERS of workers, and has each report checked.
 
 `table` plays them in lockstep, and prints what `./fractal study` prints. ARGUMENT is one of that: options of the
 program, --columns, --rounds, --csv and --jobs.
 
-  --size SIZE   small, medium, large or a number; for `check` several with commas between (default small)
-  --seed N      makes other input (0 to 4,294,967,295; default 1)
-  --clang       compiles by clang in place of gcc
-  --both        compiles by gcc, and then by clang
-  --sim FILE    a built fractal_sim in place of the one that answers here
-  --watch FILE  a built fractal_watch in place of the one that answers here
+  --size SIZE        small, medium, large or a number; for `check` several with commas between (default small)
+  --seed N           makes other input (0 to 4,294,967,295; default 1)
+  --clang            compiles by clang in place of gcc
+  --both             compiles by gcc, and then by clang
+  --workers NUMBERS  numbers of host threads, with commas between (default 0)
+  --sim FILE         a built fractal_sim in place of the one that answers here
+  --watch FILE       a built fractal_watch in place of the one that answers here
 """
 from __future__ import annotations
 
@@ -32,23 +33,25 @@ import dataclasses
 import os
 import pathlib
 import tempfile
-from typing import Callable, Iterator, Mapping, Optional, Sequence
+from typing import Callable, Iterable, Iterator, Mapping, Optional, Sequence
 
 from yotarimu.applications.catalogue import APPLICATIONS
 from yotarimu.applications.image import IMAGE, Case, made_elsewhere, make, need_tools, whole_folder
 from yotarimu.applications.runs import check, run
-from yotarimu.applications.words import Words, cases_of, read_words
+from yotarimu.applications.words import Asked, asked_in, cases_of
 from yotarimu.commands import study
 from yotarimu.common.outcome import Refusal
 from yotarimu.common.tables import table
-from yotarimu.common.words import take_option
+from yotarimu.common.words import Words
 from yotarimu.courses.grid import program_options, values_of
 from yotarimu.images.compiler import told_by
 from yotarimu.programs.calls import calls_at
 from yotarimu.programs.program import SECOND
 from yotarimu.programs.table import Table
 
+NAME = "applications"
 HELP = "./fractal applications --help says more"
+MADE = ("size", "seed", "clang")
 
 
 def main(words: Sequence[str]) -> Optional[int]:
@@ -57,6 +60,13 @@ def main(words: Sequence[str]) -> Optional[int]:
         told = f", and not `{words[0]}`" if words else ""
         raise Refusal(f"it wants one of {', '.join(DOES)}{told}; {HELP}.")
     return DOES[words[0]](list(words[1:]))
+
+
+def read_words(words: list[str], mode: str, names: Sequence[str], options: Iterable[str] = ()) -> Asked:
+    """What a call asks for, by these options of its own and others."""
+    given = Words(NAME, options, page=__doc__).read(words)
+    given.need_only([*names, *options], f"`{mode}`")
+    return asked_in(given)
 
 
 def list_all(words: list[str]) -> None:
@@ -70,8 +80,7 @@ def list_all(words: list[str]) -> None:
 
 def make_one(words: list[str]) -> None:
     """Writes an application with its input to a folder."""
-    asked = read_words(words)
-    need_no_more(asked)
+    asked = read_words(words, "make", MADE)
     if not 1 <= len(asked.names) <= 2:
         raise Refusal(f"`make` takes a NAME and a FOLDER; {HELP}.")
     case = one_case(dataclasses.replace(asked, names=asked.names[:1]), "make")
@@ -84,11 +93,11 @@ def make_one(words: list[str]) -> None:
 
 def run_one(words: list[str]) -> None:
     """Runs an application, with options of the program."""
-    asked = read_words(words)
+    known = Table().options
+    asked = read_words(words, "run", (*MADE, "sim"), known)
     case = one_case(asked, "run")
-    options, rest = program_options(asked.rest, Table().options)
-    need_no_more(dataclasses.replace(asked, rest=rest))
-    calls = calls_at(asked.sim)
+    options = program_options(asked.values, known)
+    calls = calls_at(asked.values["sim"])
     made, _ = made_elsewhere(case, asked.compilers[0])
     told = run(calls, made, options)
     print(f"{case.words_text}: {told.commits:,} tasks took their turns in {told.seconds:.1f} s; `check` accepts the "
@@ -97,12 +106,10 @@ def run_one(words: list[str]) -> None:
 
 def check_all(words: list[str]) -> None:
     """Checks what each application leaves, and its reports with workers."""
-    asked = read_words(words)
-    workers, rest = take_option(asked.rest, "--workers")
-    numbers = values_of(Table().options["workers"], "0" if workers is None else workers)
-    need_no_more(dataclasses.replace(asked, rest=rest))
+    asked = read_words(words, "check", (*MADE, "both", "workers", "sim", "watch"))
+    numbers = values_of(Table().options["workers"], asked.values["workers"] or "0")
     cases = cases_of(asked)
-    calls, second = calls_at(asked.sim), calls_at(asked.watch, SECOND)
+    calls, second = calls_at(asked.values["sim"]), calls_at(asked.values["watch"], SECOND)
     for case in cases:
         for compiler in asked.compilers:
             made, problem = made_elsewhere(case, compiler)
@@ -114,12 +121,13 @@ def check_all(words: list[str]) -> None:
 
 def table_of_all(words: list[str]) -> Optional[int]:
     """Plays each application in lockstep, and prints its figures: a study whose images have the applications' names."""
-    asked = read_words(words)
-    path, rest = take_option(asked.rest, "--csv")
-    if "," in asked.size or len(asked.compilers) > 1 or any(word.startswith("--plot") for word in rest):
-        raise Refusal(f"`table` takes one size and one compiler, and draws no plot; {HELP}.")
-    files = {"watch": asked.watch, "csv": path}
-    further = [*rest, *(f"--{name}={os.path.abspath(file)}" for name, file in files.items() if file is not None)]
+    given = Words(NAME, ["csv"], page=__doc__).read_known(words)
+    given.need_only((*MADE, "watch", "csv"), "`table`")
+    asked = asked_in(given)
+    if "," in asked.size or any(word.startswith("--plot") for word in asked.rest):
+        raise Refusal(f"`table` takes one size, and draws no plot; {HELP}.")
+    further = [*asked.rest, *(f"--{name}={os.path.abspath(file)}" for name in ("watch", "csv")
+                              if (file := asked.values[name]) is not None)]
     with tempfile.TemporaryDirectory() as folder:
         names = [case.application.name for case in cases_of(asked)]
         for case in cases_of(asked):
@@ -140,17 +148,11 @@ def working_folder(folder: str) -> Iterator[None]:
         os.chdir(before)
 
 
-def one_case(asked: Words, word: str) -> Case:
+def one_case(asked: Asked, word: str) -> Case:
     """The case that a call is about."""
-    if len(asked.names) != 1 or "," in asked.size or len(asked.compilers) > 1:
-        raise Refusal(f"`{word}` takes one NAME, one size and one compiler; {HELP}.")
+    if len(asked.names) != 1 or "," in asked.size:
+        raise Refusal(f"`{word}` takes one NAME and one size; {HELP}.")
     return cases_of(asked)[0]
-
-
-def need_no_more(asked: Words) -> None:
-    """Holds that no option is left."""
-    if asked.rest:
-        raise Refusal(f"`{asked.rest[0]}` isn't known; {HELP}.")
 
 
 DOES: Mapping[str, Callable[[list[str]], Optional[int]]] = {

@@ -35,27 +35,22 @@ from yotarimu.applications.catalogue import APPLICATIONS
 from yotarimu.applications.words import need_application
 from yotarimu.common.crew import Crew
 from yotarimu.common.files import write_whole
-from yotarimu.common.outcome import Refusal
-from yotarimu.common.words import need_number, take_option
+from yotarimu.common.words import GivenWords, Words
 from yotarimu.courses.evaluation import SIZES, Maker, Plan, Task, plans, task_named, tasks_of
 from yotarimu.courses.evaluation_page import FIGURES, PAGE, ROWS, TABLES, files_of
 from yotarimu.courses.row_pictures import CONVERTER
 
 SHARDS = "shards"
 SEEDS = "0..9"
-MOST_JOBS = 1_024
-HELP = "./fractal evaluation --help has more."
 
 
 class Asked(NamedTuple):
-    """What a call asks for: the size, the seeds, the applications, how many shards at once, the program, and the other
-    words."""
+    """What a call asks for: the size, the seeds, the applications, how many shards at once, and the program."""
     size: str
     seeds: str
     applications: Sequence[str]
     jobs: int
     watch: Optional[str]
-    rest: Sequence[str]
 
     def maker(self) -> Maker:
         """What makes its shards."""
@@ -66,25 +61,12 @@ class Asked(NamedTuple):
         return plans(self.size, self.seeds, self.applications)
 
 
-def read_words(words: Sequence[str]) -> Asked:
+def asked_in(given: GivenWords) -> Asked:
     """What the words ask for."""
-    size, rest = take_option(words, "--size")
-    seeds, rest = take_option(rest, "--seeds")
-    names, rest = take_option(rest, "--applications")
-    jobs, rest = take_option(rest, "--jobs")
-    watch, rest = take_option(rest, "--watch")
-    if size not in (None, *SIZES):
-        raise Refusal(f"--size must be {', '.join(SIZES)}, not {size}.")
+    told = given.values
+    names = told["applications"]
     chosen = [need_application(name).name for name in names.split(",")] if names else list(APPLICATIONS)
-    count = need_number("--jobs", jobs, 1, MOST_JOBS) if jobs else 1
-    return Asked(size or SIZES[0], seeds or SEEDS, chosen, count, watch, rest)
-
-
-def need_folder(words: Sequence[str]) -> pathlib.Path:
-    """The folder that is named alone."""
-    if len(words) != 1 or words[0].startswith("-"):
-        raise Refusal(f"it needs a FOLDER; {HELP}")
-    return pathlib.Path(words[0])
+    return Asked(told["size"] or SIZES[0], told["seeds"] or SEEDS, chosen, given.number("jobs"), told["watch"])
 
 
 def make_shards(asked: Asked, folder: pathlib.Path) -> None:
@@ -116,18 +98,19 @@ def finish(asked: Asked, folder: pathlib.Path) -> None:
 
 def main(words: list[str]) -> None:
     """Does what the words of the call ask for."""
-    asked = read_words(words)
-    if "--list" in asked.rest:
+    given = Words("evaluation", page=__doc__).read(words)
+    asked, shard, finished = asked_in(given), given.values["shard"], given.values["finish"]
+    if "list" in given.flags:
+        given.need("no FOLDER beside --list", 0)
         print(*(task.name for task in tasks_of(asked.plans())), sep="\n")
-        return
-    name, rest = take_option(asked.rest, "--shard")
-    if name is not None:
-        maker, path = asked.maker(), need_folder(rest)
-        maker.make(task_named(name, maker.plans), path)
-        return
-    if "--finish" in rest:
-        finish(asked, need_folder([word for word in rest if word != "--finish"]))
-        return
-    folder = need_folder(rest)
-    make_shards(asked, folder)
-    finish(asked, folder)
+    elif shard is not None:
+        path, = given.need("a FILE for the shard", 1)
+        maker = asked.maker()
+        maker.make(task_named(shard, maker.plans), pathlib.Path(path))
+    elif finished is not None:
+        given.need("one FOLDER", 0)
+        finish(asked, pathlib.Path(finished))
+    else:
+        folder, = given.need("a FOLDER", 1)
+        make_shards(asked, pathlib.Path(folder))
+        finish(asked, pathlib.Path(folder))

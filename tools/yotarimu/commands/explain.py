@@ -36,11 +36,12 @@ from __future__ import annotations
 import json
 import re
 import sys
+from collections.abc import Mapping
 from typing import NamedTuple, Optional, Union
 
 from yotarimu.common.files import read_bytes
 from yotarimu.common.outcome import Refusal
-from yotarimu.common.words import Words, take_option
+from yotarimu.common.words import GivenWords, Words
 from yotarimu.courses.grid import program_options
 from yotarimu.courses.schedules import read_replies
 from yotarimu.images.image import Image, read_image
@@ -51,7 +52,7 @@ from yotarimu.lines import taken_tasks
 from yotarimu.pictures import tree
 from yotarimu.pictures.tree import nodes_of
 from yotarimu.programs.calls import Calls, calls_at
-from yotarimu.programs.table import Table
+from yotarimu.programs.table import Option, Table
 from yotarimu.programs.turns import WrittenRun, shown
 from yotarimu.reports import one_task, plain_data, poison
 from yotarimu.reports.explanation import text_of
@@ -84,32 +85,31 @@ class TaskRequest(NamedTuple):
 
 def read_words(words: list[str]) -> Request:
     """What the words ask for; refuses others."""
-    task, words = take_task(words)
-    given = Words("explain", flags=FORMS).read_known(words)
-    unknown = [word for word in given.others if word.startswith("--")]
-    if unknown or len(given.flags) > 1 or not 2 <= len(given.others) <= 3:
-        raise Refusal("it wants IMAGE REPORT [SOURCE] and one of --picture, --json, --csv, --registers and --poison, "
-                      "or none; ./fractal explain --help says more.")
-    image, report, *source = given.others
-    form = next(iter(given.flags), None)
+    # The launcher's table takes time, and only the run of one task is made again by its options.
+    known = Table().options if any(word.partition("=")[0] == "--task" for word in words) else {}
+    given = Words("explain", known, page=__doc__).read(words)
+    image, report, *source = given.need("IMAGE REPORT [SOURCE]", 2, 3)
+    if len(given.flags) > 1:
+        raise Refusal(f"it takes one of {', '.join(f'--{form}' for form in FORMS)}, or none.")
+    form, task = next(iter(given.flags), None), task_in(given, known)
     if task is not None and form in ("picture", "csv", POISON):
         raise Refusal(f"--{form} shows all tasks, so --task can't be given with it.")
     return Request(image, report, source[0] if source else None, form, task)
 
 
-def take_task(words: list[str]) -> tuple[Optional[TaskRequest], list[str]]:
-    """What is asked of one task alone, and the other words."""
-    text, words = take_option(words, "--task")
+def task_in(given: GivenWords, known: Mapping[str, Option]) -> Optional[TaskRequest]:
+    """What is asked of one task alone."""
+    text = given.values["task"]
     if text is None:
-        return None, words
+        given.need_only(FORMS, "without --task it")
+        return None
     found = re.fullmatch(rf"{NUMBER}\.{NUMBER}", text)
     if not found:
         raise Refusal(f"--task takes a name as reports have it, such as 2.0, and not `{text}`.")
-    program, words = take_option(words, "--sim")
-    options, words = program_options(words, Table().options)
-    if any(option.startswith("--commits=") for option in options):
+    if given.values["commits"] is not None:
         raise Refusal("the report says how many tasks committed, so --commits has no place here.")
-    return TaskRequest(Name(int(found[1]), int(found[2])), options, calls_of(program)), words
+    options = program_options(given.values, known)
+    return TaskRequest(Name(int(found[1]), int(found[2])), options, calls_of(given.values["sim"]))
 
 
 def calls_of(program: Optional[str]) -> Union[Calls, str]:

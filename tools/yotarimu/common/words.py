@@ -44,6 +44,13 @@ class GivenWords:
             raise Refusal(f"it needs {what}; {self.parser.call} --help has more.")
         return self.others
 
+    def need_only(self, names: Iterable[str], mode: str) -> None:
+        """Refuses options that a mode of the command doesn't take."""
+        used = [*self.flags, *(name for name, value in self.values.items() if value is not None)]
+        wrong = next((name for name in used if name not in names), None)
+        if wrong is not None:
+            raise Refusal(f"{mode} takes no --{wrong}; {self.parser.call} --help has more.")
+
     def number(self, name: str, least: Optional[int] = None, most: Optional[int] = None,
                unless_given: Optional[int] = None) -> int:
         """The number that an option has, within the range that its page or the caller states."""
@@ -127,8 +134,3 @@ def take_option(words: Sequence[str], name: str) -> tuple[Optional[str], list[st
     option = name.removeprefix("--")
     given = Words("", [option]).read_known(words)
     return given.values[option], given.others
-
-
-def need_words(words: Sequence[str], count: int, command: str, what: str, door: str = DOOR) -> list[str]:
-    """A number of arguments, none of them an option."""
-    return Words(command, door=door).read(words).need(what, count)

@@ -8,7 +8,7 @@ from collections.abc import Mapping, Sequence
 from typing import Optional, TypeVar
 
 from yotarimu.common.outcome import Refusal
-from yotarimu.common.words import number_in, take_option
+from yotarimu.common.words import number_in
 from yotarimu.programs.table import MOST_VALUE, Option, Value
 
 MOST_RUNS = 100_000
@@ -41,16 +41,16 @@ def values_in(option: Option, piece: str) -> Sequence[int]:
     return values
 
 
-def program_options(words: Sequence[str], known: Mapping[str, Option]) -> tuple[list[str], list[str]]:
-    """The program's options among words, each with one value, and the other words."""
-    options, rest = [], list(words)
+def program_options(given: Mapping[str, Optional[str]], known: Mapping[str, Option]) -> list[str]:
+    """The program's options among those of a call, each with one value."""
+    options = []
     for name, option in known.items():
-        text, rest = take_option(rest, f"--{name}")
+        text = given.get(name)
         values = [] if text is None else values_of(option, text)
         if len(values) > 1:
             raise Refusal(f"--{name} takes one value here.")
         options += [f"--{name}={value}" for value in values]
-    return options, rest
+    return options
 
 
 def cells_of(options: Mapping[str, Option], values: Mapping[str, Sequence[Value]],

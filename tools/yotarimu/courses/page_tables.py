@@ -9,13 +9,12 @@ import pathlib
 import shlex
 import subprocess
 import tempfile
-from collections.abc import Iterator, Sequence
+from collections.abc import Iterator
 from typing import NamedTuple, Optional
 
 from yotarimu.common.files import need_writable, read_bytes, write_whole
 from yotarimu.common.outcome import Refusal, say
 from yotarimu.common.pages import command_names
-from yotarimu.common.words import need_words
 from yotarimu.programs.program import LAUNCHER
 
 FENCE, DOOR, INTO = "```", "./fractal", ">"
@@ -151,10 +150,8 @@ def make_tables(page: Page, folder: pathlib.Path) -> list[Table]:
     return tables[::-1]
 
 
-def main(path: str, words: Sequence[str]) -> int:
+def main(path: str, is_written: bool) -> int:
     """Makes the tables of a page again. The status is 1 where one differs and isn't replaced."""
-    is_written = "--write" in words
-    need_words([word for word in words if word != "--write"], 0, "study", "nothing more beside --page PAGE and --write")
     if path == "-":
         raise Refusal("--page takes a file, and not standard input.")
     page = Page(path)

@@ -17,7 +17,7 @@ EXAMPLE = "nested"
 WALK = ("walk", "7", "2000")
 NAMES = ("run", "workers", "save", "load", "check", "steps", "trace", "stack")
 # The stack that each run has enough of, whatever the number of workers, as docs/guest/TASKS.md says.
-LEAST_STACK, WORKERS = 256 << 10, ("0", "1", "2", "4", "8", "16")
+LEAST_STACK, WORKERS = 512 << 10, ("0", "1", "2", "4", "8", "16")
 # Room for the entries of so many tasks is made before a run; with room for a million, little else shows.
 FEW = ("--commits", "10000")
 # After so many commits the example can be saved, and after so many it can't.

@@ -7,7 +7,7 @@ usage: ./fractal dev memory NAME... [--sim FILE]
 NAME is run, workers, save, load, check, steps, trace or stack. `steps` and `trace` play each of the project's
 schedules, the others take an example's image and a generated walk; `workers` is `run` with 4 host threads, and `save`
 meets its commit limit: where it can save the run, and where it can't. `stack` runs the example with ample memory, 0 to
-16 host threads, and 256 KiB of stack for the first of them, and has to give the whole answer each time.
+16 host threads, and a stack of 512 KiB for each, and has to give the whole answer each time.
 
   --all       all of them, which takes a minute or more
   --sim FILE  a built fractal_sim in place of this clone's
