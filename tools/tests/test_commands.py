@@ -38,6 +38,11 @@ class Pages(unittest.TestCase):
             for entry in entries:
                 self.assertTrue(entry[2], f"{name} --{entry[0]}")
 
+    def test_limits_come_last(self) -> None:
+        for name in COMMANDS:
+            for option in declared_in(page_of(name)).values():
+                self.assertNotIn("; default ", option.purpose, f"{name} --{option.name}")
+
     def test_each_option_of_an_example_is_declared(self) -> None:
         known = set(Table().course_options)
         for name in COMMANDS:

@@ -10,8 +10,8 @@ installed, as PDF and PNG, FOLDER/rows has all numbers as CSV with the program t
 a file for each study of an application. The result that each run leaves is checked by the application's own check. An
 evaluation that was ended goes on with the shards that are missing, or that another program made.
 
-  --size SIZE           the size of all inputs (small, medium or large; default small). Only for small ones is the
-                        speed-up in instructions, because a run has at most 1,000,000 rounds
+  --size SIZE           the size of all inputs; only for small ones is the speed-up in instructions, because a run has
+                        at most 1,000,000 rounds (small, medium or large; default small)
   --seeds VALUES        seeds over which the spread is taken, as ./fractal study has them (default 0..9)
   --applications NAMES  only these applications, with commas between
   --jobs N              so many shards are made at once (1 to 1,024; default 1)
