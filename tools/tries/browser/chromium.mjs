@@ -7,32 +7,15 @@ import {join} from "node:path";
 
 const [TO, FROM] = [3, 4];
 
-/** A browser with one page. */
-export class Page {
-  static async open(url, {width = 1400, height = 1300, dark = false, before = "", program = "chromium"} = {}) {
-    const page = Object.assign(
-      new Page(), {folder: mkdtempSync(join(tmpdir(), "fractal-page-")), number: 0, waiting: new Map(), logs: []});
-    page.child = spawn(
-      program,
-      [
-        "--headless", "--no-sandbox", "--disable-gpu", "--remote-debugging-pipe", `--user-data-dir=${page.folder}`,
-        `--window-size=${width},${height}`, "about:blank"
-      ],
+/** The browser in which all pages are; it is started for the first of them. */
+class Browser {
+  constructor() {
+    Object.assign(this, {folder: mkdtempSync(join(tmpdir(), "fractal-page-")), number: 0, waiting: new Map(),
+      pages: new Map()});
+    this.child = spawn(
+      "chromium",
+      ["--headless", "--no-sandbox", "--disable-gpu", "--remote-debugging-pipe", `--user-data-dir=${this.folder}`],
       {stdio: ["ignore", "ignore", "ignore", "pipe", "pipe"]});
-    page.listen();
-    const {targetInfos} = await page.send("Target.getTargets");
-    const {targetId} = targetInfos.find((it) => it.type === "page");
-    page.session = (await page.send("Target.attachToTarget", {targetId, flatten: true})).sessionId;
-    for (const domain of ["Page", "Runtime", "Log"]) await page.send(`${domain}.enable`);
-    await page.send("Emulation.setDeviceMetricsOverride", {width, height, deviceScaleFactor: 1, mobile: width < 500});
-    if (dark)
-      await page.send("Emulation.setEmulatedMedia", {features: [{name: "prefers-color-scheme", value: "dark"}]});
-    if (before) await page.send("Page.addScriptToEvaluateOnNewDocument", {source: before});
-    await page.go(url);
-    return page;
-  }
-
-  listen() {
     let rest = Buffer.alloc(0);
     this.child.stdio[FROM].on("data", (data) => {
       rest = Buffer.concat([rest, data]);
@@ -41,13 +24,63 @@ export class Page {
     });
   }
 
-  take({id, error, result, method, params}) {
-    if (id) {
-      const [resolve, reject] = this.waiting.get(id);
-      this.waiting.delete(id);
-      if (error) reject(new Error(JSON.stringify(error)));
-      else resolve(result);
+  take({id, error, result, sessionId, method, params}) {
+    if (!id) {
+      this.pages.get(sessionId)?.take(method, params);
+      return;
     }
+    const [resolve, reject] = this.waiting.get(id);
+    this.waiting.delete(id);
+    if (error) reject(new Error(JSON.stringify(error)));
+    else resolve(result);
+  }
+
+  send(method, params = {}, sessionId = undefined) {
+    const id = ++this.number;
+    this.child.stdio[TO].write(`${JSON.stringify({id, method, params, sessionId})}\0`);
+    return new Promise((resolve, reject) => this.waiting.set(id, [resolve, reject]));
+  }
+
+  async end() {
+    const ended = new Promise((resolve) => { this.child.on("exit", resolve); });
+    await this.send("Browser.close").catch(() => {});
+    await ended;
+    rmSync(this.folder, {recursive: true, force: true, maxRetries: 5, retryDelay: 200});
+  }
+}
+
+let browser = null;
+
+/** A page that shares nothing with other pages: it keeps nothing of theirs. */
+export class Page {
+  static async open(url, {width = 1400, height = 1300, dark = false, before = ""} = {}) {
+    browser ??= new Browser();
+    const {browserContextId} = await browser.send("Target.createBrowserContext");
+    const {targetId} = await browser.send("Target.createTarget", {url: "about:blank", browserContextId});
+    const {sessionId} = await browser.send("Target.attachToTarget", {targetId, flatten: true});
+    const page = Object.assign(new Page(), {browserContextId, sessionId, logs: []});
+    browser.pages.set(sessionId, page);
+    for (const domain of ["Page", "Runtime", "Log"]) await page.send(`${domain}.enable`);
+    await page.look({width, height, dark});
+    if (before) await page.send("Page.addScriptToEvaluateOnNewDocument", {source: before});
+    await page.go(url);
+    return page;
+  }
+
+  /** Sets how large the page is on the screen, and whether it is dark. */
+  async look({width, height, dark = false}) {
+    await this.send("Emulation.setDeviceMetricsOverride", {width, height, deviceScaleFactor: 1, mobile: width < 500});
+    const features = [{name: "prefers-color-scheme", value: dark ? "dark" : "light"}];
+    await this.send("Emulation.setEmulatedMedia", {features});
+  }
+
+  /** Ends the browser of all pages. */
+  static async quit() {
+    await browser?.end();
+    browser = null;
+  }
+
+  take(method, params) {
     if (method === "Page.loadEventFired") this.loaded?.();
     if (method === "Runtime.exceptionThrown")
       this.logs.push(params.exceptionDetails.exception?.description ?? params.exceptionDetails.text);
@@ -56,12 +89,7 @@ export class Page {
     if (method === "Log.entryAdded") this.logs.push(params.entry.text);
   }
 
-  send(method, params = {}) {
-    const id = ++this.number;
-    const session = this.session ? {sessionId: this.session} : {};
-    this.child.stdio[TO].write(`${JSON.stringify({id, method, params, ...session})}\0`);
-    return new Promise((resolve, reject) => this.waiting.set(id, [resolve, reject]));
-  }
+  send(method, params = {}) { return browser.send(method, params, this.sessionId); }
 
   async go(url) {
     const loaded = new Promise((resolve) => { this.loaded = resolve; });
@@ -96,9 +124,7 @@ export class Page {
   }
 
   async close() {
-    const ended = new Promise((resolve) => { this.child.on("exit", resolve); });
-    await this.send("Browser.close").catch(() => {});
-    await ended;
-    rmSync(this.folder, {recursive: true, force: true, maxRetries: 5, retryDelay: 200});
+    browser.pages.delete(this.sessionId);
+    await browser.send("Target.disposeBrowserContext", {browserContextId: this.browserContextId});
   }
 }

@@ -4,7 +4,7 @@ import {join} from "node:path";
 import {pathToFileURL} from "node:url";
 
 export const BROWSER = process.env.BROWSER ?? "chromium";
-const {Page} = await import(`./${BROWSER}.mjs`);
+export const {Page} = await import(`./${BROWSER}.mjs`);
 
 export const [, , file, examples, shots] = process.argv;
 const url = pathToFileURL(file).href;
@@ -49,6 +49,13 @@ export class Driver {
   see() { return this.page.run(SEEN); }
 
   async click(id) { await this.page.run(`document.querySelector(${JSON.stringify(id)}).click(); ${SETTLED}`); }
+
+  /** Presses a button as a person without a mouse does. */
+  async enter(id) {
+    await this.page.run(`document.querySelector(${JSON.stringify(id)}).focus()`);
+    await this.page.press("Enter");
+    await this.page.run(SETTLED);
+  }
 
   async choose(id, value) {
     const change = 'dispatchEvent(new Event("change", {bubbles: true}))';

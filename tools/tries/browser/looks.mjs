@@ -20,12 +20,13 @@ export const LOOKS = {
     });
   },
 
-  async "each button makes its act or says why it is refused, and undo brings back what was before"() {
+  async "each button makes its act by a key or says why it is refused, and undo restores what was before"() {
     await Driver.at("#example=schedules/one_word&acts=steps", WIDE, async (driver) => {
+      await driver.page.run("at('more-acts').open = true");
       const made = new Set();
       for (const act of ["dispatch", "take", "give", "step", "advance", "coalesce", "split", "abort", "commit"]) {
         const before = await driver.see(), [isRefused, why] = await driver.page.run(REFUSED_OF(act));
-        await driver.click(`[data-act=${act}]`);
+        await driver.enter(`[data-act=${act}]`);
         const seen = await driver.see();
         const [note, reply] = await driver.page.run("[at('cut').textContent, course.acts.at(-1)?.reply]");
         if (!isRefused) made.add(act);

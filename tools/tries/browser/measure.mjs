@@ -21,14 +21,23 @@ const STEP = `(async (place) => {
   });
   return worked + performance.now() - frame;
 })`;
+// All bars and arrows in view, and the cursor above them.
+const PICTURE = `(() => {
+  const begin = performance.now();
+  timeline.drawBase();
+  timeline.drawTop();
+  return performance.now() - begin;
+})()`;
 
-const middle = (numbers) => [...numbers].sort((one, two) => one - two)[numbers.length >> 1];
-const told = (numbers) => `${middle(numbers).toFixed(1)} ms in the middle, ${Math.max(...numbers).toFixed(1)} at most`;
+function told(numbers) {
+  const sorted = [...numbers].sort((one, two) => one - two), at = (part) => sorted[Math.floor(part * sorted.length)];
+  return `median ${at(0.5).toFixed(1)} ms, 95th percentile ${at(0.95).toFixed(1)}`;
+}
 
 const page = await Page.open(pathToFileURL(file).href);
 await page.run("ready");
-// Only Chromium tells what its thread took of a processor, which no other work on the machine changes much.
-const hasThreadTime = Boolean(page.child) && !process.env.BROWSER;
+// Only Chromium reports what its thread took of a processor, which no other work on the machine changes much.
+const hasThreadTime = (process.env.BROWSER ?? "chromium") === "chromium";
 if (hasThreadTime) await page.send("Performance.enable", {timeDomain: "threadTicks"});
 
 async function threadTime() {
@@ -41,28 +50,22 @@ const text = readFileSync(image).toString("base64");
 await page.run(`closeStory(); perform(() => open({name: "walk", image: bytesOf("${text}"), course: {kind: "steps"}}))`);
 for (const size of SIZES) {
   while (await page.run("script.length") < size) await page.run(`runMany(Math.min(10000, ${size} - script.length))`);
-  const times = async (what, places) => {
+  const times = async (what, actions) => {
     const found = [], ofThread = [];
-    for (const place of places) {
+    for (const action of actions) {
       const before = await threadTime();
-      found.push(await page.run(`${STEP}(${place})`));
+      found.push(await page.run(action));
       ofThread.push(await threadTime() - before);
     }
     console.log(`${size} acts, ${what}: ${told(found)}; of the thread's own time ${told(ofThread)}`);
   };
-  const from = size >> 1, each = (place) => Array.from({length: STEPS}, (_, step) => place(step));
+  const from = size >> 1, each = (place) => Array.from({length: STEPS}, (_, step) => `${STEP}(${place(step)})`);
   await page.run(`go(${from})`);
   await times("a step on", each((step) => from + step + 1));
   await times("a step back", each((step) => from + STEPS - step));
   await times("a leap", each((step) => (step * 7919) % size));
   await page.run(`go(${from})`);
-  const pictures = [];
-  for (let number = 0; number < STEPS; number++) {
-    const before = await threadTime();
-    await page.run("timeline.drawBase(), timeline.drawTop()");
-    pictures.push(await threadTime() - before);
-  }
-  console.log(`${size} acts, the whole picture: of the thread's own time ${told(pictures)}`);
+  await times("the whole picture", Array(STEPS).fill(PICTURE));
   const made = [], gaps = [];
   for (let act = 0; act < NEW_ACTS; act++) {
     const [taken, gap] = await page.run(`(async () => {
@@ -82,4 +85,4 @@ for (const size of SIZES) {
   }
   console.log(`${size} acts, a new one: ${told(made)}; the page's own thread stood still for ${told(gaps)}`);
 }
-await page.close();
+await Page.quit();

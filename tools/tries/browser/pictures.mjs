@@ -21,3 +21,4 @@ for (const [name, hash, how, before] of PICTURES) {
   await page.close();
   console.log(name);
 }
+await Page.quit();

@@ -1,6 +1,6 @@
-// ---- looks at the timeline and at where things are: pictures, pointing, playing, zoom, rounds, widths of the screen
+// ---- looks at the timeline: pictures, pointing, playing, zoom, rounds
 
-import {Driver, NARROW, WIDE, expect} from "./driver.mjs";
+import {Driver, WIDE, expect} from "./driver.mjs";
 
 const LAPTOP = {width: 1280, height: 720};
 const CONFLICT = "#example=schedules/conflict&acts=steps";
@@ -31,12 +31,6 @@ const POINT = (kind, place) => `(() => {
   at("lanes").dispatchEvent(new PointerEvent("${kind}", event));
   return current;
 })()`;
-
-// Which of these parts aren't whole on the screen.
-const UNSEEN = (ids) => `${JSON.stringify(ids)}.filter((id) => {
-  const {top, bottom, width} = at(id).getBoundingClientRect();
-  return top < 0 || bottom > innerHeight || !width;
-})`;
 
 const PAUSE = (milliseconds) => `new Promise((resolve) => setTimeout(resolve, ${milliseconds}))`;
 
@@ -111,33 +105,6 @@ export const TIMELINE_LOOKS = {
         return [course.length, times.sort((one, two) => one - two)[4]];
       })()`);
       expect(acts > 300 && most < 250, "a picture in a moment", [acts, most]);
-    });
-  },
-
-  async "on a laptop the picture, the sentence, tiles, memory and journal are in view together"() {
-    await Driver.at("", LAPTOP, async (driver) => {
-      const parts = ["lanes", "story", "said", "tiles", "memory-box", "journal-box"];
-      for (let step = 0; step < 10; step++) {
-        const unseen = await driver.page.run(UNSEEN(parts));
-        expect(!unseen.length, `all in view at step ${step + 1}`, unseen);
-        await driver.click("#story-on");
-      }
-      const unseen = await driver.page.run(UNSEEN(["lanes", "said", "controls", "tiles", "memory-box", "journal-box"]));
-      expect(!unseen.length, "all in view behind the story", unseen);
-    });
-    for (const [width, isBeside] of [[1100, true], [1099, false], [853, false]]) {
-      await Driver.at(CONFLICT, {width, height: 720}, async (driver) => {
-        const [left, right] = await driver.page.run(
-          "['player', 'memory-box'].map((id) => at(id).getBoundingClientRect()).map(({top}) => top)");
-        const shown = await driver.page.run("innerWidth");
-        if (shown === width) expect((Math.abs(left - right) < 60) === isBeside, `columns at ${width}`, [left, right]);
-      });
-    }
-    await Driver.at("", NARROW, async (driver) => {
-      const tops = await driver.page.run(
-        "['lanes', 'story', 'said', 'tiles'].map((id) => at(id).getBoundingClientRect().top)");
-      expect(tops.every((top, place) => !place || top > tops[place - 1]), "the picture first", tops);
-      expect(tops[1] < 844, "the story on the first screen", tops);
     });
   },
 

@@ -49,9 +49,7 @@ export const WORK_LOOKS = {
   async "keys alone make acts and undo them, a refused one says why, and each act has words for a screen reader"() {
     await Driver.at(CONFLICT, WIDE, async (driver) => {
       const pressed = async (button) => {
-        await driver.page.run(`document.querySelector("${button}").focus()`);
-        await driver.page.press("Enter");
-        await driver.page.run("chain");
+        await driver.enter(button);
         return driver.see();
       };
       for (const [place, act] of ["dispatch", "step", "advance"].entries()) {

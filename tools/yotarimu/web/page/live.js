@@ -486,7 +486,23 @@ function buildControls() {
     = ` Version ${table.find(([kind]) => kind === "version")[1]}; both programs are of the commit ${made.commit}.`;
 }
 
+/** What opens over the page closes by Escape, and where something beside it is pressed. */
+function listenToPops() {
+  const opened = () => [...document.querySelectorAll(".pop")].map((it) => it.parentNode).filter((it) => it.open);
+  document.addEventListener("keydown", ({key, target}) => {
+    if (key !== "Escape") return;
+    for (const box of opened()) {
+      box.open = false;
+      if (box.contains(target)) box.querySelector("summary").focus();
+    }
+  });
+  document.addEventListener("pointerdown", ({target}) => {
+    for (const box of opened()) box.open = box.contains(target);
+  });
+}
+
 function listenToControls() {
+  listenToPops();
   const on = (id, event, action) => at(id).addEventListener(event, action);
   on("example", "change", async () => {
     const wanted = at("example").value;

@@ -82,7 +82,7 @@ function ownExerciseRead() {
   const {name, wanted, words, script, sources, image} = ownExercise, read = wantedRead(wanted);
   const made = image ? bytesOf(image) : imageOf(assembled(...sources));
   const holds = read.conditions.map(({text}) => `\`${text}\``).join(", ");
-  const text = `${read.told || `${name}.`}${holds ? ` It has to hold: ${holds}.` : ""}`;
+  const text = `${read.told || name + "."}${holds ? ` It has to hold: ${holds}.` : ""}`;
   const judgeIt = {journal: judgeJournal, why: judgeWhy}[read.answer]
     ?? ((own, given) => judgeConditions(own, read, given));
   return {name, title: name, text, answer: {journal: "text", why: "text"}[read.answer] ?? read.answer, judgeIt, sources,

@@ -220,8 +220,9 @@ class Picture {
     context.textBaseline = "middle";
     context.textAlign = "right";
     context.font = "700 11px system-ui, sans-serif";
-    context.fillStyle = fate === "aborted" ? ink.back : fate === "committed" ? ink.doneLine : ink.runLine;
     const signAt = sign && across > (fate === "aborted" ? 20 : 34) ? 13 : 0;
+    if (signAt && fate === "aborted") this.plate(context, left + across - 15, y, 13);
+    context.fillStyle = fate === "aborted" ? ink.back : fate === "committed" ? ink.doneLine : ink.runLine;
     if (signAt) context.fillText(sign, left + across - 4, y);
     const visible = Math.max(left, GUTTER) + 5, room = left + across - visible - signAt;
     context.textAlign = "left";
@@ -479,6 +480,7 @@ class Picture {
     top.clip();
     this.drawStays(top, place);
     this.drawVeil(top, place, x);
+    if (place === 0 && (isSecret() || !this.course.length)) this.drawHint(top);
     this.drawAlive(top, place, x);
     this.drawCursor(top, place, x);
     const arrow = this.history.arrows.find((it) => it.place === place);
@@ -492,6 +494,17 @@ class Picture {
     if (x >= this.width || place === this.course.length) return;
     context.fillStyle = isSecret() ? this.ink.paper : this.ink.veil;
     context.fillRect(x + (place ? 0 : 1), AXIS + 1, this.width - x, this.height - AXIS);
+  }
+
+  /** Says what an empty picture will show. */
+  drawHint(context) {
+    const wide = Math.min(this.wide, MOST_ACROSS * 10);
+    context.font = "12.5px system-ui, sans-serif";
+    context.fillStyle = this.ink.quiet;
+    context.textAlign = "center";
+    context.textBaseline = "middle";
+    context.fillText("No task runs yet. Each attempt at one will be a bar here.", GUTTER + wide / 2,
+      (AXIS + this.trackAt) / 2, wide - 24);
   }
 
   drawCursor(context, place, x) {

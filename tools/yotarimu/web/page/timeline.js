@@ -18,7 +18,11 @@ class Timeline extends Picture {
       this.ink = new Ink();
       this.ask(true);
     });
-    new ResizeObserver(() => this.resize()).observe(this.view);
+    // It comes when this frame's requests are over: what is drawn later would be seen too late.
+    new ResizeObserver(() => {
+      this.resize();
+      this.draw();
+    }).observe(this.view);
     this.view.addEventListener("scroll", () => this.ask(true), {passive: true});
     this.view.addEventListener("wheel", (event) => {
       if (!event.ctrlKey && !event.metaKey) return;
@@ -105,13 +109,18 @@ class Timeline extends Picture {
     if (this.waiting || !this.course) return;
     this.waiting = requestAnimationFrame(() => {
       this.waiting = 0;
-      const begin = performance.now();
-      if (this.isWhole) this.drawBase();
-      this.isWhole = false;
-      this.drawTop();
-      this.drawn = performance.now() - begin;
-      this.slowest = Math.max(this.slowest, this.drawn);
+      this.draw();
     });
+  }
+
+  draw() {
+    if (!this.course) return;
+    const begin = performance.now();
+    if (this.isWhole) this.drawBase();
+    this.isWhole = false;
+    this.drawTop();
+    this.drawn = performance.now() - begin;
+    this.slowest = Math.max(this.slowest, this.drawn);
   }
 
   /** Shows an act: the cursor, and what ran then. */
