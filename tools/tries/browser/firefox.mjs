@@ -51,6 +51,10 @@ const LOOK = `const [width, height, isDark] = arguments, {style} = gBrowser.sele
   Services.prefs.setIntPref("layout.css.prefers-color-scheme.content-override", isDark ? 0 : 1);
   style.minWidth = style.maxWidth = width + "px";
   style.minHeight = style.maxHeight = height + "px";`;
+// The page is in another process, which hears of its size a little later.
+const SIZED = `const [width, height, done] = arguments;
+  const look = () => (innerWidth === width && innerHeight === height ? done(null) : setTimeout(look, 20));
+  look();`;
 // A page begins without what an earlier one kept or reported.
 const CLEAN = `const [done] = arguments;
   Services.console.reset();
@@ -168,6 +172,7 @@ export class Page {
   /** Sets how large the page is on the screen, and whether it is dark. */
   async look({width, height, dark = false}) {
     await browser.script(LOOK, [width, height, dark], {isOwn: true});
+    await browser.script(SIZED, [width, height], {isLate: true});
   }
 
   /** Ends the browser of all pages. */

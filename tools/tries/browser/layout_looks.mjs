@@ -26,7 +26,10 @@ const FLAWS = `(() => {
   const isSeen = (it) => it.checkVisibility() && !it.closest(".heard") && it.getBoundingClientRect().width > 1;
   const all = (chosen) => [...document.body.querySelectorAll(chosen)].filter(isSeen);
   const named = (it) => [it.tagName, it.id, it.textContent.trim().slice(0, 30)].join(" ");
-  const isCut = (it) => it.scrollWidth > it.clientWidth + 1 && getComputedStyle(it).overflowX !== "auto";
+  const isCut = (it) => {
+    const {display, overflowX} = getComputedStyle(it);
+    return display !== "inline" && overflowX !== "auto" && it.scrollWidth > it.clientWidth + 1;
+  };
   const fields = all("button, select, input:not([type=file]), textarea, summary");
   const boxes = new Map(fields.map((it) => [it, it.getBoundingClientRect()]));
   const areOver = (one, other) => {
