@@ -73,7 +73,7 @@ PLACES: dict[str, tuple[tuple[str, str], ...]] = {
         ("docs/proof/SOUNDNESS.md", "the next dispatch number is at most #")),
     "starved rounds": (
         ("crates/fractal_watch/src/words.rt", "STARVED_ROUNDS: u32 = #;"),
-        (FORMATS, "M is 1 to 1,000,000, and # unless it is given"),
+        (FORMATS, "default of M: #"),
         ("docs/DECISIONS.md", "# starved rounds in a row")),
 }
 

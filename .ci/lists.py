@@ -74,7 +74,8 @@ def places_of_acts() -> Iterator[Place]:
 
 def places_of_commands(table: Table) -> Iterator[Place]:
     yield REQUESTS, "command_by", codes_in(REQUESTS, "command_by word text =", "\n\n")
-    yield FORMATS, "the first words", re.findall("`([a-z]+)`", part_of(FORMATS, "The first word is the command:", "."))
+    named = part_of(FORMATS, "The first argument is the command:", ".")
+    yield FORMATS, "the commands", re.findall("`([a-z]+)`", named)
     yield "programs/answers.py", "SHOWN", SHOWN
     readers = [*READERS, *(name for name, row in table.command_rows.items() if not row[1])]
     yield "programs/answers.py", "READERS", readers
@@ -95,7 +96,7 @@ def places_of_filters() -> Iterator[Place]:
     yield COURSE_WORDS, "filter_named", codes_in(COURSE_WORDS, "filter_named word =", "\n\n")
     words = part_of(FILTER_WORDS, "filter_word Modulo", "\n\n")
     yield FILTER_WORDS, "filter_word", re.findall('codes "([a-z]+)"', words)
-    yield FORMATS, "the table of filters", first_cells(FORMATS, "| Filter | Tells |")
+    yield FORMATS, "the table of filters", first_cells(FORMATS, "| Filter | Bits of a line |")
 
 
 def digits_in_crates() -> list[str]:
@@ -139,7 +140,7 @@ def lists_that_differ() -> Iterator[str]:
     yield from differing("a course", table.course_rows, [
         ("lines/fields.py", "COURSES", COURSES),
         (COURSE_WORDS, "course_in", codes_in(COURSE_WORDS, "course_in (word", "\n\n")),
-        (FORMATS, "the table of courses", first_cells(FORMATS, "| Course | Its acts |"))])
+        (FORMATS, "the table of modes", first_cells(FORMATS, "| Mode | Its acts |"))])
     yield from differing("a status", map(str, table.statuses), [
         (STATUSES, "the constants", re.findall(r"u8 = (\d+);", whole(STATUSES))),
         (FORMATS, "the table of statuses", re.findall(r"^\| (\d+) \|", part_of(FORMATS, "| Status | Where |", "\n\n"),

@@ -71,7 +71,7 @@ def shuffled(folder: pathlib.Path) -> Iterator[str]:
         return
     acts = round_of(head["tiles"], head["cores"])
     yield from ("", "## The order of rounds", "", f"A round has the acts {', '.join(map(str, acts))}. [FORMATS.md]"
-                "(../../../docs/guest/FORMATS.md#lines-of-the-second-program) defines the shuffle. In the first round, "
+                "(../../../docs/guest/FORMATS.md#the-event-log) defines the shuffle. In the first round, "
                 f"from the seed {head['seed']}:", "")
     yield from table(["last", "x", "swapped with"], draws(head["seed"], len(acts)))
     yield from ("", "Each further round starts from the order before it and its last x. Acts that are made are in "
