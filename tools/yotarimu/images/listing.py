@@ -8,7 +8,7 @@ import re
 from collections.abc import Iterable, Sequence
 from typing import Optional
 
-from yotarimu.common.files import FilePath
+from yotarimu.common.files import FilePath, is_within, read_written
 from yotarimu.common.outcome import Refusal
 from yotarimu.common.text import printable
 from yotarimu.images.image import DATA, STACK, TEXT, Image
@@ -89,8 +89,19 @@ def listing_of(sources: Sequence[Source], assembled: Assembly) -> Listing:
         labels.setdefault(label.address, label.name)
     words = {TEXT + place: int.from_bytes(assembled.text[place:place + 4], "little")
              for place in range(0, len(assembled.text), 4)}
-    lines = {(source.name, number): text.strip() for source in sources for number, text in enumerate(source.lines, 1)}
+    texts = {**texts_beside(sources, assembled), **{source.name: source.lines for source in sources}}
+    lines = {(name, number): text.strip() for name, text_lines in texts.items()
+             for number, text in enumerate(text_lines, 1)}
     return Listing(labels, words, assembled.instructions, lines)
+
+
+def texts_beside(sources: Sequence[Source], assembled: Assembly) -> dict[str, list[str]]:
+    """The lines of further files in the folder of the sources that instructions come from: headers, and the language
+    from which a compiler made assembly."""
+    folder = sources[0].path.parent
+    paths = {name: folder / name for name in {it.source for it in assembled.instructions.values()} if name}
+    return {name: read_written(path).split("\n") for name, path in paths.items()
+            if path.is_file() and is_within(path, folder)}
 
 
 def listing_text(sources: Sequence[Source], assembled: Assembly, image: Image) -> str:

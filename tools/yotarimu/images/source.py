@@ -179,7 +179,7 @@ def run_tool(words: Sequence[str], folder: str, sources: Sequence[Source]) -> st
     said = re.sub(r".*: Assembler messages:\n", "", done.said.replace(f"{words[0]}: ", "")).strip()
     said = said.replace(f"{compiler.LIBRARY}/", "")
     for place, source in enumerate(sources):
-        said = said.replace(str(source.path.absolute()), str(source.path))
+        said = said.replace(f"{source.path.absolute().parent}/", str(source.path).removesuffix(source.name))
         said = re.sub(rf"\b{place}\.o\b", lambda _: str(source.path), said)
     if done.is_too_large():
         refuse_size(sources)
@@ -294,8 +294,9 @@ def source_words(source: Source, target: pathlib.Path, prefix: str, how: Compile
         ignored = target.with_suffix(".ignored.s")
         ignored.write_text(".macro .addrsig\n.endm\n.macro .addrsig_sym name\n.endm\n", encoding="ascii")
         paths.insert(0, ignored.name)
-    return [prefix + "as", "-march=rv32i", "-mabi=ilp32", "-mno-relax", "-g", "-I", str(path.parent), "-o", target.name,
-            *paths]
+    # Lines of another language, which `.file` names, are in files beside the source.
+    return [prefix + "as", "-march=rv32i", "-mabi=ilp32", "-mno-relax", "-g", "--debug-prefix-map",
+            f"{target.parent}={path.parent}", "-I", str(path.parent), "-o", target.name, *paths]
 
 
 def compilers_told(sources: Sequence[Source], how: Compilers) -> Optional[str]:
