@@ -37,6 +37,13 @@ class Starved(unittest.TestCase):
         of = play(rounds(9, 2), (2, "step", 0), (6, "step", 0), (9, "split", 0), (10, "dispatch", 0), (12, "step", 0))
         self.assertEqual((of.advances, of.advance_rounds, of.longest, of.number, of.begun_rounds), (2, 1, 2, 3, 4))
 
+    def test_an_act_ends_somewhere_in_its_round(self) -> None:
+        """Act 6 is the second of four in the second round; the split and the dispatch have the third one in halves."""
+        of, places = rounds(9, 2), list[float]()
+        for at, word in ((2, "step"), (6, "step"), (9, "split"), (10, "dispatch"), (12, "step")):
+            places.append(play(of, (at, word, 0)).place())
+        self.assertEqual(places, [0.5, 1.5, 2.5, 3.0, 3.5])
+
     def test_a_dispatched_least_task_starves_nothing(self) -> None:
         """Ten rounds without a commit, in which the least task makes its steps, aren't starved."""
         acts = [(4 * number + 2, "step", 0) for number in range(10)]

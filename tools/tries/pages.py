@@ -41,6 +41,7 @@ const seen = (place) => {
   go(place);
   return [Number(document.body.dataset.at), Number(document.body.dataset.n), rows.map(row),
     at("counts").textContent.replaceAll(",", "").match(/[0-9]+/g).map(Number),
+    timeline.history.counted && timeline.history.rounds[place],
     [...at("memory").tBodies[0].rows].map(word), at("journal").tBodies[0].rows.length];
 };
 const forwards = [...Array(course.length + 1).keys()].map(seen);
@@ -145,8 +146,8 @@ def stored_page(place: Place, name: str = "conflict") -> tuple[str, str]:
 
 
 def page_state(machine: Machine, passed: Totals) -> PageState:
-    """What a page has to show of the machine behind an act: the act, events, the lanes, what is counted, the commits;
-    and the bytes that it may show."""
+    """What a page has to show of the machine behind an act: the act, events, the lanes, what is counted, where in the
+    rounds it is, the commits; and the bytes that it may show."""
     def named(number: Optional[int], beside: Callable[[Task], str]) -> Optional[list[object]]:
         if number is None:
             return None
@@ -162,7 +163,8 @@ def page_state(machine: Machine, passed: Totals) -> PageState:
              for tile in range(machine.head["tiles"])]
     counts = [machine.queued - machine.running - machine.waiting, machine.running, machine.waiting, machine.spilled,
               passed.useful, passed.wasted]
-    return [machine.acts, machine.events, tiles, counts, machine.commits], machine.memory.bytes()
+    place = None if machine.rounds is None else machine.rounds.place()
+    return [machine.acts, machine.events, tiles, counts, place, machine.commits], machine.memory.bytes()
 
 
 def page_states(lines: str) -> list[PageState]:

@@ -172,8 +172,8 @@ def web_sentences(place: Place) -> None:
     """the page describes each act, and the machine after it, as the tools do"""
     need_built(SECOND_PROGRAM)
     with Harness(place, "sentences", READER, tables_of("sentences", "filterTable")) as harness:
-        for name, words in courses():
-            hold_told(harness, name, words)
+        advances = [hold_told(harness, name, words) for name, words in courses()]
+    expect(sum(advances) > 1, "rounds that advance a starved least task", advances)
 
 
 def web_causes(place: Place) -> None:
@@ -203,11 +203,11 @@ def courses() -> Iterator[Tuple[str, List[str]]]:
         for options in ((), ("--tiles", "2", "--task-queue", "4", "--commit-queue", "1"),
                         ("--tiles", "1", "--task-queue", "4", "--budget", "20")):
             yield name, ["least", *options]
-            yield name, ["lockstep", "60", "5", *options]
+            yield name, ["lockstep", "60", "5", "starved", "1", *options]
 
 
-def hold_told(harness: Harness, name: str, words: List[str]) -> None:
-    """Compares what the page shows of a run with what the tools print."""
+def hold_told(harness: Harness, name: str, words: List[str]) -> int:
+    """Compares what the page shows of a run with what the tools print. It returns how many acts were advances."""
     folder = EXAMPLES_FOLDER / name
     given = (folder / "image.bin").read_bytes() + ((folder / "script").read_bytes() if words[0] == "steps" else b"")
     text = subprocess.run([SECOND_PROGRAM, *words], input=given, stdout=subprocess.PIPE, check=False).stdout
@@ -226,6 +226,7 @@ def hold_told(harness: Harness, name: str, words: List[str]) -> None:
     state = [machine.queues, machine.cores, machine.finished, machine.commits, machine.events, tasks]
     names = ("queues", "cores", "finished", "commits", "events", "tasks")
     expect([seen["machine"][name] for name in names] == state, f"the same machine behind {name} {words}")
+    return 0 if machine.rounds is None else machine.rounds.advances
 
 
 def told_by_tools(text: bytes, listing: Listing) -> Tuple[List[str], str, List[str], Machine, Dict[str, Any]]:

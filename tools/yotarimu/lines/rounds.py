@@ -68,6 +68,13 @@ class Rounds:
         self.begun_rounds = self.number + 1
         self.next, self.passed, self.is_commit_passed = line["at"] + 1, 0, False
 
+    def place(self) -> float:
+        """Where in the rounds the last printed act ends: how many rounds come before, and which part of its own round
+        is over. A round that advances the least task ends with the dispatch, and is half over after a split."""
+        if self.is_advancing:
+            return self.number + (1.0 if self.is_advanced else 0.5)
+        return self.number + (self.next - self.first) / len(self.acts)
+
     def pass_over(self, end: int) -> None:
         """Checks that none of the acts up to a number was due, as they are missing from the log. Between two logged
         acts nothing changes, so it is enough to look at one round of them."""

@@ -86,35 +86,6 @@ class Stay:
     label: str
 
 
-class Rounds:
-    """Which round an act of lockstep belongs to, as a number with its part of the round."""
-
-    def __init__(self, head: Line) -> None:
-        self.acts: int = head["tiles"] * (head["cores"] + 3)
-        self.most: int = head.get("starved", head.get("barren", 16))
-        self.number, self.first, self.begun, self.commits, self.starved = 0, 1, 0, 0, 0
-        self.is_advancing = False
-
-    def follow(self, at: int, commits: int) -> float:
-        """Takes an act and how many tasks have committed after it; returns where in the rounds it ends."""
-        while not self.is_advancing and at >= self.first + self.acts:
-            self.end_round()
-        if self.is_advancing:
-            self.first += 1
-        self.commits = commits
-        place = self.number + (0 if self.is_advancing else (at - self.first + 1) / self.acts)
-        if self.is_advancing and commits != self.begun:
-            self.begun, self.is_advancing = commits, False
-        return place
-
-    def end_round(self) -> None:
-        """Goes to the next round. Too many without a commit let the least task advance."""
-        self.starved = self.starved + 1 if self.commits == self.begun else 0
-        self.number, self.first, self.begun = self.number + 1, self.first + self.acts, self.commits
-        if self.starved == self.most:
-            self.starved, self.is_advancing = 0, True
-
-
 class History:
     """All attempts of an event log."""
 
@@ -124,14 +95,13 @@ class History:
         self.arrows: list[Arrow] = []
         self.commits: list[Attempt] = []
         self.stays: list[Stay] = []
-        # The number of each act, and where in the rounds it ends; both begin before the first act.
+        # The number of each act, and in lockstep where in the rounds it ends; both begin before the first act.
         self.numbers, self.rounds = [0], [0.0]
         self.waiting = 1
         self.alive: dict[int, Attempt] = {}
         self.arrivals: dict[int, Arrival] = {}
         self.spilled: dict[str, Arrival] = {}
         self.held: list[list[Optional[Attempt]]] = [[] for _ in range(head["tiles"] * head["cores"])]
-        self.counted = Rounds(head)
         self.rule: LineRule = rule_of(head)
 
     @property
@@ -157,7 +127,8 @@ class History:
         """Takes an act."""
         line = told.line
         self.numbers.append(line["at"])
-        self.rounds.append(self.counted.follow(line["at"], machine.commits))
+        if machine.rounds is not None:
+            self.rounds.append(machine.rounds.place())
         place = self.acts
         if line["reply"] != "ok":
             self.refuse(line, place)

@@ -19,6 +19,7 @@ from yotarimu.images.listing import NO_LISTING, Listing, read_listing
 from yotarimu.lines.fields import Line
 from yotarimu.lines.reader import open_lines
 from yotarimu.lines.replay import Access, Machine, Task, ToldLine
+from yotarimu.lines.rounds import Rounds
 from yotarimu.lines.sentences import end_told, name_told, opening_told, sentence_of
 from yotarimu.lines.times import UNDISPATCHED
 from yotarimu.web.bundle import recorded_page, within
@@ -108,7 +109,15 @@ def opening_of(machine: Machine, passed: Totals) -> dict[str, object]:
             "queues": machine.queues, "cores": machine.cores, "finished": machine.finished,
             "blocks": [list(map(task_of, block.values())) for block in machine.blocks],
             "memory": words_of(machine), "stores": [pair for pair in stores if pair[1]],
-            "makers": [[dispatch, name_told(name)] for dispatch, name in makers.items()]}
+            "makers": [[dispatch, name_told(name)] for dispatch, name in makers.items()],
+            "rounds": None if machine.rounds is None else round_of(machine.rounds)}
+
+
+def round_of(rounds: Rounds) -> dict[str, object]:
+    """The round in which the page begins, as it reads it."""
+    return {"place": rounds.place(), "number": rounds.number, "first": rounds.first, "begun": rounds.begun,
+            "withoutCommit": rounds.without_commit, "isAdvancing": rounds.is_advancing,
+            "isAdvanced": rounds.is_advanced}
 
 
 def task_of(task: Task) -> dict[str, object]:

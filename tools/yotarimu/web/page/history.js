@@ -6,30 +6,40 @@ const MARK_SIGNS = {load: "load", store: "store", enqueue: "child", emit: "emit"
 
 // Why an act aborts a task by itself; all other tasks are aborted along with one of these.
 const DIRECT = ["access", "abort", "room"];
-const MOST_STARVED = 16;
 
-/** Which round an act of lockstep belongs to, as a number with its part of the round. */
+/** Which round an act of lockstep belongs to, and when the least task is advanced, as `lines/rounds.py` has it. */
 class Rounds {
-  constructor({tiles, cores, barren, starved = barren ?? MOST_STARVED}) {
-    Object.assign(this, {acts: tiles * (cores + 3), most: starved, number: 0, first: 1, begun: 0, commits: 0,
-      starved: 0, isAdvancing: false});
+  /** What a page that begins within a run has from there. */
+  constructor({tiles, cores, starved}, opening = {}) {
+    // How many rounds came before, the number of the first act of this one and how many tasks had committed then, how
+    // many rounds in a row had no commit, and whether this one advances the least task, and did.
+    Object.assign(this, {acts: tiles * (cores + 3), most: starved, number: 0, first: 1, begun: 0, withoutCommit: 0,
+      isAdvancing: false, isAdvanced: false}, opening);
   }
 
-  /** Takes an act and how many tasks have committed after it; returns where in the rounds it ends. */
-  follow(at, commits) {
-    while (!this.isAdvancing && at >= this.first + this.acts) this.endRound();
-    if (this.isAdvancing) this.first += 1;
-    this.commits = commits;
-    const place = this.number + (this.isAdvancing ? 0 : (at - this.first + 1) / this.acts);
-    if (this.isAdvancing && commits !== this.begun) Object.assign(this, {begun: commits, isAdvancing: false});
-    return place;
+  /** Goes on to the round of an act, by the machine before it. */
+  goTo(at, machine) {
+    if (this.isAdvanced) this.begin({withoutCommit: 0});
+    while (!this.isAdvancing && at >= this.first + this.acts) this.end(machine);
   }
 
-  /** Goes to the next round. Too many without a commit let the least task advance. */
-  endRound() {
-    this.starved = this.commits === this.begun ? this.starved + 1 : 0;
-    Object.assign(this, {number: this.number + 1, first: this.first + this.acts, begun: this.commits});
-    if (this.starved === this.most) Object.assign(this, {starved: 0, isAdvancing: true});
+  begin(more) {
+    Object.assign(this, {number: this.number + 1, isAdvancing: false, isAdvanced: false}, more);
+  }
+
+  /** Ends a round. After too many starved ones the least task is advanced; once it is dispatched it starves no more. */
+  end(machine) {
+    const withoutCommit = machine.commits === this.begun ? this.withoutCommit + 1 : 0;
+    this.begin({withoutCommit, first: this.first + this.acts, begun: machine.commits});
+    if (withoutCommit === this.most) this.isAdvancing = ["idle", "spilled"].includes(leastIn(machine)?.state);
+  }
+
+  /** Where in the rounds an act ends: a round that advances the least task ends with its dispatch. */
+  endOf(line) {
+    if (!this.isAdvancing) return this.number + (line.at - this.first + 1) / this.acts;
+    this.first += 1;
+    this.isAdvanced = line.do === "dispatch";
+    return this.number + (this.isAdvanced ? 1 : 0.5);
   }
 }
 
@@ -43,9 +53,11 @@ class History {
   clear() {
     const {head, opening} = this;
     // Attempts in the order of their dispatches; stays of tasks that left a queue without an attempt that counts.
+    const {place = 0, ...begun} = opening.rounds ?? {};
     Object.assign(this, {attempts: [], arrows: [], commits: [], stays: [], alive: new Map(), arrivals: new Map(),
-      spilled: new Map(), numbers: [0], rounds: [0], counted: new Rounds(head),
-          held: Array.from({length: head.tiles * head.cores}, () => []), lanes: 1});
+      spilled: new Map(), numbers: [0], rounds: [place],
+      counted: head.course === "lockstep" ? new Rounds(head, begun) : null,
+      held: Array.from({length: head.tiles * head.cores}, () => []), lanes: 1});
     for (const task of opening.tasks) this.arrive(task.id, task.tile, 0, null);
     for (const task of opening.tasks) if (task.state !== "idle") this.resume(task);
     opening.blocks.flat().forEach((task) => this.spilled.set(task.name.join("."), {start: 0, parent: null, tries: 0}));
@@ -65,6 +77,7 @@ class History {
   /** Which tasks an act aborts: from which attempt, by which access, and which attempts end. */
   before(line, machine, place) {
     this.numbers.push(line.at);
+    this.counted?.goTo(line.at, machine);
     if (line.reply !== "ok" || !line.back?.length) return;
     const from = this.alive.get(line.task) ?? null;
     const causes = typeof Cascade === "undefined" ? null : new Cascade(line, machine, this.head).all();
@@ -102,7 +115,7 @@ class History {
   }
 
   behind(line, machine, place) {
-    this.rounds.push(this.counted.follow(line.at, machine.commits));
+    if (this.counted) this.rounds.push(this.counted.endOf(line));
     if (line.reply !== "ok") {
       const attempt = line.task === undefined ? null : this.alive.get(line.task);
       if (attempt && line.reply === "stall") attempt.marks.push([place, "stall", null]);

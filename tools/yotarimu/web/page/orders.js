@@ -90,6 +90,12 @@ class Orders {
   }
 }
 
+/** The least of the tasks that are left; undefined where none is. */
+function leastIn(machine) {
+  const orders = new Orders(machine, () => undefined);
+  return orders.all().reduce((least, task) => (least && orders.compare(least, task) < 0 ? least : task), undefined);
+}
+
 /** Lists of as many numbers: the first that differs decides. */
 function compareNumbers(one, other) {
   const place = one.findIndex((number, at) => number !== other[at]);

@@ -116,7 +116,7 @@ class Picture {
 
   /** A round, or the number of an act as its line tells it. */
   numberTold(number) {
-    if (this.kind === "rounds") return grouped(number);
+    if (this.kind === "rounds") return grouped(this.firstRound + number);
     return grouped(number ? this.course.acts[number - 1]?.at ?? number : 0);
   }
 
@@ -519,7 +519,8 @@ class Picture {
   }
 
   drawNumber(context, place, x) {
-    const {ink, width} = this, text = this.kind === "rounds" ? this.xs[place].toFixed(1) : this.numberTold(place);
+    const {ink, width, history} = this;
+    const text = this.kind === "rounds" ? history.rounds[place].toFixed(1) : this.numberTold(place);
     const wide = text.length * 6.6 + 12, left = Math.max(GUTTER - 6, Math.min(x - wide / 2, width - wide));
     context.fillStyle = ink.own;
     context.beginPath();

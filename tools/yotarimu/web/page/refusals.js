@@ -1,11 +1,5 @@
 // ---- what the machine would refuse: buttons of such acts can't be pressed, and say why
 
-/** The least of the tasks that are left; undefined where none is. */
-function leastIn(machine) {
-  const orders = new Orders(machine, () => undefined);
-  return orders.all().reduce((least, task) => (least && orders.compare(least, task) < 0 ? least : task), undefined);
-}
-
 /** Whether the run is over behind an act. */
 function isOver(machine, least) {
   if (!least || least.state === "trapped") return true;

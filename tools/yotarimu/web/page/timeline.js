@@ -56,7 +56,9 @@ class Timeline extends Picture {
 
   measure() {
     const {head} = this.course, {numbers, rounds} = this.history;
-    this.xs = this.kind === "rounds" ? rounds : numbers.map((_, place) => place);
+    // A page that begins within a run begins with the round in which it does.
+    this.firstRound = Math.floor(rounds[0]);
+    this.xs = this.kind === "rounds" ? rounds.map((it) => it - this.firstRound) : numbers.map((_, place) => place);
     this.last = Math.max(1, this.xs.at(-1));
     this.count = head.tiles * head.cores;
     this.rows = rowsFor(this.count, this.history.lanes);
