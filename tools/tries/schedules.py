@@ -371,12 +371,11 @@ def lines_of_pages_end_as_they_did(place: Place) -> None:
 def study_is_as_it_was(place: Place) -> None:
     """the tables of the study's shortest runs, those of the queues and of one placer or another, come out again"""
     place.needs_second_program()
-    study = (place.clone / "docs" / "machine" / "STUDY_TABLES.md").read_text()
-    text = "```\n./fractal generate walk 7 250 > small.bin\n```\n\n"
-    text += study[study.index("## Queues"):study.index("## Filters")]
-    answer = place.call("fractal study", "--page", write_file(place, "page.md", text.encode()))
+    page = str(place.clone / "docs" / "machine" / "STUDY_TABLES.md")
+    answer = place.call("fractal study", "--page", page, "--sections", "Queues,Placers: the walk")
     told = [line.rpartition(": ")[2] for line in answer.output.decode().splitlines()]
     expect((answer.status, told) == (0, ["as it was"] * 2), "both tables", answer)
+    place.call("fractal study", "--page", page, "--sections", "Queues,Nothing").sentence("no section `Nothing`")
 
 
 def threads_are_checked(place: Place) -> None:

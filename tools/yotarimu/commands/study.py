@@ -3,7 +3,7 @@ each was, which tasks were aborted, and where core time went.
 
 usage: ./fractal study IMAGE... [--OPTION VALUES]... [ARGUMENT]...
        ./fractal study --join CSV... [--csv FILE] [--columns NAMES] [--plot COLUMN,OPTION,FILE] [--bars FILE]
-       ./fractal study --page PAGE [--write]
+       ./fractal study --page PAGE [--sections NAMES] [--write]
        ./fractal study --columns list
 
 OPTION is one of `./fractal watch`, seed or starved. VALUES are numbers with commas between, or FROM..TO, or
@@ -32,6 +32,8 @@ one value for each option, which is printed as soon as it is known. Each choice 
   --join                     joins the CSV of shards 1 to N, given in this order, or takes that of a whole study
   --page PAGE                calls the commands of a page such as docs/machine/STUDY_TABLES.md, one after another, and
                              compares each table after some of them with what they print
+  --sections NAMES           of the page only the commands under these headlines, with commas between, and those that
+                             write a file which they name
   --write                    replaces the tables of the page that differ
 
 Some columns, which the list marks, need the event log of the run, which is read line by line: 10,000 to 100,000 lines a
@@ -70,7 +72,7 @@ from yotarimu.programs.table import NO_MEMORY, Option, Table, Value, why_no_answ
 
 LIST = "list"
 # The options of a join, and of a page.
-JOIN, PAGE = ("join", "csv", "columns", "plot", "log", "bars"), ("page", "write")
+JOIN, PAGE = ("join", "csv", "columns", "plot", "log", "bars"), ("page", "sections", "write")
 # The values of options by their names.
 Seen = Mapping[str, Optional[str]]
 
@@ -210,7 +212,7 @@ def main(words: list[str]) -> int:
     if page is not None:
         given.need_only(PAGE, "--page")
         given.need("no IMAGE beside --page", 0)
-        return page_tables.main(page, "write" in given.flags)
+        return page_tables.main(page, given.values["sections"], "write" in given.flags)
     if given.values["columns"] == LIST:
         print(*column_lines(), sep="\n")
         return 0

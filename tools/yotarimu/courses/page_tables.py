@@ -9,7 +9,7 @@ import pathlib
 import shlex
 import subprocess
 import tempfile
-from collections.abc import Iterator
+from collections.abc import Collection, Iterator
 from typing import NamedTuple, Optional
 
 from yotarimu.common.files import need_writable, read_bytes, write_whole
@@ -30,10 +30,10 @@ class Table(NamedTuple):
 
 
 class Page:
-    """The lines of a page."""
+    """The lines of a page. Of its commands only those of some sections are called, if these are given."""
 
-    def __init__(self, path: str) -> None:
-        self.path, self.data = path, read_bytes(path)
+    def __init__(self, path: str, sections: Optional[Collection[str]] = None) -> None:
+        self.path, self.data, self.sections = path, read_bytes(path), sections
         try:
             text = self.data.decode()
         except UnicodeDecodeError:
@@ -48,6 +48,26 @@ class Page:
             inside = self.lines[first + 1:end]
             if inside and all(map(is_call, inside)):
                 yield first + 1, end
+
+    def calls(self) -> Iterator[tuple[int, list[str]]]:
+        """For each block the place after its last line, and its lines that are called: all in a section that is wanted,
+        and elsewhere those that write a file which one of these names."""
+        blocks = [(self.section_at(first), end, self.lines[first:end]) for first, end in self.blocks()]
+        unknown = next((it for it in self.sections or () if it not in {section for section, *_ in blocks}), None)
+        if unknown is not None:
+            raise Refusal(f"{self.path}: no section `{unknown}` has commands.")
+        wanted = {word for section, _, lines in blocks if self.is_wanted(section)
+                  for line in lines for word in words_of(line)}
+        for section, end, lines in blocks:
+            yield end, [line for line in lines if self.is_wanted(section) or file_of(line) in wanted]
+
+    def is_wanted(self, section: str) -> bool:
+        """Whether the commands of a section are called."""
+        return self.sections is None or section in self.sections
+
+    def section_at(self, place: int) -> str:
+        """The headline that a line is under."""
+        return next((line.lstrip("# ") for line in self.lines[place::-1] if line.startswith("#")), "")
 
     def table_behind(self, place: int) -> Optional[tuple[int, int]]:
         """The places of the first and behind the last line of the next table, up to a headline or a block."""
@@ -108,12 +128,17 @@ def words_of(line: str) -> list[str]:
         raise Refusal(f"`{line}` breaks off within quotation marks or behind a backslash.") from None
 
 
+def file_of(line: str) -> Optional[str]:
+    """The file that a line writes; None if it prints."""
+    *words, sign, name = words_of(line)
+    return name if len(words) > 1 and sign == INTO else None
+
+
 def call_line(line: str, folder: pathlib.Path) -> list[str]:
     """What a command prints, unless it writes that to a file."""
-    words = words_of(line)
-    name = None
-    if len(words) > 2 and words[-2] == INTO:
-        *words, _, name = words
+    words, name = words_of(line), file_of(line)
+    if name is not None:
+        del words[-2:]
     if name is not None and folder.resolve() not in (folder / name).resolve().parents:
         raise Refusal(f"`{line}` writes outside of the folder of its commands.")
     done = subprocess.run([LAUNCHER, *words[1:]], cwd=folder, capture_output=True, stdin=subprocess.DEVNULL)
@@ -137,8 +162,8 @@ def told_lines(line: str, data: bytes) -> list[str]:
 def make_tables(page: Page, folder: pathlib.Path) -> list[Table]:
     """Each table of a page as its commands print it, from the last one to the first."""
     tables: list[Table] = []
-    for first, end in page.blocks():
-        told = [text for line in page.lines[first:end] for text in call_line(line, folder)]
+    for end, lines in page.calls():
+        told = [text for line in lines for text in call_line(line, folder)]
         rows = [line for line in told if line.startswith("|")]
         if not rows:
             continue
@@ -150,11 +175,11 @@ def make_tables(page: Page, folder: pathlib.Path) -> list[Table]:
     return tables[::-1]
 
 
-def main(path: str, is_written: bool) -> int:
+def main(path: str, sections: Optional[str], is_written: bool) -> int:
     """Makes the tables of a page again. The status is 1 where one differs and isn't replaced."""
     if path == "-":
         raise Refusal("--page takes a file, and not standard input.")
-    page = Page(path)
+    page = Page(path, None if sections is None else sections.split(","))
     if not any(page.blocks()):
         raise Refusal(f"{path}: no block of this page has calls of tools alone, as `{DOOR} study` is one.")
     if is_written:
