@@ -8,6 +8,10 @@ const STORY = (step) => `for (let step = 0; step < ${step}; step++) at("story-on
 const EXAMPLE = (name) => `perform(() => openExample(examples.find((it) => it.name === "${name}")))`;
 const FRAME = "new Promise((resolve) => requestAnimationFrame(() => setTimeout(resolve)))";
 
+// What is further down is laid out too.
+const WHOLE = `document.head.append(Object.assign(document.createElement("style"),
+  {textContent: "* { content-visibility: visible !important; }"})); 0`;
+
 // What is done on the page, one after the other, before it is looked at in each size.
 const STATES = [
   ["the first step of the story", "0"],
@@ -78,6 +82,7 @@ const TOGETHER = [
 export const LAYOUT_LOOKS = {
   async "at each size and in both colours nothing is cut, covered or weak, and nothing needs scrolling sideways"() {
     await Driver.at("", LAPTOP, async (driver) => {
+      await driver.page.run(WHOLE);
       for (const [state, action] of STATES) {
         await driver.page.run(action);
         await driver.page.run("chain");

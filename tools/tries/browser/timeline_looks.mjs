@@ -7,6 +7,10 @@ const CONFLICT = "#example=schedules/conflict&acts=steps";
 // A run of the conflict whose last act was made.
 const PLAYED = "openExample(examples.find((it) => it.name === 'schedules/conflict'))";
 
+// Where keys lead one after the other in that run, which aborts at act 6 and commits at 8, 14 and 17.
+const KEYS = [["a", 6], ["c", 8], ["ArrowRight", 9], ["ArrowLeft", 8], ["c", 14], ["PageDown", 17], ["PageUp", 0],
+  ["End", 17], ["C", 14], ["A", 6], ["Home", 0]];
+
 // How the upper edges of some attempts' bars are coloured, each as red, green and blue.
 const EDGES_OF = (numbers) => `(() => {
   timeline.drawBase();
@@ -76,11 +80,30 @@ export const TIMELINE_LOOKS = {
     });
   },
 
+  async "each key goes to the act that it names, and Space plays and pauses"() {
+    await Driver.at(CONFLICT, LAPTOP, async (driver) => {
+      await driver.page.run(`perform(() => ${PLAYED})`);
+      await driver.page.run("go(0); at('lanes').focus()");
+      for (const [key, place] of KEYS) {
+        await driver.page.press(key);
+        expect((await driver.see()).at === place, `act ${place} by ${key}`, await driver.see());
+      }
+      await driver.page.press(" ");
+      expect(await driver.page.run("player.isOn"), "that it plays", await driver.see());
+      await driver.page.press(" ");
+      expect(!await driver.page.run("player.isOn"), "that it pauses", await driver.see());
+    });
+  },
+
   async "zoom widens acts and fits again, and in lockstep the axis counts rounds or acts"() {
     await Driver.at("#example=shortest_paths&acts=lockstep+1000+1", LAPTOP, async (driver) => {
       const before = await driver.page.run("timeline.across");
       await driver.click("#zoom-in");
       expect(await driver.page.run("timeline.across") > before * 1.5, "wider acts", before);
+      const wheel = '"wheel", {deltaY: -300, ctrlKey: true, bubbles: true, cancelable: true}';
+      const [one, other] = await driver.page.run(
+        `[timeline.across, (at("lanes").dispatchEvent(new WheelEvent(${wheel})), timeline.across)]`);
+      expect(other > one * 1.5, "wider acts by the wheel", [one, other]);
       await driver.click("#zoom-fit");
       const [isFitted, after] = await driver.page.run("[timeline.isFitted, timeline.across]");
       expect(isFitted && Math.abs(after - before) < 2, "the whole run", [before, after]);

@@ -503,7 +503,7 @@ class Picture {
     context.fillStyle = this.ink.quiet;
     context.textAlign = "center";
     context.textBaseline = "middle";
-    context.fillText("No task runs yet. Each attempt at one will be a bar here.", GUTTER + wide / 2,
+    context.fillText("Each attempt at a task will be a bar here.", GUTTER + wide / 2,
       (AXIS + this.trackAt) / 2, wide - 24);
   }
 
