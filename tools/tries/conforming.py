@@ -39,7 +39,8 @@ def other_compilers_conform(place: Place) -> None:
     library = place.clone / "examples" / "c" / "library"
     options = f"-march=rv32i -mabi=ilp32 -ffreestanding -msmall-data-limit=0 -fno-pic -mstrict-align -I '{library}' -c"
     right = place.stub(place.root / "right", f'exec {GCC} {options} -O1 "$1" -o "$2"\n')
-    wrong = place.stub(place.root / "wrong", f'exec {GCC} {options} -Denqueue=enqueue_sub "$1" -o "$2"\n')
+    wrong = place.stub(place.root / "wrong", "sed 's/enqueue(/enqueue_sub(/' \"$1\" |"
+                                             f' {GCC} {options} -x c - -o "$2"\n')
     answer = place.call(CALL, *SOME, "--compiler", f"'{right}'")
     expect(answer.status == 0 and b"8 programs" in answer.output, "8 right programs", answer)
     answer = place.call(CALL, "call_1", "--compiler", f"'{wrong}'")

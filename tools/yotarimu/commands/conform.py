@@ -46,9 +46,11 @@ LEVELS = "O0,O1,O2,O3,Os"
 
 @dataclasses.dataclass(frozen=True)
 class Trial:
-    """A case by one compiler: how the compiler is called in sentences, and what finds the case's fault."""
+    """A case by one compiler: how the compiler is called in sentences on one case and on all, and what finds the case's
+    fault."""
     case: Case
     by: str
+    all_by: str
     fault: Callable[[Case], Optional[str]]
 
 
@@ -61,8 +63,9 @@ def trials_of(cases: Sequence[Case], how: Compilers, named: Sequence[str], level
             if not re.fullmatch("O([0-3sgz]|fast)", level):
                 raise Refusal(f"--levels takes {LEVELS} and the like with commas between, and not `{level}`.")
             made = dataclasses.replace(how, of_c=kind, level=f"-{level}")
-            by = f"{told_by(how.program(kind), kind)} -{level}"
-            trials += [Trial(case, by, functools.partial(fault_of_source, how=made)) for case in cases]
+            name = told_by(how.program(kind), kind)
+            trials += [Trial(case, f"{name} -{level}", name, functools.partial(fault_of_source, how=made))
+                       for case in cases]
     return trials
 
 
@@ -71,7 +74,7 @@ def trials_of_images(cases: Sequence[Case], folder: pathlib.Path) -> list[Trial]
     if not folder.is_dir():
         raise Refusal(f"{folder}: no such folder.")
     paths = {case.name: folder / f"{case.name}.bin" for case in cases}
-    trials = [Trial(case, str(paths[case.name]), lambda case: fault_of_file(case, paths[case.name]))
+    trials = [Trial(case, str(paths[case.name]), "images", lambda case: fault_of_file(case, paths[case.name]))
               for case in cases if paths[case.name].is_file()]
     if not trials:
         raise Refusal(f"{folder}: it has no image of a case, such as {cases[0].name}.bin.")
@@ -98,7 +101,7 @@ def main(words: list[str]) -> int:
         raise Refusal("--compiler, --images, and --gcc, --clang and --levels are three ways, and one of them is taken.")
     jobs = given.number("jobs", unless_given=os.cpu_count() or 1)
     if (command := told["compiler"]) is not None:
-        trials = [Trial(case, command, lambda case: fault_of_command(case, command or "")) for case in cases]
+        trials = [Trial(case, command, command, lambda case: fault_of_command(case, command or "")) for case in cases]
     elif told["images"] is not None:
         trials = trials_of_images(cases, pathlib.Path(told["images"]))
     else:
@@ -118,7 +121,7 @@ def report(trials: Sequence[Trial], jobs: int) -> int:
             print(f"{trial.case.name} by {trial.by}: {news.what.rstrip('.')}.", flush=True)
         if is_at_terminal():
             show_progress(NAME, done, len(trials), f", {wrong} wrong" if wrong else "")
-    compilers = " and ".join(dict.fromkeys(trial.by.rpartition(" -")[0] or "images" for trial in trials))
+    compilers = " and ".join(dict.fromkeys(trial.all_by for trial in trials))
     print(f"{count_text(len(trials), 'program')} by {compilers}: "
           + (f"{wrong} wrong." if wrong else "each leaves what it must."))
     return 1 if wrong else 0
