@@ -256,8 +256,7 @@ def lists_are_held(place: Place) -> None:
     """an act, an option, a command, a mode, a filter or a status that one list has and another lacks fails the lint"""
     for path, old, new, told in (
             ("docs/guest/FORMATS.md", "| `coalesce t` |", "| `coalesced t` |", "has no `coalesce`, which is an act"),
-            ("docs/guest/FORMATS.md", "| `--quantum` (plain instructions of a leg) | 1 to 1,024 |",
-             "| `--quantum` (plain instructions of a leg) | 1 to 1,025 |", "--quantum is `1 to 1,025 | 64`"),
+            ("docs/machine/SETTINGS.md", "| `--line` |", "| `--lines` |", "has no `line`, which is an option"),
             ("fractal", "option|phase|", "option|phases|", "has `phase`, which isn't an option"),
             ("fractal", "command|trace|", "command|traces|", "SHOWN has `trace`, which isn't a command"),
             ("fractal", "course|least|", "course|last|", "COURSES has `least`, which isn't a course"),
