@@ -131,8 +131,8 @@ def draw_panels(panels: Sequence[Panel], x_name: str, y_name: str, logarithmic: 
         parts += panel_parts(panel, frame, names)
     parts += legend(names, panels, PANEL_LEFT + across * PANEL_WIDTH - 20, PANEL_TOP)
     return picture(width, height, names_of_axes(
-        (PANEL_LEFT + (across * PANEL_WIDTH - 46) / 2, height - 8), (14, rows * PANEL_HEIGHT / 2),
-        x_name, y_name) + parts)
+        (PANEL_LEFT + (across * PANEL_WIDTH - 46) / 2, height - 8),
+        (14, (PANEL_TOP + rows * PANEL_HEIGHT - 12) / 2), x_name, y_name) + parts)
 
 
 def values_shown(panels: Sequence[Panel]) -> tuple[list[float], list[float]]:
