@@ -111,8 +111,8 @@ export class Page {
   /** A key as a person presses it. */
   async press(key) {
     const codes
-      = {Enter: 13, Tab: 9, Escape: 27, ArrowLeft: 37, ArrowRight: 39, ArrowDown: 40, ArrowUp: 38, PageUp: 33, PageDown: 34,
-        Home: 36, End: 35, " ": 32};
+      = {Enter: 13, Tab: 9, Escape: 27, ArrowLeft: 37, ArrowRight: 39, ArrowDown: 40, ArrowUp: 38, PageUp: 33,
+        PageDown: 34, Home: 36, End: 35, " ": 32};
     const typed = key === "Enter" ? "\r" : key.length === 1 ? key : "";
     const event = {key, windowsVirtualKeyCode: codes[key] ?? key.toUpperCase().charCodeAt(0), text: typed};
     await this.send("Input.dispatchKeyEvent", {type: event.text ? "keyDown" : "rawKeyDown", ...event});

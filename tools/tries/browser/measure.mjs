@@ -41,7 +41,7 @@ const hasThreadTime = (process.env.BROWSER ?? "chromium") === "chromium";
 if (hasThreadTime) await page.send("Performance.enable", {timeDomain: "threadTicks"});
 
 async function threadTime() {
-  if (!hasThreadTime) return NaN;
+  if (!hasThreadTime) return 0;
   const {metrics} = await page.send("Performance.getMetrics");
   return metrics.find(({name}) => name === "TaskDuration").value * 1000;
 }
@@ -57,7 +57,8 @@ for (const size of SIZES) {
       found.push(await page.run(action));
       ofThread.push(await threadTime() - before);
     }
-    console.log(`${size} acts, ${what}: ${told(found)}; of the thread's own time ${told(ofThread)}`);
+    const own = hasThreadTime ? `; of the thread's own time ${told(ofThread)}` : "";
+    console.log(`${size} acts, ${what}: ${told(found)}${own}`);
   };
   const from = size >> 1, each = (place) => Array.from({length: STEPS}, (_, step) => `${STEP}(${place(step)})`);
   await page.run(`go(${from})`);

@@ -27,7 +27,7 @@ async function makeReport() {
   const [words, input] = reportCall();
   const {status, output} = await machines.call("sim", words, input);
   showText("report", reportIn(new TextDecoder().decode(output)));
-  const told = status === UNWRITTEN ? "So long a report isn't made whole here" : statusTold(status);
+  const told = status === UNWRITTEN ? "The report is too long to be made whole here" : statusTold(status);
   show(at("report-said"), toldHtml(`\`fractal ${words.join(" ")}\`: status ${status}. ${told}.`));
 }
 
@@ -171,7 +171,7 @@ async function openAddress(address = location.hash.slice(1)) {
 async function openParts(parts, address) {
   const words = (parts.get("acts") ?? "steps").split(" ");
   if (!["steps", "least", "lockstep"].includes(words[0]))
-    throw new Refusal("The address has acts of no kind that is known here.");
+    throw new Refusal("The address has an unknown mode; use steps, least or lockstep.");
   const options
     = Object.fromEntries(optionRows.filter(([, name]) => parts.has(name)).map(([, name]) => [name, parts.get(name)]));
   const acts = parts.has("script") ? actsIn(new TextDecoder().decode(await read(parts.get("script")))) : [];

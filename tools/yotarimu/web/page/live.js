@@ -211,7 +211,8 @@ function change(make, place) {
 
 /** What is said of a text without its end. */
 function brokenOff(status) {
-  return status === UNWRITTEN ? ` So long a run isn't shown whole: these are its first ${plural(course.length, "act")}.`
+  return status === UNWRITTEN
+    ? ` Such a long run isn't shown whole: these are its first ${plural(course.length, "act")}.`
     : ` ${statusTold(status)}: the text isn't whole.`;
 }
 
@@ -312,7 +313,7 @@ function runRounds(count) {
       ...each(tiles, (tile) => [`dispatch ${tile}`, ...each(cores, (core) => `step ${tile} ${core}`)]).flat(),
       ...each(tiles, () => "commit"), ...each(tiles, (tile) => `split ${tile}`)
     ];
-    if (count * round.length > MOST_IN_ROUNDS) throw new Refusal("So many rounds at once are too many; make fewer.");
+    if (count * round.length > MOST_IN_ROUNDS) throw new Refusal("These are too many rounds at once; make fewer.");
     return addAsked(Array(count).fill(round).flat(), NOT_ASKED_FOR, "Nothing is left to do in a round.");
   });
 }

@@ -390,7 +390,7 @@ const committed = (line) => line.do === "commit" && line.reply === "ok";
 function next(isWanted) {
   const found = course.acts.findIndex((line, place) => place >= current && isWanted(line));
   if (found >= 0) go(found + 1);
-  else at("where").textContent = "no further one";
+  else at("where").textContent = "no later one";
 }
 
 function previous(isWanted) {
