@@ -38,10 +38,10 @@ def commands_text() -> str:
     for title, names in known.groups.items():
         parts += [f"## {title}", "", *table(["Command", "What it does"], command_rows(known, names)), ""]
     modes = ((f"`{name} {row[0]}`".replace(" `", "`"), f"{row[2]}; reads {row[1]}")
-             for name, row in known.course_rows.items())
+             for name, row in known.mode_rows.items())
     parts += ["## Modes of `watch`", "", *table(["Mode", "What it does"], modes), ""]
     parts += ["## Options", "", "`--filter` is of `watch` alone.", ""]
-    parts += [*table(["Option", "Values", "Default", "What it sets"], option_rows(known.course_options)), ""]
+    parts += [*table(["Option", "Values", "Default", "What it sets"], option_rows(known.mode_options)), ""]
     statuses = ((str(number), text) for number, text in known.statuses.items())
     parts += ["## Exit statuses", "", *table(["Status", "Meaning"], statuses), ""]
     return "\n".join(parts)

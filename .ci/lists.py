@@ -1,8 +1,7 @@
-"""Words that stand in lists at several places, held against each other: acts, commands, options, courses, filters and
-statuses.
+"""Compares lists that are at several places: of acts, commands, options, modes, filters and statuses.
 
-Of each kind one list decides: of acts the table of tools/yotarimu/common/acts.py, of all others the launcher's. What a
-document, a definition of a crate, a script or a page has of them is read there, and is to be the same.
+For each kind one list decides: for acts the table of tools/yotarimu/common/acts.py, for all others the launcher's. The
+lists of documents, of definitions of crates, of scripts and of pages must have the same entries.
 """
 from __future__ import annotations
 
@@ -14,7 +13,7 @@ from yotarimu.common.acts import ACTS
 from yotarimu.common.outcome import Refusal
 from yotarimu.common.places import HOME
 from yotarimu.common.sentences import SENTENCES
-from yotarimu.lines.fields import COURSES, EVENTS, PLACES, SETTINGS
+from yotarimu.lines.fields import EVENTS, MODES, PLACES, SETTINGS
 from yotarimu.lines.filters import DIGITS, FILTERS
 from yotarimu.lines.reader import RANGES
 from yotarimu.lines.replay import MADE
@@ -119,7 +118,7 @@ def differing(what: str, wanted: Iterable[str], places: Iterable[Place]) -> Iter
 def options_that_differ(table: Table) -> Iterator[str]:
     """Options of the page on settings; their ranges and defaults are on a generated page."""
     rows = re.findall("`--([a-z-]+)`", part_of(SETTINGS_PAGE, "| Option | Published |", "\n\n"))
-    yield from differing("an option", table.course_options, [(SETTINGS_PAGE, "the table of options", rows)])
+    yield from differing("an option", table.mode_options, [(SETTINGS_PAGE, "the table of options", rows)])
 
 
 def lists_that_differ() -> Iterator[str]:
@@ -134,11 +133,11 @@ def lists_that_differ() -> Iterator[str]:
     yield from differing("a command", table.commands, places_of_commands(table))
     yield from differing("an option", table.options, places_of_options())
     yield from options_that_differ(table)
-    yield from differing("a kind of filter", map(str, table.course_options["filter"].values), places_of_filters())
+    yield from differing("a kind of filter", map(str, table.mode_options["filter"].values), places_of_filters())
     yield from differing("a constant of the hashes", (f"{place}: {it:x}" for place, it in enumerate(DIGITS)),
                          [(HASHES, "DIGITS", digits_in_crates())])
-    yield from differing("a course", table.course_rows, [
-        ("lines/fields.py", "COURSES", COURSES),
+    yield from differing("a mode", table.mode_rows, [
+        ("lines/fields.py", "MODES", MODES),
         (COURSE_WORDS, "course_in", codes_in(COURSE_WORDS, "course_in (word", "\n\n")),
         (FORMATS, "the table of modes", first_cells(FORMATS, "| Mode | Its acts |"))])
     yield from differing("a status", map(str, table.statuses), [

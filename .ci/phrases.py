@@ -63,8 +63,9 @@ MOST_NAMED = 8
 MOST_WORDS = 42_000
 GOAL = 42_000
 Lines = Iterable[tuple[int, str]]
-# A name in code, a row of the launcher's table, a text in quotes, and attributes of a page that nobody sees.
-NAME = re.compile(r"[\w.-]*")
+# A name, a path or a script of a page, a row of the launcher's table, a text in quotes, and attributes of a page that
+# nobody sees.
+NAME = re.compile(r"[\w./-]*|<script>.*", re.S)
 ROW = re.compile(r"(?:rows=')?[a-z-]+\|")
 QUOTED = re.compile(r"""'[^']*'|"(?:[^"\\]|\\.)*"|`[^`]*`""")
 HIDDEN = re.compile(r"""\b(?:id|class|for|name|data-[a-z-]+)=(?:"[^"]*"|\S+)""")

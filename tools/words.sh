@@ -67,7 +67,7 @@ quoted() {
 fault_of_words() {
     LC_ALL=C
     command=$1
-    if [ "$rows_of" = course ]; then
+    if [ "$rows_of" = mode ]; then
         fault_of_watch "$@"
         return
     fi
@@ -126,7 +126,7 @@ fault_of_parts() {
             ;;
     esac
     if is_apart "$command"; then command=''; fi
-    row course "$command" || { fault_of_course && return; }
+    row mode "$command" || { fault_of_mode && return; }
     line="$line $command"
     shift
     if [ "$command" = lockstep ]; then
@@ -147,7 +147,7 @@ fault_of_parts() {
 # Whether a word is the name of an option of `watch` alone.
 is_apart() {
     case $1 in
-        --?*) row course-option "${1#--}" ;;
+        --?*) row mode-option "${1#--}" ;;
         *) return 1 ;;
     esac
 }
@@ -201,13 +201,13 @@ fault_of_command() {
     fi
 }
 
-fault_of_course() {
+fault_of_mode() {
     if [ -f "$command" ]; then
         put "$(shown "$command") is a file; try $(quoted "$0") watch least < $(quoted "$command")"
     else
-        near=$(near_of "$command" course)
+        near=$(near_of "$command" mode)
         [ "$near" != . ] || near=${command:+, not $(shown "$command")}.
-        put "$line needs a mode: $(names_of course)$near"
+        put "$line needs a mode: $(names_of mode)$near"
     fi
 }
 
@@ -223,7 +223,7 @@ fault_of_name() {
     fault_of_second "$1" && return
     option_row "$1" && return 1
     kinds=option others=''
-    [ "$rows_of" != course ] || kinds='option course-option'
+    [ "$rows_of" != mode ] || kinds='option mode-option'
     near=$(near_of "$1" "$kinds" --)
     case $1 in
         *[!a-z-]*) ;;
@@ -231,7 +231,7 @@ fault_of_name() {
     esac
     if [ "$1" = version ]; then
         put "--version stands alone: $(quoted "$0") --version"
-    elif row course-option "$1"; then
+    elif row mode-option "$1"; then
         put "--$1 is an option of ./fractal watch, not of $command."
     elif [ "$near" = . ] && [ -n "$others" ]; then
         put "--$1 is an option of $others, not of $command."

@@ -44,7 +44,7 @@ class Pages(unittest.TestCase):
                 self.assertNotIn("; default ", option.purpose, f"{name} --{option.name}")
 
     def test_each_option_of_an_example_is_declared(self) -> None:
-        known = set(Table().course_options)
+        known = set(Table().mode_options)
         for name in COMMANDS:
             page = page_of(name)
             for call in re.findall(rf"\./fractal {name}(?! \w+ --help| --help)\b(.*)", page):

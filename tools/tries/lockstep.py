@@ -52,16 +52,16 @@ def runs_have_scripts(place: Place) -> None:
     """the script of a run in lockstep or for the least task makes the very same run; that of a script is refused"""
     place.needs_second_program()
     image = place.call("fractal generate", "nest", "7", "12").output
-    for course in (("lockstep", str(ROUNDS), "0"), ("lockstep", str(ROUNDS), "7"), ("least",)):
-        answer = place.call("fractal", "watch", *course, *SETTINGS, stdin=image)
+    for mode in (("lockstep", str(ROUNDS), "0"), ("lockstep", str(ROUNDS), "7"), ("least",)):
+        answer = place.call("fractal", "watch", *mode, *SETTINGS, stdin=image)
         lines = write_file(place, "lines", answer.output)
         script = place.call("fractal lockstep", "--of", lines).output
         again = told_lines(place, image + script, "steps")
         first = [json.loads(line) for line in answer.output.splitlines()][1:]
         expect(len(script.splitlines()) == sum("reply" in line for line in first), "an act for each line")
         for one, other in zip(first, again):
-            expect({**one, "at": 0} == {**other, "at": 0}, f"the same line of {course}", (one, other))
-        expect(len(first) == len(again), f"as many lines of {course}", (len(first), len(again)))
+            expect({**one, "at": 0} == {**other, "at": 0}, f"the same line of {mode}", (one, other))
+        expect(len(first) == len(again), f"as many lines of {mode}", (len(first), len(again)))
     steps = write_file(place, "steps", place.call("fractal", "watch", "steps", stdin=image).output)
     cut = write_file(place, "cut", (place.root / "lines").read_bytes()[:-1])
     one_sentence_each([

@@ -202,7 +202,7 @@ def shells_are_helped(place: Place) -> None:
         answer = place.call("fractal shell", kind)
         expect((answer.status, answer.errors) == (0, ""), f"a text for {kind}", answer)
         texts[kind] = answer.output.decode().replace("\\-", "-")
-        for name in (*table.commands, *table.own, *table.course_rows, *(f"--{option}" for option in table.options)):
+        for name in (*table.commands, *table.own, *table.mode_rows, *(f"--{option}" for option in table.options)):
             expect(name in texts[kind], f"`{name}` for {kind}")
         (place.root / kind).write_bytes(answer.output)
     expect("package [FOLDER]" in texts["man"] and "load KIND SEED SIZE" in texts["man"], "the words behind a command")

@@ -185,12 +185,12 @@ def random_call(chance: random.Random, table: Table) -> list[str]:
     """The words of a call, of which about half are wrong."""
     leading: tuple[list[str], ...] = ([], [], [], ["memory"], ["views", number(chance, 1, 2 ** 32 - 1)])
     words = list(chance.choice(leading))
-    course = chance.choice(list(table.course_rows))
-    words.append(course)
-    if course == "lockstep":
+    mode = chance.choice(list(table.mode_rows))
+    words.append(mode)
+    if mode == "lockstep":
         words += [number(chance, 1, 1_000_000), number(chance, 0, 2 ** 32 - 1)]
         words += ["starved", number(chance, 1, 1_000_000)] if chance.random() < 0.3 else []
-    for option in chance.sample(list(table.course_options.values()), chance.choice((0, 0, 1, 2))):
+    for option in chance.sample(list(table.mode_options.values()), chance.choice((0, 0, 1, 2))):
         pair = chance.choice(([f"--{option.name}", some_value(chance, option)],
                               [f"--{option.name}={some_value(chance, option)}"]))
         # One of `watch` alone may stand anywhere.
@@ -205,7 +205,7 @@ def options_of_watch_alone_may_be_words(place: Place) -> None:
     """an option of `watch` alone, whose values aren't numbers, is listed, checked, completed and handed on by all
     tools"""
     launcher = place.clone / "fractal"
-    row = "course-option|taste|sweet,sour,salt|sour|how it tastes\n"
+    row = "mode-option|taste|sweet,sour,salt|sour|how it tastes\n"
     launcher.write_text(launcher.read_text().replace("seed|any|", f"{row}seed|any|"))
     told = "--taste        how it tastes (sweet, sour, salt; default sour)"
     expect(told in place.call("fractal help").output.decode(), "the option on the page")
@@ -272,10 +272,10 @@ def memories_are_told(place: Place) -> None:
         answer = place.call("fractal", "watch", "memory", "least", *options, stdin=image)
         wanted = memory_by_windows(place, ["run", *options], image)
         expect(answer.errors == "" and (answer.status, answer.output) == wanted, f"the memory of {name}", answer)
-    for course, given, status, line in (
+    for mode, given, status, line in (
             ("steps", image_of(place, "hello") + b"halt\n", 9, b'{"fault":"script","line":1}\n'),
             ("least", b"FRAC", 2, b'{"fault":"image","number":1,"offset":4}\n')):
-        answer = place.call("fractal", "watch", "memory", course, stdin=given)
+        answer = place.call("fractal", "watch", "memory", mode, stdin=given)
         expect((answer.status, answer.output) == (status, line), "a fault's line", answer)
     answer = place.by_shell('"$0" watch memory least <"$1" >/dev/full',
                             place.clone / "examples" / "hello" / "image.bin")

@@ -172,7 +172,7 @@ def web_sentences(place: Place) -> None:
     """the page describes each act, and the machine after it, as the tools do"""
     need_built(SECOND_PROGRAM)
     with Harness(place, "sentences", READER, tables_of("sentences", "filterTable")) as harness:
-        advances = [hold_told(harness, name, words) for name, words in courses()]
+        advances = [hold_told(harness, name, words) for name, words in modes()]
     expect(sum(advances) > 1, "rounds that advance a starved least task", advances)
 
 
@@ -193,7 +193,7 @@ def tables_of(*names: str) -> str:
     return "".join(constant(name, table_at(TABLES[name])) for name in names)
 
 
-def courses() -> Iterator[Tuple[str, List[str]]]:
+def modes() -> Iterator[Tuple[str, List[str]]]:
     """Each schedule with the arguments of its mode, and others of `fractal_watch`."""
     for name in SCHEDULES:
         words = list(words_of(name))

@@ -77,16 +77,16 @@ def run(image: Image, program: Optional[FilePath] = None, **options: Value) -> R
     return read_report_text(answer.written.decode("ascii", "replace"), "run")
 
 
-def watch(image: Image, course: str = "least", program: Optional[FilePath] = None, **options: Value) -> Lines:
+def watch(image: Image, mode: str = "least", program: Optional[FilePath] = None, **options: Value) -> Lines:
     """The event log of a run in a mode: `least`, or `lockstep ROUNDS SEED`."""
-    return Lines(ask(SECOND, course.split(), image, program, options).written)
+    return Lines(ask(SECOND, mode.split(), image, program, options).written)
 
 
 def ask(which: str, words: Sequence[str], image: Image, program: Optional[FilePath],
         options: Mapping[str, Value]) -> Answer:
     """What a program answers to arguments on an image; refuses an unknown option, and a status without an answer."""
     table = Table()
-    known = table.course_options if which == SECOND else table.options
+    known = table.mode_options if which == SECOND else table.options
     for name in options:
         if name.replace("_", "-") not in known:
             raise Refusal(f"unknown argument {name}{likely(name, (it.replace('-', '_') for it in known))}")

@@ -84,10 +84,10 @@ def expected(text: Optional[str], made: Made, image: Image, serial: Setting, lis
 def main(words: list[str]) -> int:
     """Does what the words of the call ask for, and gives the status."""
     table = Table()
-    given = Words(NAME, table.course_options, page=__doc__).read(words)
+    given = Words(NAME, table.mode_options, page=__doc__).read(words)
     path, = given.need("an IMAGE", 1)
     told, parts = given.values, parts_in(given.values["parts"])
-    values = {name: values_of(option, text) for name, option in table.course_options.items()
+    values = {name: values_of(option, text) for name, option in table.mode_options.items()
               if (text := told[name]) is not None}
     if wrong := next((name for name in SHARED if len(values.get(name, [0])) > 1), None):
         raise Refusal(f"--{wrong} takes one value here, since all runs have the same.")

@@ -39,7 +39,7 @@ from yotarimu.programs.table import Table
 def main(words: list[str]) -> int:
     """Does what the words of the call ask for, and gives the status."""
     table = Table()
-    given = Words(NAME, table.course_options, page=__doc__).read(words)
+    given = Words(NAME, table.mode_options, page=__doc__).read(words)
     options = options_of(given.values, table)
     word, = given.need("one IMAGE, or a folder that has an image.bin", 1)
     path = pathlib.Path(word)

@@ -47,8 +47,8 @@ class Runner:
             return Made(*result_in_order(self.image, setting.number, *bounds_of(setting.options)))
         if setting.kind == WORKERS:
             return self.run_first(setting)
-        memory = self.ask(["memory", *setting.course, *setting.words])
-        counts = self.ask(["counts", *setting.course, *setting.words])
+        memory = self.ask(["memory", *setting.mode, *setting.words])
+        counts = self.ask(["counts", *setting.mode, *setting.words])
         return Made(result_of_counts(memory, counts))
 
     def ask(self, words: Sequence[str]) -> bytes:
@@ -74,7 +74,7 @@ class Runner:
     def entries_of(self, setting: Setting, made: Made) -> Sequence[Entry]:
         """The turns of a run in their order."""
         if made.entries is None:
-            made.entries = entries_in(self.ask([*setting.course, *setting.words]))
+            made.entries = entries_in(self.ask([*setting.mode, *setting.words]))
         return made.entries
 
 

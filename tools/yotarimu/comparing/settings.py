@@ -28,7 +28,7 @@ class Setting:
     options: Mapping[str, Value]
 
     @property
-    def course(self) -> list[str]:
+    def mode(self) -> list[str]:
         """The arguments of `fractal_watch` for the mode."""
         return [LOCKSTEP, str(ROUNDS), str(self.number)] if self.kind == LOCKSTEP else [LEAST]
 
@@ -42,7 +42,7 @@ class Setting:
         if self.kind == ORDER:
             names = {0: "in the order of creation", 1: "in the reverse order of creation"}
             return f"serial, ties {names.get(self.number, f'shuffled by {self.number}')}"
-        words = ["run"] if self.kind == WORKERS else ["watch", *self.course]
+        words = ["run"] if self.kind == WORKERS else ["watch", *self.mode]
         return " ".join([*words, *self.words])
 
 
@@ -55,7 +55,7 @@ def settings(count: int, seed: int, given: Mapping[str, Sequence[Value]], table:
         if kind == ORDER:
             yield Setting(ORDER, number if number < 2 else number + 1_000 * seed, bounds)
             continue
-        known = table.options if kind == WORKERS else table.course_options
+        known = table.options if kind == WORKERS else table.mode_options
         chosen = {name: source.choice(values_of(name, option, given)) for name, option in known.items()
                   if name not in SHARED and (kind == WORKERS or name != "workers")
                   and (kind == LOCKSTEP or name != "filter")}

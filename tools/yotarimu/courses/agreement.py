@@ -19,7 +19,7 @@ from yotarimu.reports.report import read_report
 
 # What `steps` says of an event that `advance` made, where a line has the reply to that event.
 MADE = ("moved", "committed")
-# The course that has a script behind its image.
+# The mode whose input is an image and a script.
 STEPS = "steps"
 
 

@@ -35,7 +35,7 @@ class Outcome(NamedTuple):
 def options_of(values: Mapping[str, Optional[str]], table: Table) -> Options:
     """The program's options of which values are given, each one that it may have."""
     options: Options = {}
-    for name, option in table.course_options.items():
+    for name, option in table.mode_options.items():
         text = values.get(name)
         if text is not None:
             options[name] = option.need(text)

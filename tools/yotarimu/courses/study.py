@@ -28,7 +28,7 @@ STARVED = "starved"
 
 def grid_options(table: Table) -> dict[str, Option]:
     """The options of a study's grid: those of the program, and two arguments of its lockstep mode."""
-    return {**table.course_options,
+    return {**table.mode_options,
             STARVED: Option(STARVED, table.numbers[STARVED], 16, "starved rounds before the least task is advanced"),
             SEED: Option(SEED, table.numbers["SEED"], 0, "the seed that shuffles the acts of each round")}
 

@@ -19,7 +19,7 @@ REPLIES = {word: kind.told for word, kind in ACTS.items()}
 STALLING = ("enqueue", "end")
 KINDS = ("ordered", "unordered")
 STATES = ("idle", "running", "trapped", "finished")
-COURSES = ("steps", "least", "lockstep")
+MODES = ("steps", "least", "lockstep")
 ENDS = ("normal", "limit", "open", "trap")
 SETTINGS = ("tiles", "cores", "task_queue", "commit_queue", "line", "quantum", "commits", "budget", "phase")
 # No number of the second program has more digits.
@@ -128,7 +128,7 @@ FAULT: Fields = (
 def head_fields(line: Line) -> Fields:
     """The fields of the first line. It had no filter before one could be chosen."""
     rounds = (("rounds", NUMBER), ("seed", NUMBER), ("starved", NUMBER)) if line.get("course") == "lockstep" else ()
-    return (("watch", NUMBER), ("course", one_of(*COURSES)), *rounds, *((name, NUMBER) for name in SETTINGS),
+    return (("watch", NUMBER), ("course", one_of(*MODES)), *rounds, *((name, NUMBER) for name in SETTINGS),
             ("filter?", one_of(*FILTERS)), ("root", one_of(*KINDS)), ("text", NUMBER), ("data", NUMBER),
             ("window", PAIR), ("tasks", NUMBER))
 

@@ -31,10 +31,10 @@ _{name}() {{
                         [ "$command $COMP_CWORD" != 'load 2' ] || words='{kinds}'
                         ;;
                     watch)
-                        words='{course_options}'
+                        words='{mode_options}'
                         [ "$COMP_CWORD" -ne 2 ] || words='{leading}'
                         case "$COMP_CWORD ${{COMP_WORDS[2]}}" in
-                            '3 memory' | '3 counts' | '4 views' | '5 counts') words='{courses}' ;;
+                            '3 memory' | '3 counts' | '4 views' | '5 counts') words='{modes}' ;;
                         esac
                         ;;
                     help) words='{first}' ;;
@@ -70,8 +70,8 @@ case $command in
 {options}
         ;;
     watch)
-        _arguments -S '1:course:({leading})' '*:further:' \\
-{course_options}
+        _arguments -S '1:mode:({leading})' '*:further:' \\
+{mode_options}
         ;;
     help) _describe -t commands command words_of_{name} ;;
 {tools}
@@ -89,31 +89,31 @@ def values_of(option: Option) -> str:
 
 def bash(table: Table) -> str:
     """The completion for bash."""
-    offered = {name: values_of(it) for name, it in table.course_options.items()}
+    offered = {name: values_of(it) for name, it in table.mode_options.items()}
     offered.update((name, choices_of(it)) for options in tool_options().values() for name, it in options.items()
                    if name not in offered and choices_of(it))
     values = "\n".join(f"            --{name}) words='{some}' ;;" for name, some in offered.items())
     tools = "\n".join(f"                    {tool}) words='{words_of({**options, **further_of(tool, table)})}' ;;"
                       for tool, options in tool_options().items())
     return BASH.format(name=NAME, first=" ".join([*table.commands, *table.own]), values=values,
-                       options=words_of(table.options), course_options=words_of(table.course_options),
+                       options=words_of(table.options), mode_options=words_of(table.mode_options),
                        kinds=" ".join(table.kinds), tools=tools, maintenance=" ".join(command_names("dev")),
                        commands="|".join(table.commands), leading=leading_words(table),
-                       courses=" ".join(table.course_rows))
+                       modes=" ".join(table.mode_rows))
 
 
 def zsh(table: Table) -> str:
     """The completion for zsh."""
     purposes = {**{name: row[2] for name, row in table.command_rows.items()}, **table.own}
     described = "\n".join(f"    {zsh_text(f'{name}:{purpose}')}" for name, purpose in purposes.items())
-    options, course_options = (
+    options, mode_options = (
         " \\\n".join(f"            {zsh_text(option_text(option))}" for option in some.values())
-        for some in (table.options, table.course_options))
+        for some in (table.options, table.mode_options))
     kinds = "'1:kind:({})' '2:seed:' '3:size:'".format(" ".join(table.kinds))
     tools = "\n".join(f"    {tool}) _arguments -S '*:file:_files' {' '.join(zsh_tool(tool, options, table))} ;;"
                       for tool, options in tool_options().items())
     return ZSH.format(name=NAME, described=described, commands="|".join(table.commands), options=options, further=kinds,
-                      course_options=course_options, leading=leading_words(table), tools=tools)
+                      mode_options=mode_options, leading=leading_words(table), tools=tools)
 
 
 def zsh_tool(tool: str, options: Mapping[str, Declared], table: Table) -> Iterator[str]:
@@ -132,7 +132,7 @@ def fish(table: Table) -> str:
     purposes = {**{name: row[2] for name, row in table.command_rows.items()}, **table.own}
     for name, purpose in purposes.items():
         lines.append(f"complete -c {NAME} -n __fish_use_subcommand -f -a {fish_text(name)} -d {fish_text(purpose)}")
-    for commands, options in ((" ".join(table.commands), table.options), ("watch", table.course_options)):
+    for commands, options in ((" ".join(table.commands), table.options), ("watch", table.mode_options)):
         lines += [fish_line(commands, name, it.purpose, values_of(it)) for name, it in options.items()]
     lines.append(f"complete -c {NAME} -n '__{NAME}_in watch' -f -a {fish_text(leading_words(table))}")
     lines.append(f"complete -c {NAME} -n '__{NAME}_in dev' -f -a {fish_text(' '.join(command_names('dev')))}")
@@ -161,7 +161,7 @@ def tool_options() -> dict[str, dict[str, Declared]]:
 
 def further_of(tool: str, table: Table) -> Mapping[str, Option]:
     """The options of the programs that a tool takes too, if its page says so."""
-    return table.course_options if "[--OPTION VALUE" in page_of(tool) else {}
+    return table.mode_options if "[--OPTION VALUE" in page_of(tool) else {}
 
 
 def choices_of(declared: Declared) -> str:
@@ -181,7 +181,7 @@ def words_of(options: Mapping[str, object]) -> str:
 
 def leading_words(table: Table) -> str:
     """What may stand right behind `watch`."""
-    return " ".join([*table.course_rows, "memory", "views", "counts"])
+    return " ".join([*table.mode_rows, "memory", "views", "counts"])
 
 
 def option_text(option: Option) -> str:
@@ -202,15 +202,15 @@ def man(table: Table) -> str:
              ".SH DESCRIPTION", "An image comes from standard input, a report goes to standard output.", ".SH COMMANDS"]
     for name, (further, given, purpose) in table.command_rows.items():
         lines += entry(f"{name} {further}".strip(), f"{purpose}; reads {given or 'nothing'}")
-    lines.append(".SH COURSES OF WATCH")
-    for name, (further, given, purpose) in table.course_rows.items():
+    lines.append(".SH MODES OF WATCH")
+    for name, (further, given, purpose) in table.mode_rows.items():
         lines += entry(f"{name} {further}".strip(), f"{purpose}; reads {given}")
     lines.append(".SH FURTHER WORDS")
     for name, purpose in table.own.items():
         lines += entry(f"{name} {table.own_words[name]}".strip(), purpose)
     lines += [".SH OPTIONS", "Each at most once, as", f"{DASHES}\\fIOPTION VALUE\\fR",
               "or", f"{DASHES}\\fIOPTION\\fR=\\fIVALUE\\fR."]
-    for option in table.course_options.values():
+    for option in table.mode_options.values():
         place = "" if option.name in table.options else "behind watch alone: "
         lines += entry(f"--{option.name}",
                        f"{place}{option.purpose} ({option.range_text()}; default {option.default})")

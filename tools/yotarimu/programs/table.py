@@ -60,12 +60,12 @@ class Table:
         self.command_rows: dict[str, list[str]] = {}
         self.options: dict[str, Option] = {}
         # Those of both programs, and behind them those of the second program alone.
-        self.course_options: dict[str, Option] = {}
+        self.mode_options: dict[str, Option] = {}
         self.statuses: dict[int, str] = {}
         self.kinds: dict[str, tuple[Sequence[int], str]] = {}
         self.own: dict[str, str] = {}
         self.own_words: dict[str, str] = {}
-        self.course_rows: dict[str, list[str]] = {}
+        self.mode_rows: dict[str, list[str]] = {}
         self.numbers: dict[str, Sequence[int]] = {}
         self.tools: list[str] = []
         self.groups: dict[str, list[str]] = {}
@@ -74,12 +74,12 @@ class Table:
             kind, name, *rest = line.split("|")
             if kind == "command":
                 self.commands[name], self.command_rows[name] = rest[0], rest
-            elif kind in ("option", "course-option"):
-                self.course_options[name] = option = option_in(name, *rest)
+            elif kind in ("option", "mode-option"):
+                self.mode_options[name] = option = option_in(name, *rest)
                 if kind == "option":
                     self.options[name] = option
-            elif kind == "course":
-                self.course_rows[name] = rest
+            elif kind == "mode":
+                self.mode_rows[name] = rest
             elif kind == "number":
                 self.numbers[name] = values_in(rest[0])
             elif kind == "kind":

@@ -54,7 +54,7 @@ function helpPage() {
     "Courses of watch:", ...rows("course", ([, name, words, , does]) => row(`${name} ${words}`.trim(), does)), "",
     "Options:",
     ...rows("option", option), "",
-    "Options of watch alone:", ...rows("course-option", option), "",
+    "Options of watch alone:", ...rows("mode-option", option), "",
     "Statuses:", ...rows("status", ([, number, says, advice]) => row(number, says + (advice ? ` (${advice})` : ""))), ""
   ].join("\n");
 }

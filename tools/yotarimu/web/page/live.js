@@ -7,7 +7,7 @@ const PATIENCE = 300;
 const UNWRITTEN = 7;
 // Those of both programs, and behind them those of the second program alone.
 const ofBoth = table.filter(([kind, name]) => kind === "option" && name !== "workers");
-const optionRows = [...ofBoth, ...table.filter(([kind]) => kind === "course-option")];
+const optionRows = [...ofBoth, ...table.filter(([kind]) => kind === "mode-option")];
 // What the program calls the number of rounds without a commit after which the least task advances, and the usual one.
 const STARVED = /\[(\w+) M\]/.exec(table.find(([, name]) => name === "lockstep")?.[2])?.[1] ?? "starved";
 const USUAL_STARVED = "16";
