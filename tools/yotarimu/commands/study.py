@@ -62,13 +62,13 @@ from yotarimu.courses import page_tables
 from yotarimu.courses.grid import MOST_RUNS, cells_of, shard_of, values_of
 from yotarimu.courses.row_pictures import BarPicture, Picture, picture_of
 from yotarimu.courses.shards import join_shards
-from yotarimu.courses.study import PlayedRows, Study, grid_options, table_lines, tell
+from yotarimu.courses.study import NO_ANSWER, PlayedRows, Study, grid_options, table_lines, tell
 from yotarimu.courses.study_rows import Choice, csv_of, rows_in, rows_of_csv
 from yotarimu.figures.columns import COLUMNS, END, UNLESS_TOLD
 from yotarimu.figures.counted import COUNTED
 from yotarimu.programs.calls import Calls
 from yotarimu.programs.program import SECOND, program_at
-from yotarimu.programs.table import NO_MEMORY, Option, Table, Value, why_no_answer
+from yotarimu.programs.table import Option, Table, Value, why_no_answer
 
 LIST = "list"
 # The options of a join, and of a page.
@@ -178,8 +178,9 @@ def play(given: GivenWords, grid: Mapping[str, Option]) -> int:
                 say("study", f"{path} has {len(played.rows)} of {len(played.choices)} rows.")
     for picture in pictures:
         write_whole(picture.files(rows_in(played.known_cells(list(grid))), "this study"))
-    if any(row.end == f"none: status {NO_MEMORY}" for row in played.rows.values()):
-        say("study", why_no_answer(NO_MEMORY))
+    for end in dict.fromkeys(row.end for row in played.rows.values()):
+        if end.startswith(NO_ANSWER):
+            say("study", why_no_answer(int(end.removeprefix(NO_ANSWER))))
     if all(row.end.startswith("none") for row in played.rows.values()):
         say("study", "no run ended.")
         return 1

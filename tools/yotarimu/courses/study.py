@@ -21,6 +21,8 @@ from yotarimu.programs.table import Option, Table, option_words
 
 # The statuses of a run that was told to its end.
 TOLD = (0, 3, 4)
+# The end of a run that wasn't, before the status of the program.
+NO_ANSWER = "none: status "
 # How far a choice has come is counted once in so many rounds.
 ROUNDS_BETWEEN = 1_000
 STARVED = "starved"
@@ -66,12 +68,10 @@ class Study:
         if self.is_counted:
             words = ["counts", "every", str(ROUNDS_BETWEEN), *words]
         status, figures = self.calls.read(words, self.images[choice.image], functools.partial(self.figures, tell=tell))
-        if status not in TOLD:
-            return Row(f"none: status {status}")
+        if status not in TOLD or figures is None:
+            return Row(f"{NO_ANSWER}{status}")
         if isinstance(figures, Refusal):
             raise figures
-        if figures is None:
-            return Row(f"none: status {status}")
         end = f"none in {self.rounds:,} rounds" if figures.end == "open" else figures.end
         return row_of_figures(end, figures, COUNTED if self.is_counted else COLUMNS)
 
