@@ -11,7 +11,8 @@ from yotarimu.common.outcome import Refusal
 from yotarimu.courses.page_tables import Page, Table as PageTable
 from yotarimu.courses.row_pictures import BarPicture, Picture
 from yotarimu.courses.study import grid_options
-from yotarimu.courses.study_rows import Choice, StudyRows, StudyTable, csv_of, head_of, rows_in, rows_of_csv
+from yotarimu.courses.study_rows import (Choice, StudyRows, StudyTable, csv_of, head_of, number_in_cell, rows_in,
+                                         rows_of_csv)
 from yotarimu.figures.columns import COLUMNS, USES, Reach, Row
 from yotarimu.figures.core_time import Use
 from yotarimu.figures.limits import UNBOUNDED, Limit, Manner, Unit
@@ -95,6 +96,10 @@ class Tables(unittest.TestCase):
         again = rows_of_csv([line.split(",") for line in csv_of(cells).decode().splitlines()])
         self.assertEqual([again.numbers(choice)["speedup"] for choice in again.choices], [1, 10])
         self.assertEqual([again.numbers(choice)["wasted"] for choice in again.choices], [None, 2.5])
+
+    def test_cells_without_a_finite_number_have_none(self) -> None:
+        self.assertEqual([number_in_cell(text) for text in ("7", "0.5", "", "\u00b2", "9" * 5_000, "nan", "-inf")],
+                         [7, 0.5, *5 * [None]])
 
 
 class Impossible(unittest.TestCase):

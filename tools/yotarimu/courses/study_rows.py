@@ -4,16 +4,19 @@ from __future__ import annotations
 import csv
 import dataclasses
 import io
+import math
 import statistics
 from collections.abc import Iterator, Mapping, Sequence
 from typing import Optional
 
 from yotarimu.common.files import encode
 from yotarimu.common.tables import row_of, table
+from yotarimu.common.words import number_in
 from yotarimu.figures.columns import COLUMNS, END, Plain, Reach, Row, heads, plain_cell, shown_cell
 from yotarimu.programs.table import Value
 
 SEED = "seed"
+MOST_NUMBER = 10 ** 18
 ONE_CORE = {"tiles": 1, "cores": 1}
 # Marks of cells, and what is said of them after the table.
 FORCED, OTHER_WORK = "†", "*"
@@ -198,14 +201,17 @@ def rows_of_csv(cells: Sequence[Sequence[str]]) -> StudyRows:
 
 def value_in(text: str) -> Value:
     """The value of an option in a cell of CSV."""
-    return int(text) if text.isdigit() else text
+    number = number_in(text, 0, MOST_NUMBER)
+    return text if number is None else number
 
 
 def number_in_cell(text: str) -> Plain:
     """The number in a cell of CSV; None if it is empty or has no number."""
-    if text.isdigit():
-        return int(text)
+    whole = number_in(text, 0, MOST_NUMBER)
+    if whole is not None:
+        return whole
     try:
-        return float(text) if text else None
+        number = float(text)
     except ValueError:
         return None
+    return number if math.isfinite(number) else None

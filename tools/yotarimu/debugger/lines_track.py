@@ -11,6 +11,7 @@ import functools
 from typing import Iterable, Iterator, Optional, TypeVar
 
 from yotarimu.common.outcome import Refusal
+from yotarimu.common.words import number_in
 from yotarimu.debugger import goals
 from yotarimu.debugger.attempts import Attempt, AttemptCore, Ground
 from yotarimu.debugger.leg_notes import Origin, LegNotes
@@ -218,8 +219,9 @@ class LinesTrack(Track):
         runs."""
         if word is None:
             return self.owner
-        if word.isdigit() and 1 <= int(word) <= len(self.attempts):
-            return self.attempts[int(word) - 1]
+        thread = number_in(word, 1, len(self.attempts))
+        if thread is not None:
+            return self.attempts[thread - 1]
         name, _, which = word.partition("#")
         found = self.of_name.get(name, [])
         chosen = [it for it in found if str(it.which) == which] if which else found

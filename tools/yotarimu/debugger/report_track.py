@@ -10,6 +10,7 @@ import dataclasses
 from typing import Iterable, Iterator, Optional, Union
 
 from yotarimu.common.outcome import Refusal
+from yotarimu.common.words import number_in
 from yotarimu.debugger import goals
 from yotarimu.debugger.track import MOST_STEPS, MOST_THREADS, MOST_TOLD, Core, Memory, Position, Stretch, Track
 from yotarimu.images import serial_machine as machine
@@ -249,8 +250,9 @@ class ReportTrack(Track):
         """The task of a name, or of the number of a thread; by default the one that runs."""
         if word is None:
             return self.core.task
-        if word.isdigit() and 1 <= int(word) <= len(self.names):
-            return self.task_of(int(word))
+        thread = number_in(word, 1, len(self.names))
+        if thread is not None:
+            return self.task_of(thread)
         name = goals.name_in(word)
         task = None if name is None else self.turns.tasks.get(name)
         if task is None:

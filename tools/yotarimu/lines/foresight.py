@@ -48,7 +48,7 @@ def start_of_step(act: int, task: Task) -> str:
 
 def number_in(text: str) -> int:
     """The number that a part of a line is."""
-    if not text.isdigit() or len(text) > MOST_DIGITS:
+    if not (text.isascii() and text.isdigit()) or len(text) > MOST_DIGITS:
         raise OtherLine
     return int(text)
 
